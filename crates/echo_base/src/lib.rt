@@ -1,0 +1,25 @@
+//! What every other crate stands on: octets in and out, refusals, and the statuses of the programs.
+#![tactic(auto)]
+
+mod memory;
+mod plan;
+mod real;
+mod reason;
+mod refusal;
+mod sink;
+mod source;
+mod status;
+#[cfg(test)]
+mod tests;
+mod whole;
+
+pub use memory::{MemSink, MemSource, SureSource};
+pub use plan::Give;
+pub use real::{RealSink, RealSource};
+pub use reason::{Column, Identity, Reason, name_of_number};
+pub use refusal::{Bad, Refusal};
+pub use sink::{Sink, WriteStep};
+pub use source::{ReadStep, Source};
+pub use status::Status;
+pub use std::alloc::AllocError as OutOfMemory;
+pub use whole::{ReadAll, WriteFault, read_all, write_all};

@@ -1,0 +1,223 @@
+//! Why input is refused.
+ghost use Rattle.std.specs.Prelude.{◌≡◌};
+ghost use Rattle.echo_base.specs.Reason.{reason_number, name_of_number, reason_name, identity_text};
+
+use std::fmt;
+
+/// A column of the subscriber table, in the order of the table.
+#[derive(Clone, Copy, Debug, PartialEq, Eq)]
+pub enum Column {
+    /// The international mobile subscriber identity.
+    Imsi,
+    /// The temporary identity of the MME, the M-TMSI.
+    Tmsi,
+    /// The random challenge of the authentication vector.
+    Rand,
+    /// The authentication token of the vector.
+    Autn,
+    /// The response that is expected.
+    Res,
+    /// The key of the vector.
+    Key,
+    /// The access point name.
+    Apn,
+    /// The device's IPv4 address.
+    Ip,
+    /// The serving gateway's IPv4 address.
+    Sgw,
+    /// The serving gateway's tunnel endpoint identifier.
+    Teid,
+    /// The aggregate maximum bit rate down, in bit/s.
+    AmbrDl,
+    /// The aggregate maximum bit rate up, in bit/s.
+    AmbrUl,
+    /// The tracking areas where the device is not served.
+    Forbidden,
+}
+
+/// By what a device calls itself (3GPP TS 23.003, 2.2 and 2.8).
+#[derive(Clone, Copy, Debug, PartialEq, Eq)]
+pub enum Identity {
+    /// Its international mobile subscriber identity, of 15 digits.
+    Imsi(u64),
+    /// The M-TMSI, which an MME gave it.
+    Tmsi(u32),
+}
+
+/// Prints `imsi` and 15 digits, or `tmsi` and the number.
+impl fmt::Display for Identity {
+    ghost use Rattle.std.specs.Prelude.{Some};
+
+    ghost output = { λ i. Some (identity_text i) };
+
+    #[tactic(auto, using(crate::proofs::Printed::zeros_in_front))]
+    fn fmt<W: fmt::Write>(&self, f: &mut fmt::Formatter<W>) -> fmt::Result {
+        match *self {
+            Identity::Imsi(imsi) => write!(f, "imsi {imsi:015}"),
+            Identity::Tmsi(tmsi) => write!(f, "tmsi {tmsi}"),
+        }
+    }
+}
+
+/// Why input is refused. Each reason has a number, from 1 on in this order.
+#[derive(Clone, Copy, Debug, PartialEq, Eq)]
+pub enum Reason {
+    /// The octets end within a field.
+    Truncated,
+    /// A length in fragments, of 16,384 or more (ITU-T X.691, 11.9).
+    LongLength,
+    /// A padding bit that is not 0.
+    NonZeroPadding,
+    /// A number in more octets than it needs.
+    NotMinimal,
+    /// A value that its constraint excludes.
+    OutOfRange,
+    /// More than the limit.
+    TooLong,
+    /// The extension bit of a SEQUENCE is set.
+    SequenceExtension,
+    /// An alternative that the CHOICE lacks, or that is not supported.
+    BadChoice,
+    /// A procedure that is not supported, with its code (3GPP TS 36.413).
+    OtherProcedure(u8),
+    /// An information element with another criticality than its own.
+    BadCriticality,
+    /// A mandatory information element is missing, with its id.
+    MissingIe(u16),
+    /// An information element comes twice, with its id.
+    RepeatedIe(u16),
+    /// Octets follow the message.
+    TrailingBytes,
+    /// A message that an MME sends, and does not receive.
+    WrongDirection,
+    /// A NAS message ends too soon (3GPP TS 24.301).
+    NasShort,
+    /// Another protocol discriminator than that of EPS mobility management.
+    NasDiscriminator,
+    /// A NAS message type that is not supported, or does not belong here.
+    NasKind(u8),
+    /// A mobile identity that is malformed or not supported.
+    NasIdentity,
+    /// A subscriber line that is no JSON object.
+    BadJson,
+    /// A column of the subscriber table is missing.
+    MissingColumn(Column),
+    /// A column of a wrong kind or range.
+    BadColumn(Column),
+    /// An IMSI of an earlier row.
+    RepeatedImsi,
+    /// An M-TMSI of an earlier row.
+    RepeatedTmsi,
+    /// The subscriber table has no room.
+    TableFull,
+    /// A heading that is unknown, repeated or misplaced.
+    BadSection,
+    /// A line of another form than its section's.
+    BadLine,
+    /// More lines than a section may have.
+    TooManyLines,
+    /// A line that is too long.
+    LineTooLong,
+    /// Text that is not hexadecimal.
+    BadHex,
+    /// A device that the subscriber table lacks.
+    UnknownDevice(Identity),
+    /// A base station and an eNB-UE-S1AP-ID that are not bound to the device.
+    UnknownPair(u16, u32),
+    /// A session of another form than its own.
+    BadSession,
+    /// What is not supported yet.
+    NotYet,
+}
+
+impl Reason {
+    /// The reason's number.
+    pub fn number(&self) -> u8
+        ensures { result ≡ reason_number self.now }
+    {
+        match self {
+            Reason::Truncated => 1,
+            Reason::LongLength => 2,
+            Reason::NonZeroPadding => 3,
+            Reason::NotMinimal => 4,
+            Reason::OutOfRange => 5,
+            Reason::TooLong => 6,
+            Reason::SequenceExtension => 7,
+            Reason::BadChoice => 8,
+            Reason::OtherProcedure(_) => 9,
+            Reason::BadCriticality => 10,
+            Reason::MissingIe(_) => 11,
+            Reason::RepeatedIe(_) => 12,
+            Reason::TrailingBytes => 13,
+            Reason::WrongDirection => 14,
+            Reason::NasShort => 15,
+            Reason::NasDiscriminator => 16,
+            Reason::NasKind(_) => 17,
+            Reason::NasIdentity => 18,
+            Reason::BadJson => 19,
+            Reason::MissingColumn(_) => 20,
+            Reason::BadColumn(_) => 21,
+            Reason::RepeatedImsi => 22,
+            Reason::RepeatedTmsi => 23,
+            Reason::TableFull => 24,
+            Reason::BadSection => 25,
+            Reason::BadLine => 26,
+            Reason::TooManyLines => 27,
+            Reason::LineTooLong => 28,
+            Reason::BadHex => 29,
+            Reason::UnknownDevice(_) => 30,
+            Reason::UnknownPair(_, _) => 31,
+            Reason::BadSession => 32,
+            Reason::NotYet => 33,
+        }
+    }
+
+    /// The reason's bare name.
+    pub fn name(&self) -> &'static str
+        ensures { result.now ≡ reason_name self.now }
+    {
+        name_of_number(self.number())
+    }
+}
+
+/// The bare name of the reason with that number, and nothing where no reason has it.
+pub fn name_of_number(number: u8) -> &'static str
+    ensures { result.now ≡ name_of_number number }
+{
+    match number {
+        1 => "Truncated",
+        2 => "LongLength",
+        3 => "NonZeroPadding",
+        4 => "NotMinimal",
+        5 => "OutOfRange",
+        6 => "TooLong",
+        7 => "SequenceExtension",
+        8 => "BadChoice",
+        9 => "OtherProcedure",
+        10 => "BadCriticality",
+        11 => "MissingIe",
+        12 => "RepeatedIe",
+        13 => "TrailingBytes",
+        14 => "WrongDirection",
+        15 => "NasShort",
+        16 => "NasDiscriminator",
+        17 => "NasKind",
+        18 => "NasIdentity",
+        19 => "BadJson",
+        20 => "MissingColumn",
+        21 => "BadColumn",
+        22 => "RepeatedImsi",
+        23 => "RepeatedTmsi",
+        24 => "TableFull",
+        25 => "BadSection",
+        26 => "BadLine",
+        27 => "TooManyLines",
+        28 => "LineTooLong",
+        29 => "BadHex",
+        30 => "UnknownDevice",
+        31 => "UnknownPair",
+        32 => "BadSession",
+        33 => "NotYet",
+        _ => "",
+    }
+}

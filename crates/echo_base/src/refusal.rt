@@ -1,0 +1,122 @@
+//! What is refused, and where.
+ghost use Rattle.std.specs.Prelude.{◌≡◌, Some};
+ghost use Rattle.echo_base.specs.Reason.{hex_octet};
+ghost use Rattle.echo_base.specs.Refusal.{refusal_text};
+
+use crate::{OutOfMemory, Reason};
+use std::alloc::AllocFailed;
+use std::fmt;
+
+/// Why input is refused, and at which octet, from 0.
+#[derive(Clone, Copy, Debug, PartialEq, Eq)]
+pub struct Refusal {
+    /// Why.
+    pub reason: Reason,
+    /// The octet's place for what is refused in a PDU or a session, and else 0.
+    pub place: u64,
+}
+
+/// An octet, printed in two hexadecimal digits.
+#[derive(Clone, Copy)]
+struct HexOctet(u8);
+
+impl fmt::Display for HexOctet {
+    ghost output = { λ octet. Some (hex_octet octet.0) };
+
+    #[tactic(auto, using(crate::proofs::Printed::two_digits))]
+    fn fmt<W: fmt::Write>(&self, f: &mut fmt::Formatter<W>) -> fmt::Result {
+        let octet = self.0;
+        write!(f, "{octet:02x}")
+    }
+}
+
+/// Prints the reason's number and name, what the reason carries, and for a refusal in a PDU its place.
+impl fmt::Display for Refusal {
+    ghost output = { λ r. Some (refusal_text r) };
+
+    fn fmt<W: fmt::Write>(&self, f: &mut fmt::Formatter<W>) -> fmt::Result {
+        let Refusal { reason, place } = *self;
+        let number = reason.number();
+        let name = reason.name();
+        write!(f, "{number} {name}")?;
+        match reason {
+            Reason::Truncated
+            | Reason::LongLength
+            | Reason::NonZeroPadding
+            | Reason::NotMinimal
+            | Reason::OutOfRange
+            | Reason::TooLong
+            | Reason::SequenceExtension
+            | Reason::BadChoice
+            | Reason::BadCriticality
+            | Reason::TrailingBytes
+            | Reason::WrongDirection => write!(f, " at {place}"),
+            Reason::OtherProcedure(code) => write!(f, " {code} at {place}"),
+            Reason::MissingIe(id) | Reason::RepeatedIe(id) => write!(f, " {id} at {place}"),
+            Reason::NasKind(octet) => {
+                let octet = HexOctet(octet);
+                write!(f, " {octet}")
+            }
+            Reason::UnknownDevice(identity) => write!(f, " {identity}"),
+            Reason::UnknownPair(station, enb) => write!(f, " {station} {enb}"),
+            Reason::NasShort
+            | Reason::NasDiscriminator
+            | Reason::NasIdentity
+            | Reason::BadJson
+            | Reason::MissingColumn(_)
+            | Reason::BadColumn(_)
+            | Reason::RepeatedImsi
+            | Reason::RepeatedTmsi
+            | Reason::TableFull
+            | Reason::BadSection
+            | Reason::BadLine
+            | Reason::TooManyLines
+            | Reason::LineTooLong
+            | Reason::BadHex
+            | Reason::BadSession
+            | Reason::NotYet => Ok(()),
+        }
+    }
+}
+
+/// Why a reader gave nothing: its input is refused, or there was no memory.
+#[derive(Clone, Copy, Debug, PartialEq, Eq)]
+pub enum Bad {
+    /// The input is refused.
+    Refused(Refusal),
+    /// There was no memory.
+    OutOfMemory,
+}
+
+impl From<Refusal> for Bad {
+    ghost use Rattle.std.specs.Prelude.{◌≡◌};
+    ghost use Rattle.echo_base.specs.declared.refusal.Bad.TheVariants.{Refused};
+
+    ghost from_gives = { λ refusal bad. bad ≡ Refused refusal };
+
+    fn from(refusal: Refusal) -> Bad {
+        Bad::Refused(refusal)
+    }
+}
+
+impl From<OutOfMemory> for Bad {
+    ghost use Rattle.std.specs.Prelude.{◌≡◌};
+    ghost use Rattle.echo_base.specs.declared.refusal.Bad.TheVariants.{OutOfMemory};
+
+    ghost from_gives = { λ _ bad. bad ≡ OutOfMemory };
+
+    fn from(_refused: OutOfMemory) -> Bad {
+        Bad::OutOfMemory
+    }
+}
+
+impl<T: Drop> From<AllocFailed<T>> for Bad {
+    ghost use Rattle.std.specs.Prelude.{◌≡◌};
+    ghost use Rattle.echo_base.specs.declared.refusal.Bad.TheVariants.{OutOfMemory};
+
+    ghost from_gives = { λ _ bad. bad ≡ OutOfMemory };
+
+    fn from(_refused: AllocFailed<T>) -> Bad {
+        Bad::OutOfMemory
+    }
+}
