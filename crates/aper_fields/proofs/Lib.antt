@@ -1,0 +1,16 @@
+pub mod BitLaws
+pub mod Octet
+pub mod Steps
+pub mod Exact
+pub mod Formats
+pub mod Counts
+pub mod ExactNumbers
+pub mod ExactPieces
+pub mod Containers
+pub mod Fill
+pub mod Packed
+pub mod Periodic
+pub mod Pieces
+pub mod Widths
+pub mod Written
+pub mod Lengths

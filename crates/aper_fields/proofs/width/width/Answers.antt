@@ -1,0 +1,6 @@
+use Rattle.std.proofs.Common.{arith}
+use Rattle.aper_fields.proofs.Widths.{width_holds}
+use Rattle.aper_fields.proofs.width.width.Goals as goal
+
+pub returns-clause-holds : goal.returns-clause-holds
+returns-clause-holds c = width_holds c.args.number (omega arith)
