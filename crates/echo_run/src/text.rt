@@ -1,0 +1,108 @@
+//! The text that is written for a first text.
+
+ghost use Rattle.std.specs.Prelude.{◌≡◌, ◌^◌, ◌<◌, ◌++◌, ◌∷◌, [], OnOk, IfOk, string_bytes};
+ghost use Rattle.echo_base.specs.declared.refusal.Refusal.{Refusal};
+ghost use Rattle.echo_run.specs.First.{ended_lines};
+ghost use Rattle.echo_run.specs.Text.{device_line, down_line, refused_line, service_reject, rejected_text, refused_text, text_of};
+ghost use Rattle.echo_run.specs.Messages.{downlink_written};
+
+use crate::downlink::write_downlink;
+use crate::first::FirstCase;
+use echo_base::{Identity, Reason, Refusal};
+use std::alloc::{AllocError, Global};
+
+/// Puts a line and its end behind a text.
+fn push_line(text: &mut Vec<u8>, line: &[u8]) -> Result<(), AllocError>
+    ensures { OnOk result (text.new.items ≡ text.old.items ++ (line.now ++ 10 ∷ [])) }
+{
+    text.extend_from_slice(line)?;
+    text.push(b'\n')?;
+    Ok(())
+}
+
+/// Three lines with their ends.
+fn write_lines(
+    alloc: Global,
+    first: &[u8],
+    second: &[u8],
+    third: &[u8],
+) -> Result<Vec<u8>, AllocError>
+    ensures { IfOk result (λ text. text.items ≡ ended_lines (first.now ∷ second.now ∷ third.now ∷ [])) }
+{
+    let mut text = Vec::new(alloc);
+    push_line(&mut text, first)?;
+    push_line(&mut text, second)?;
+    push_line(&mut text, third)?;
+    Ok(text)
+}
+
+/// How many messages a device sent, and how many steps its machine made of them.
+fn write_device(
+    alloc: Global,
+    imsi: &[u8],
+    messages: u64,
+    steps: u64,
+) -> Result<Vec<u8>, AllocError>
+    ensures { IfOk result (λ line. line.items ≡ device_line imsi.now messages steps) }
+{
+    let counts = format!(in alloc; " messages {messages} steps {steps}")?;
+    let mut line = Vec::from_slice(alloc, b"device ")?;
+    line.extend_from_slice(imsi)?;
+    line.extend_from_slice(counts.as_bytes())?;
+    Ok(line)
+}
+
+/// A message to a device, by its number and base station.
+fn write_down(alloc: Global, number: u64, station: u16, pdu: &[u8]) -> Result<String, AllocError>
+    ensures { IfOk result (λ line. string_bytes line ≡ down_line number station pdu.now) }
+{
+    let digits = hex::encode(alloc, pdu)?;
+    let line = format!(in alloc; "down {number} {station} {digits}")?;
+    Ok(line)
+}
+
+/// A line of the trace that was refused.
+fn write_refused(alloc: Global, line: u32, refusal: Refusal) -> Result<String, AllocError>
+    ensures { IfOk result (λ text. string_bytes text ≡ refused_line line refusal) }
+{
+    let text = format!(in alloc; "refused {line} {refusal}")?;
+    Ok(text)
+}
+
+const DETACHED: &str = "session detached link off area 000000 0 bearer none radio 0";
+
+/// The text for a subscriber whose Service Request is rejected.
+fn write_rejected(alloc: Global, case: &FirstCase) -> Result<Vec<u8>, AllocError>
+    requires { case.now.enb < 2 ^ 24 }
+    ensures { IfOk result (λ text. text.items ≡ rejected_text case.now) }
+{
+    let reject = write_downlink(alloc, 1, case.enb, &[0x07, 0x4e, 0x0a])?;
+    let device = write_device(alloc, case.imsi.items(), 1, 1)?;
+    let down = write_down(alloc, 1, 1, &reject)?;
+    write_lines(alloc, &device, down.as_bytes(), DETACHED.as_bytes())
+}
+
+/// The text where the Service Request is not the subscriber's.
+fn write_stranger(alloc: Global, case: &FirstCase) -> Result<Vec<u8>, AllocError>
+    ensures { IfOk result (λ text. text.items ≡ refused_text case.now) }
+{
+    let refusal = Refusal {
+        reason: Reason::UnknownDevice(Identity::Tmsi(case.sender)),
+        place: 0,
+    };
+    let refused = write_refused(alloc, 4, refusal)?;
+    let device = write_device(alloc, case.imsi.items(), 0, 0)?;
+    write_lines(alloc, refused.as_bytes(), &device, DETACHED.as_bytes())
+}
+
+/// The text for a first text.
+pub fn write_text(alloc: Global, case: &FirstCase) -> Result<Vec<u8>, AllocError>
+    requires { case.now.enb < 2 ^ 24 }
+    ensures { IfOk result (λ text. text.items ≡ text_of case.now) }
+{
+    if case.sender == case.tmsi {
+        write_rejected(alloc, case)
+    } else {
+        write_stranger(alloc, case)
+    }
+}
