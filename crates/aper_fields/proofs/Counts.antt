@@ -9,13 +9,6 @@ use Rattle.std.specs.Int.{div_ceil}
 use Rattle.aper_fields.specs.Reading.{width}
 use Rattle.aper_fields.specs.Run.{octet_count}
 
--- a number fits its width
-pub width_holds : (top a : ℕ) → 0 < top → top < 2 ^ 64 → a ≤ top → a < 2 ^ width top
-width_holds top a some fits le =
-    let t = leading_top 64 top some fits in
-    let w : width top ≡ suc t.0 = omega (arith, t.1) in
-    rw w (omega (arith, t.3))
-
 pow-lt_back : (i j : ℕ) → 2 ^ i < 2 ^ j → i < j
 pow-lt_back i j h =
     elim (cases_lt i j) [

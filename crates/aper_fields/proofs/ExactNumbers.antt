@@ -11,7 +11,8 @@ use Rattle.aper_fields.specs.Run.{◌▸◌, Run, padding_run, bits_run, counted
 use Rattle.aper_fields.specs.Spelling.{Piece, Then, Padding, Spelled, Number, IsExact}
 use Rattle.aper_fields.specs.Format.{IsExactly, bits_in, padding_in, just, within_in, minimal_in, counted_in, number_pieces_in, number_in}
 use Rattle.aper_fields.proofs.Steps.{guard_ok, number_of-more, number_of-take-lt}
-use Rattle.aper_fields.proofs.Counts.{width_holds, octet_count_holds, octet_count_some, octet_count_few, octet_count_more, octet_count_mono, width_octets_few, first_octet_test}
+use Rattle.aper_fields.proofs.Widths.{width_covers}
+use Rattle.aper_fields.proofs.Counts.{octet_count_holds, octet_count_some, octet_count_few, octet_count_mono, width_octets_few, first_octet_test}
 use Rattle.aper_fields.proofs.Exact.{bits_exact}
 use Rattle.aper_fields.proofs.Formats.{bind, ok_of, bits_exactly, padding_exactly, then_exactly, then_where_exactly, just_exactly, either_exactly, passing_exactly, mapped_exactly, spelled_exactly, along_exactly, turned, checked_is, leb-not_ltb}
 
@@ -127,7 +128,7 @@ counted_back low top most at v run count long fits s =
     let low_fits : n < 2 ^ 64 = omega (arith, small, fits) in
     let some = octet_count_some n low_fits in
     let le : c - 1 ≤ octet_count top - 1 = omega (arith, octet_count_mono n top small fits) in
-    let holds : c - 1 < 2 ^ w = width_holds (octet_count top - 1) (c - 1) (omega (arith, octet_count_more top long fits)) (omega (arith, octet_count_few top fits)) le in
+    let holds : c - 1 < 2 ^ w = width_covers (octet_count top - 1) (c - 1) (omega (arith, octet_count_few top fits)) le in
     let pad = zeros (gap (at + length (bits w (c - 1)))) in
     rw count (
       c,
@@ -185,7 +186,7 @@ number_back low top at v run fits s =
       | inr f ↦
           let some : 0 < top = omega (arith, eqb-false top 0 f) in
           rw f (elim (cases_Bool (ltb top 255)) [
-            | inl t ↦ let h = rw (f, t) at s in rw t (within_back low top (width top) at v run (width_holds top top some fits (omega arith)) h)
+            | inl t ↦ let h = rw (f, t) at s in rw t (within_back low top (width top) at v run (width_covers top top fits (omega arith)) h)
             | inr g ↦
                 rw g (elim (cases_Bool (ltb top 65536)) [
                   | inl t ↦

@@ -1,18 +1,18 @@
 -- Lengths, octets, bit strings and enumerations are read exactly.
 use Rattle.std.proofs.Common.{◌⊎◌, MatchBool, ◌≡◌, ℕ, zero, suc, ◌+◌, ◌-◌, ◌*◌, ◌^◌, ◌<◌, ◌≤◌, Bool, true, false, not, cond, ltb, leb, eqb, List, [], ◌∷◌, ◌++◌, length, take, drop, Ok, Err, refl, sym, ap, ◌∙◌, subst, append_assoc, inl, inr, arith}
 use Rattle.std.proofs.Math.Nat.{mod-eq_of_lt}
-use Rattle.std.proofs.Math.Seq.{take-add}
 use Rattle.std.proofs.lemmas.Bool.{false≢true, cases_lt, cases_Bool, ltb-false, ltb-true, lt-ltb, le-ltb, le-leb, leb-true}
 use Rattle.std.proofs.lemmas.List.{length-append, length-take, length-drop, take_at, drop_at, take-append-drop}
 use Rattle.echo_base.specs.declared.reason.Reason.TheVariants as reasons
 use Rattle.echo_base.specs.declared.refusal.Refusal.{Refusal}
 use Rattle.aper_fields.specs.declared.enumerated.EnumValue.{EnumValue}
-use Rattle.aper_fields.specs.Bits.{bits, bits_of, number_of, octets_of, zeros, gap}
+use Rattle.aper_fields.specs.Bits.{bits, bits_of, octets_of, zeros, gap}
 use Rattle.aper_fields.specs.Reading.{Input, Read, refusal, forward, bits_at, padding_at, number_at, length_octets_at, length_at, octets_at, fixed_octets_at, octet_string_at, fixed_bits_at, root_at, extended_at, enumerated_at}
 use Rattle.aper_fields.specs.Run.{Run, bits_run, number_run, length_octets, length_run, fixed_octets_run, octet_string_run, fixed_bits_run, enumerated_run}
 use Rattle.aper_fields.specs.Spelling.{Piece, Then, Bits, Padding, Spelled, LengthOctets, Length, IsOctets, OctetsOf, FixedOctets, OctetString, FixedBits, Enumerated, IsExact}
 use Rattle.aper_fields.specs.Format.{Format, IsExactly, bits_in, padding_in, refuse_here, passing, counting, number_in, length_pieces_in, length_octets_in, length_in, octets_in, fixed_octets_in, octet_string_in, fixed_bits_in, root_in, extended_in, enumerated_pieces_in, enumerated_in}
-use Rattle.aper_fields.proofs.BitLaws.{length-bits, length-bits_of, number_of-bits, bits-number_of}
+use Rattle.aper_fields.proofs.Packed.{length-octets_of, bits_of-octets_of}
+use Rattle.aper_fields.proofs.BitLaws.{length-bits, length-bits_of, number_of-bits}
 use Rattle.aper_fields.proofs.Steps.{guard_ok, number_of-take-lt}
 use Rattle.aper_fields.proofs.Formats.{bind, bits_exactly, padding_exactly, then_exactly, either_exactly, refuse_exactly, short, passing_exactly, mapped_exactly, spelled_exactly, along_exactly, counting_exactly, checked_is, leb-not_ltb}
 use Rattle.aper_fields.proofs.ExactNumbers.{padded_there, padded_back, number_exactly}
@@ -108,24 +108,10 @@ length_exact = length_exactly.spells
 
 -- ---- octets
 
-octets_of-length : (n : ℕ) (bs : List Bool) → length (octets_of n bs) ≡ n
-unfolding octets_of
-octets_of-length zero bs = refl
-octets_of-length (suc n) bs = ap suc (octets_of-length n (drop 8 bs))
-
 octets_of-fit : (n : ℕ) (bs : List Bool) → 8 * n ≤ length bs → IsOctets (octets_of n bs)
 unfolding octets_of
 octets_of-fit zero bs h = tt
 octets_of-fit (suc n) bs h = (number_of-take-lt 8 bs (omega arith), octets_of-fit n (drop 8 bs) (omega (arith, length-drop 8 bs)))
-
-pub bits_of-octets_of : (n : ℕ) (bs : List Bool) → 8 * n ≤ length bs → bits_of (octets_of n bs) ≡ take (8 * n) bs
-unfolding octets_of bits_of
-bits_of-octets_of zero bs h = refl
-bits_of-octets_of (suc n) bs h =
-    let len : length (take 8 bs) ≡ 8 = omega (arith, length-take 8 bs) in
-    let first : bits 8 (number_of (take 8 bs)) ≡ take 8 bs = ap (λ n. bits n (number_of (take 8 bs))) (sym len) ∙ bits-number_of (take 8 bs) in
-    let e : 8 * suc n ≡ 8 + 8 * n = omega arith in
-    rw (first, bits_of-octets_of n (drop 8 bs) (omega (arith, length-drop 8 bs)), e) (sym (take-add 8 (8 * n) bs))
 
 octets_of-again : (octets : List ℕ) (rest : List Bool) → IsOctets octets → octets_of (length octets) (bits_of octets ++ rest) ≡ octets
 unfolding octets_of bits_of
@@ -143,7 +129,7 @@ octets_exact start n = record {
       let len : length (take (8 * n) i.left) ≡ 8 * n = omega (arith, length-take (8 * n) i.left) in
       let is : forward (8 * n) i ≡ j = ap (λ (x : List ℕ × Input). x.1) g.1 in
       let value : octets_of n i.left ≡ v = ap (λ (x : List ℕ × Input). x.0) g.1 in
-      (take (8 * n) i.left, rw (← value) (octets_of-length n i.left, octets_of-fit n i.left long, sym (bits_of-octets_of n i.left long)), rw (← is) (sym (take-append-drop (8 * n) i.left)), rw (← is, len) refl);
+      (take (8 * n) i.left, rw (← value) (length-octets_of n i.left, octets_of-fit n i.left long, sym (bits_of-octets_of n i.left long)), rw (← is) (sym (take-append-drop (8 * n) i.left)), rw (← is, len) refl);
   only = λ at v run rest p.
       let len : length run ≡ 8 * n = omega (arith, ap length p.2, length-bits_of v, p.0) in
       let long : ltb (length (run ++ rest)) (8 * n) ≡ false = le-ltb _ _ (omega (arith, len, length-append run rest)) in

@@ -3,9 +3,9 @@ use Rattle.std.proofs.Common.{◌≡◌, ℕ, zero, suc, ◌+◌, ◌-◌, ◌*�
 use Rattle.std.specs.Prelude.{bit_or, bit_and}
 use Rattle.std.proofs.lemmas.List.{take_at, drop_at, length-append, length-take, length-replicate, take-append-drop, replicate-append-replicate, drop_more, set_split, append-nil, get_or-take, take_more, set_at, take-take, take_all}
 use Rattle.std.proofs.lemmas.Nat.{one_shl, and_mask, shr-shr, or_shifted, shl_whole, shl_below, shr_high, shl-shr, shr_split}
-use Rattle.std.proofs.Math.Seq.{take-append-add}
 use Rattle.aper_fields.specs.Bits.{bits, number_of, bits_of, zeros, gap, filled}
 use Rattle.aper_fields.specs.Buffer.{FreeBehind, before_free}
+use Rattle.aper_fields.proofs.Octet.{take-octets}
 use Rattle.aper_fields.proofs.BitLaws.{length-bits, length-bits_of, bits-add, bits-low, bits-zero, bits_of-append, number_of-bits}
 
 -- fronts of one length
@@ -180,14 +180,6 @@ cut_within bs n f within some few most =
     let size : length (bits_of (take p bs) ++ bits (8 - f) q) ≡ 8 * n - f = omega (arith, length-append (bits_of (take p bs)) (bits (8 - f) q), length-bits_of (take p bs), length-bits (8 - f) q, len) in
     let run : take (8 * n - f) (bits_of bs) ≡ bits_of (take p bs) ++ bits (8 - f) q = ap (take (8 * n - f)) all ∙ take_at _ _ (8 * n - f) size in
     rw same (ap bits_of written ∙ bits_of-append (take p bs) (y ∷ []) ∙ rw (bits-clear f x (omega arith), run) (simp (append_assoc, append-nil)))
-
-take-octets : (n : ℕ) (bs : List ℕ) → take (8 * n) (bits_of bs) ≡ bits_of (take n bs)
-unfolding bits_of
-take-octets zero bs = refl
-take-octets (suc n) [] = take_all (8 * suc n) [] (omega arith)
-take-octets (suc n) (b ∷ bs) =
-    let e : 8 * suc n ≡ length (bits 8 b) + 8 * n = omega (arith, length-bits 8 b) in
-    rw (e, take-append-add (bits 8 b) (bits_of bs) (8 * n)) (ap (λ (x : List Bool). bits 8 b ++ x) (take-octets n bs))
 
 pub cut_whole : (bs : List ℕ) (n f : ℕ) → f ≤ 0 → FreeBehind (take (8 * n - f) (bits_of bs)) (take n bs) f
 cut_whole bs n f h =

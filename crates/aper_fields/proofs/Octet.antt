@@ -1,8 +1,7 @@
 -- The bits of the first octets of a run.
 use Rattle.std.proofs.Common.{◌≡◌, ℕ, zero, suc, ◌+◌, ◌-◌, ◌*◌, ◌/◌, ◌%◌, ◌^◌, ◌<◌, ◌≤◌, Bool, List, [], ◌∷◌, ◌++◌, length, get_or, take, drop, Result, Ok, refl, sym, ap, ◌∙◌, arith}
-use Rattle.std.proofs.lemmas.List.{take_at, drop_at, length-drop, drop-append-le, take-append-le, drop-drop, take_rest, drop_all, take_all}
+use Rattle.std.proofs.lemmas.List.{drop_at, length-drop, drop-append-le, take-append-le, drop-drop, take_rest, drop_all, take_all}
 use Rattle.std.proofs.Math.Seq.{take-append-add}
-use Rattle.std.proofs.Math.Nat.{mod-eq_of_lt}
 use Rattle.aper_fields.specs.Bits.{bits, number_of, bits_of, octets_of}
 use Rattle.echo_base.specs.declared.refusal.Refusal.{Refusal}
 use Rattle.aper_fields.specs.Reading.{Input, forward}
@@ -70,17 +69,6 @@ split_front u n p bs h = rw h (same_input _ _ _ _ refl (sym (take-octets n bs)))
 
 pub split_back : (u n p : ℕ) (bs : List ℕ) → u ≡ 0 → input (8 * (p + n) + u) (drop u (bits_of (drop n bs))) ≡ forward (8 * n) (input (8 * p + u) (drop u (bits_of bs)))
 split_back u n p bs h = rw h (same_input _ _ _ _ (omega arith) (sym (drop-octets n bs)))
-
-abbrev pub IsBytes : List ℕ → Type 0
-IsBytes bytes = (i : ℕ) → get_or bytes i 0 < 256
-
-pub octets_of-bits_of : (n : ℕ) (bs : List ℕ) → n ≤ length bs → IsBytes bs → octets_of n (bits_of bs) ≡ take n bs
-unfolding octets_of bits_of
-octets_of-bits_of zero bs h fits = refl
-octets_of-bits_of (suc n) [] h fits = absurd (omega arith)
-octets_of-bits_of (suc n) (b ∷ bs) h fits =
-    let low : b % 2 ^ 8 ≡ b = mod-eq_of_lt (omega (arith, fits 0)) in
-    rw (take_at (bits 8 b) (bits_of bs) 8 (length-bits 8 b), drop_at (bits 8 b) (bits_of bs) 8 (length-bits 8 b), number_of-bits 8 b, low, octets_of-bits_of n bs (omega arith) (λ i. fits (suc i))) refl
 
 abbrev taken_octets : List ℕ → Input → Result (List ℕ × Input) Refusal
 taken_octets octets i = Ok (octets, i)

@@ -9,19 +9,24 @@ use Rattle.aper_fields.proofs.BitLaws.{length-bits, length-bits_of, number_of-bi
 abbrev pub IsBytes : List ℕ → Type 0
 IsBytes bytes = (i : ℕ) → get_or bytes i 0 < 256
 
-pub octets_of-bits_of : (octets : List ℕ) → IsBytes octets → octets_of (length octets) (bits_of octets) ≡ octets
+pub octets_of-bits_of : (n : ℕ) (octets : List ℕ) → n ≤ length octets → IsBytes octets → octets_of n (bits_of octets) ≡ take n octets
 unfolding octets_of bits_of
-octets_of-bits_of [] fits = refl
-octets_of-bits_of (b ∷ bs) fits =
+octets_of-bits_of zero octets h fits = refl
+octets_of-bits_of (suc n) [] h fits = absurd (omega arith)
+octets_of-bits_of (suc n) (b ∷ bs) h fits =
     let low : b % 2 ^ 8 ≡ b = mod-eq_of_lt (omega (arith, fits 0)) in
-    rw (take_at (bits 8 b) (bits_of bs) 8 (length-bits 8 b), drop_at (bits 8 b) (bits_of bs) 8 (length-bits 8 b), number_of-bits 8 b, low, octets_of-bits_of bs (λ i. fits (suc i))) refl
+    rw (take_at (bits 8 b) (bits_of bs) 8 (length-bits 8 b), drop_at (bits 8 b) (bits_of bs) 8 (length-bits 8 b), number_of-bits 8 b, low, octets_of-bits_of n bs (omega arith) (λ i. fits (suc i))) refl
 
-length-octets_of : (n : ℕ) (bs : List Bool) → length (octets_of n bs) ≡ n
+-- all of them
+pub octets_of-all : (octets : List ℕ) → IsBytes octets → octets_of (length octets) (bits_of octets) ≡ octets
+octets_of-all octets fits = octets_of-bits_of (length octets) octets (omega arith) fits ∙ take_all (length octets) octets (omega arith)
+
+pub length-octets_of : (n : ℕ) (bs : List Bool) → length (octets_of n bs) ≡ n
 unfolding octets_of
 length-octets_of zero bs = refl
 length-octets_of (suc n) bs = ap suc (length-octets_of n (drop 8 bs))
 
-bits_of-octets_of : (n : ℕ) (bs : List Bool) → 8 * n ≤ length bs → bits_of (octets_of n bs) ≡ take (8 * n) bs
+pub bits_of-octets_of : (n : ℕ) (bs : List Bool) → 8 * n ≤ length bs → bits_of (octets_of n bs) ≡ take (8 * n) bs
 unfolding octets_of bits_of
 bits_of-octets_of zero bs h = refl
 bits_of-octets_of (suc n) bs h =
@@ -53,4 +58,4 @@ packed-of octets run e =
 
 -- octets whose bits are a run and zeros up to the next octet
 pub packed_is : (octets : List ℕ) (run : List Bool) → IsBytes octets → bits_of octets ≡ filled run → octets ≡ packed run
-packed_is octets run fits e = sym (octets_of-bits_of octets fits) ∙ packed-of octets run e
+packed_is octets run fits e = sym (octets_of-all octets fits) ∙ packed-of octets run e

@@ -7,6 +7,7 @@ use Rattle.std.proofs.Math.Pow.{pow_mono}
 use Rattle.std.specs.Int.{div_ceil}
 use Rattle.aper_fields.specs.Reading.{width}
 use Rattle.aper_fields.specs.Run.{octet_count}
+use Rattle.aper_fields.proofs.Counts.{octet_count_mono}
 
 -- a number below a power of two is no wider
 pub width_below : (n k : ℕ) → n < 2 ^ 64 → n < 2 ^ k → width n ≤ k
@@ -25,7 +26,12 @@ width_holds n fits =
     let w : width n ≡ t.0 = omega (arith, t.1) in
     rw w t.2
 
-width_some : (n : ℕ) → 0 < n → n < 2 ^ 64 → 0 < width n
+-- so does a smaller one
+pub width_covers : (top a : ℕ) → top < 2 ^ 64 → a ≤ top → a < 2 ^ width top
+width_covers top a fits le = omega (arith, width_holds top fits, le)
+
+-- a number above 0 takes a bit
+pub width_some : (n : ℕ) → 0 < n → n < 2 ^ 64 → 0 < width n
 width_some n some fits =
     elim (cases_lt 0 (width n)) [
       | inl h ↦ h
@@ -43,28 +49,11 @@ octets_hold n fits =
 octet_count-some : (n : ℕ) → 0 < n → octet_count n ≡ div_ceil (width n) 8
 octet_count-some n some = let ne : eqb n 0 ≡ false = ne_eqb _ _ (λ z. absurd (omega (arith, z))) in rw ne refl
 
-octet_count_pos : (n : ℕ) → n < 2 ^ 64 → 1 ≤ octet_count n
-octet_count_pos n fits =
-    elim (cases_lt 0 n) [
-      | inl some ↦ omega (arith, octet_count-some n some, width_some n some fits)
-      | inr none ↦ let z : n ≡ 0 = omega arith in rw z (omega arith)
-    ]
-
 pub octet_count_most : (n : ℕ) → octet_count n ≤ 8
 octet_count_most n =
     elim (cases_lt 0 n) [
       | inl some ↦ omega (arith, octet_count-some n some)
       | inr none ↦ let z : n ≡ 0 = omega arith in rw z (omega arith)
-    ]
-
--- a larger number takes no fewer octets
-octet_count_mono : (m n : ℕ) → m ≤ n → n < 2 ^ 64 → octet_count m ≤ octet_count n
-octet_count_mono m n h fits =
-    elim (cases_lt 0 m) [
-      | inl some ↦
-          let wider : width m ≤ width n = width_below m (width n) (omega arith) (omega (arith, width_holds n fits)) in
-          omega (arith, octet_count-some m some, octet_count-some n (omega arith), wider)
-      | inr none ↦ let z : m ≡ 0 = omega arith in rw z (octet_count_pos n fits)
     ]
 
 -- the count of a number's octets less one fits where that of the greatest number does

@@ -32,6 +32,7 @@ impl Model for Plan {
 }
 
 impl Plan {
+    /// A plan of these calls, none used yet.
     pub fn new(calls: Vec<Give>) -> Plan
         ensures { result ≡ calls.items }
     {

@@ -1,8 +1,9 @@
 -- Writing a DownlinkNASTransport.
 use Rattle.std.proofs.Common.{◌≡◌, ℕ, ◌+◌, ◌*◌, ◌^◌, ◌<◌, ◌≤◌, Bool, false, List, [], length, sym, ap, ◌∙◌, arith}
-use Rattle.std.proofs.lemmas.List.{append-nil, length-append}
+use Rattle.std.proofs.lemmas.List.{length-append}
 use Rattle.aper_fields.specs.Run.{Run, ◌▸◌, nothing_run, then_written, number_run, fixed_bits_run, octet_string_run, open_run, content_of}
 use Rattle.aper_fields.proofs.Written.{two_written}
+use Rattle.echo_run.proofs.Elements.{then_nothing}
 use Rattle.aper_fields.proofs.Lengths.{Takes, then_takes, number_takes, enumerated_takes, fixed_bits_takes, octet_string_takes, open_takes, length-content_of}
 use Rattle.echo_run.specs.Message.{criticality_run, element_run, elements_run, value_run}
 use Rattle.echo_run.specs.Messages.{mme_run, enb_run, DownlinkNasTransport, downlink_ies}
@@ -32,9 +33,6 @@ element_takes id value n h =
 -- an element whose body was written on its own
 pub body_is : (old body : List Bool) (f : Run) → old ≡ [] → body ≡ then_written old f → body ≡ f 0
 body_is old body f none e = e ∙ ap (λ (l : List Bool). then_written l f) none
-
-then_nothing : (f : Run) → f ▸ nothing_run ≡ f
-then_nothing f = λ i at. append-nil (f at) i
 
 pub value_written : (p : DownlinkNasTransport) (w0 w1 w2 w3 w4 w5 : List Bool) → w0 ≡ [] → w1 ≡ then_written w0 (fixed_bits_run 1 0) → w2 ≡ then_written w1 (number_run 0 65535 3) → w3 ≡ then_written w2 (element_run 0 0 (mme_run p.mme)) → w4 ≡ then_written w3 (element_run 8 0 (enb_run p.enb)) → w5 ≡ then_written w4 (element_run 26 0 (octet_string_run p.nas)) → w5 ≡ value_run (downlink_ies p) 0
 unfolding value_run elements_run

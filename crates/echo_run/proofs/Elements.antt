@@ -6,12 +6,13 @@ use Rattle.echo_base.specs.declared.reason.Reason.TheVariants as reasons
 use Rattle.echo_base.specs.declared.refusal.Refusal.{Refusal}
 use Rattle.aper_fields.specs.Bits.{zeros, gap, filled}
 use Rattle.aper_fields.specs.Reading.{Input, Read, ◌>>=◌, refuse, contained_at}
-use Rattle.aper_fields.specs.Run.{Run, ◌▸◌, length_octets, length_run, open_run, content_of}
+use Rattle.aper_fields.specs.Run.{Run, ◌▸◌, nothing_run, length_octets, length_run, open_run, content_of}
 use Rattle.aper_fields.specs.Spelling.{Spelled, Then, Open, Contained, IsExact}
 use Rattle.aper_fields.proofs.BitLaws.{length-bits}
 use Rattle.aper_fields.proofs.Octet.{input}
 use Rattle.aper_fields.proofs.Exact.{then_exact, done_exact, fail_exact, same_exact}
 use Rattle.aper_fields.proofs.Containers.{contained_exact}
+use Rattle.aper_fields.proofs.Packed.{length-filled}
 use Rattle.aper_fields.proofs.Periodic.{IsPeriodic}
 use Rattle.echo_run.specs.Message.{IsShort, IsValue}
 use Rattle.echo_run.specs.Strict.{passing_at}
@@ -26,6 +27,10 @@ same_reading P f g same p = record {
   found = λ i j v e. p.found i j v (same i ∙ e);
   only = λ at v run rest q. sym (same (input at (run ++ rest))) ∙ p.only at v run rest q;
 }
+
+-- a run and nothing behind it
+pub then_nothing : (f : Run) → f ▸ nothing_run ≡ f
+then_nothing f = λ i at. append-nil (f at) i
 
 -- ---- one behind another
 
@@ -97,9 +102,6 @@ open_offset at content run s =
 
 content_some : (body : List Bool) → 0 < length body → content_of body ≡ filled body
 content_some body some = let ne : eqb (length body) 0 ≡ false = ne_eqb _ _ (λ z. absurd (omega (arith, z))) in rw ne refl
-
-pub length-filled : (body : List Bool) → length (filled body) ≡ 8 * ((length body + 7) / 8)
-length-filled body = omega (arith, length-append body (zeros (gap (length body))), length-replicate (gap (length body)) false)
 
 -- an open type with that content is the run of the body
 pub open_there : (at : ℕ) (content : Input) (run body : List Bool) → Open at content run → 0 < length body → content.left ≡ filled body → IsShort body × (run ≡ open_run body at)

@@ -1,16 +1,16 @@
 -- Reading an InitialUEMessage as it is written is exact.
 use Rattle.std.proofs.Common.{◌≡◌, ℕ, ◌+◌, ◌-◌, ◌*◌, ◌^◌, ◌<◌, ◌≤◌, Bool, true, false, not, cond, eqb, List, ◌++◌, length, Result, Ok, Err, refl, sym, ap, ◌∙◌, subst, inl, inr, arith}
-use Rattle.std.proofs.lemmas.Bool.{eqb-true, eq-eqb, and_parts, cases_lt, lt-ltb, le-ltb}
-use Rattle.std.proofs.lemmas.List.{append-nil, length-append}
+use Rattle.std.proofs.lemmas.Bool.{not-true, eqb-true, eq-eqb, and_parts, cases_lt, lt-ltb, le-ltb}
+use Rattle.std.proofs.lemmas.List.{length-append}
 use Rattle.echo_base.specs.declared.refusal.Refusal.{Refusal}
 use Rattle.aper_fields.specs.declared.enumerated.EnumValue.{EnumValue}
 use Rattle.aper_fields.specs.Bits.{bits_of, packed, zeros, gap, filled}
 use Rattle.aper_fields.specs.Reading.{Input, Read, ◌>>=◌, width, fixed_bits_at, number_at, octet_string_at, enumerated_at, open_at, whole_at, contained_at}
-use Rattle.aper_fields.specs.Run.{Run, ◌▸◌, nothing_run, bits_run, padding_run, octet_count, number_run, fixed_bits_run, octet_string_run, enumerated_run, length_run, length_octets, open_run}
+use Rattle.aper_fields.specs.Run.{Run, ◌▸◌, bits_run, padding_run, octet_count, number_run, fixed_bits_run, octet_string_run, enumerated_run, length_run, length_octets, open_run}
 use Rattle.aper_fields.specs.Spelling.{Spelled, IsOctets, IsEnumValue, IsExact}
 use Rattle.aper_fields.proofs.BitLaws.{length-bits}
 use Rattle.aper_fields.proofs.Counts.{octet_count_more, octet_count_few}
-use Rattle.aper_fields.proofs.Widths.{width_holds}
+use Rattle.aper_fields.proofs.Widths.{width_some}
 use Rattle.aper_fields.proofs.Exact.{same_exact}
 use Rattle.aper_fields.proofs.ExactNumbers.{number_exact}
 use Rattle.aper_fields.proofs.ExactPieces.{fixed_bits_exact, octet_string_exact, enumerated_exact}
@@ -24,7 +24,7 @@ use Rattle.echo_run.specs.Message.{IsShort, index_run, criticality_run, element_
 use Rattle.echo_run.specs.Messages.{plain_sequence, enb_run, tai_run, cgi_run, stmsi_run, initial_header, initial_ies, initial_written, IsRightInitial}
 use Rattle.echo_run.specs.Strict.{is_number, is_index, bits_are_at, octet_is_at, number_is_at, index_is_at, ie_at, element_at, pair_at, tai_at, cgi_at, stmsi_at, Parts, parts_at, value_at, initial_at}
 use Rattle.echo_run.specs.Seen.{message_of}
-use Rattle.echo_run.proofs.Elements.{bind_assoc, same_reading, passing_exact, constant_then, field_exact, last_exact, contained_spelled}
+use Rattle.echo_run.proofs.Elements.{then_nothing, bind_assoc, same_reading, passing_exact, constant_then, field_exact, last_exact, contained_spelled}
 
 -- ---- constants
 
@@ -40,14 +40,10 @@ octet_is wanted h = passing_exact (is_number wanted) (λ v. (0 ≤ v) × (v ≤ 
 abbrev root : ℕ → EnumValue
 root n = record { extended = false; index = n }
 
-not_true : (b : Bool) → not b ≡ true → b ≡ false
-not_true true h = absurd cc
-not_true false h = refl
-
 only_root : (wanted : ℕ) (v : EnumValue) → is_index wanted v ≡ true → v ≡ root wanted
 only_root wanted v h =
     let parts = and_parts (not v.extended) (eqb v.index wanted) h in
-    let first : v ≡ root v.index = ap (λ b. record { extended = b; index = v.index }) (not_true v.extended parts.0) in
+    let first : v ≡ root v.index = ap (λ b. record { extended = b; index = v.index }) (not-true v.extended parts.0) in
     first ∙ ap root (eqb-true v.index wanted parts.1)
 
 index_is : (roots : ℕ) (extensible : Bool) (wanted : ℕ) → 1 ≤ roots → roots < 2 ^ 64 → wanted < roots → IsExact (Spelled (λ (u : Unit {0}). Unit {0}) (λ u. index_run roots extensible wanted)) (index_is_at roots extensible wanted)
@@ -142,23 +138,13 @@ InNas nas = (length nas ≤ 2048) × (length nas < 2 ^ 14) × IsOctets nas
 first_some : (f g : Run) (at : ℕ) → 0 < length (f at) → 0 < length ((f ▸ g) at)
 first_some f g at h = omega (arith, h, length-append (f at) (g (at + length (f at))))
 
-some_width : (n : ℕ) → 0 < n → n < 2 ^ 64 → 0 < width n
-some_width n some fits =
-    elim (cases_lt 0 (width n)) [
-      | inl h ↦ h
-      | inr h ↦
-          let z : width n ≡ 0 = omega arith in
-          let one : n < 2 ^ 0 = subst (λ k. n < 2 ^ k) z (width_holds n fits) in
-          absurd (omega (arith, one))
-    ]
-
 enb_some : (enb : ℕ) → 0 < length (enb_run enb 0)
 unfolding number_run
 enb_some enb =
     let most = octet_count 16777215 in
     let more : 1 < most = octet_count_more 16777215 (omega arith) (omega arith) in
     let few : most ≤ 8 = octet_count_few 16777215 (omega arith) in
-    let bit = some_width (most - 1) (omega arith) (omega arith) in
+    let bit = width_some (most - 1) (omega arith) (omega arith) in
     first_some (bits_run (width (most - 1)) (octet_count (enb - 0) - 1)) (padding_run ▸ bits_run (8 * octet_count (enb - 0)) (enb - 0)) 0 (omega (arith, bit, length-bits (width (most - 1)) (octet_count (enb - 0) - 1)))
 
 length_octets_some : (n : ℕ) → 0 < length (length_octets n)
@@ -313,9 +299,6 @@ initial_exact =
     (constant_then (criticality_run 1) (index_is_at 3 false 1) InMessage (λ p. open_run (list_run p 0)) (contained_at value_at) (index_is 3 false 1 (omega arith) (omega arith) (omega arith)) (contained_spelled InParts list_run value_at list_periodic list_some value_exact)))
 
 -- ---- as it is written
-
-then_nothing : (f : Run) → f ▸ nothing_run ≡ f
-then_nothing f = λ i at. append-nil (f at) i
 
 elements_are : (p : Parts) → elements_run (initial_ies (message_of p)) ≡ parts_run p
 unfolding elements_run

@@ -1,6 +1,6 @@
 -- The words and the text of the top call.
 use Rattle.std.proofs.Common.{◌≡◌, ℕ, Bool, List, [], ◌∷◌, ◌++◌, length, get_or, Option, Some, None, sym, ap, ◌∙◌, subst, append_assoc, arith}
-use Rattle.std.specs.Prelude.{◌↔◌, IsTrue, IfSome, IsSomeAnd, map, codes, string_bytes, String}
+use Rattle.std.specs.Prelude.{◌↔◌, IsTrue, IfSome, map, codes, string_bytes, String}
 use Rattle.std.specs.Str.{bytes_eq}
 use Rattle.std.proofs.lemmas.Slice.Eq.{bytes_eq-Decides}
 use Rattle.std.specs.declared.alloc.Global.{Global}
@@ -48,10 +48,6 @@ read_is before (Some rest) read octets taken whole told =
 -- of the octets that were read, in the place of those that were lent
 pub of_read : (lent read octets : List ℕ) (before after : Option (List ℕ)) → lent ≡ read → IsTaken before read after → IsAtEnd after → before ≡ Some octets → lent ≡ octets
 of_read lent read octets before after is taken whole told = is ∙ read_is before after read octets taken whole told
-
-pub some_text : {A : Type 0} (P : A → Type 0) (o : Option A) (x : A) → o ≡ Some x → IsSomeAnd o P → P x
-some_text P None x e h = absurd h
-some_text P (Some y) x e h = let is : y ≡ x = cc in subst P is h
 
 pub if_some : {A : Type 0} (P : A → Type 0) (o : Option A) (x : A) → o ≡ Some x → IfSome o P → P x
 if_some P None x e h = absurd cc

@@ -1,5 +1,5 @@
 use Rattle.std.proofs.Common.{sym, ◌∙◌, arith}
-use Rattle.aper_fields.proofs.Octet.{octets_of-bits_of}
+use Rattle.aper_fields.proofs.Packed.{octets_of-bits_of}
 use Rattle.aper_fields.proofs.reader.cut.Goals as goal
 
 pub returns-clause-front : goal.returns-clause-front

@@ -1,7 +1,8 @@
 use Rattle.std.proofs.Common.{ℕ, List, sym, subst, inr, refl, rules}
 use Rattle.echo_run.specs.First.{IsFirst}
 use Rattle.echo_run.proofs.LineLaws.{not_none}
-use Rattle.echo_run.proofs.TopLaws.{of_read, some_text, if_some, put_is}
+use Rattle.echo_run.proofs.FirstLaws.{some_and}
+use Rattle.echo_run.proofs.TopLaws.{of_read, if_some, put_is}
 use Rattle.echo_run.proofs.top.replay_top.Goals as goal
 
 pub returns-in-Ok-None-clause-not_yet : goal.returns-in-Ok-None-clause-not_yet
@@ -19,7 +20,7 @@ returns-in-Ok-None-clause-complete g c = λ octets k plain told fits first still
 pub returns-in-Ok-write_all-clause-complete : goal.returns-in-Ok-write_all-clause-complete
 returns-in-Ok-write_all-clause-complete g c = λ octets k plain told fits first still kept.
     let is = of_read _ _ octets _ _ c.deref.ensures.value c.in-Ok.ensures.ok c.in-Ok.ensures.end told in
-    let text = some_text _ _ _ c.in-Ok-Some.field-0-is (c.in-Ok-Some.ensures.only k (subst (λ (l : List ℕ). IsFirst l k) (sym is) first)) in
+    let text = some_and _ _ _ c.in-Ok-Some.field-0-is (c.in-Ok-Some.ensures.only k (subst (λ (l : List ℕ). IsFirst l k) (sym is) first)) in
     inr (refl, put_is _ _ _ _ _ c.deref-2.ensures.value text c.in-Ok-write_all.ensures.ok)
 
 pub returns-clause-others : goal.returns-clause-others
