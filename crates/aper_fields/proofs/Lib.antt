@@ -14,3 +14,4 @@ pub mod Pieces
 pub mod Widths
 pub mod Written
 pub mod Lengths
+pub mod ReadBack

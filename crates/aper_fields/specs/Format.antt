@@ -1,13 +1,13 @@
 -- Formats: which runs of bits spell a value, and which refusal is due where none stands.
-use Rattle.std.specs.Prelude.{Result, Ok, Err, ◌≡◌, ◌⊎◌, ℕ, ◌+◌, ◌-◌, ◌*◌, ◌<◌, ◌==◌, nat_lt, nat_le, not, MatchBool, Bool, true, false, List, ◌++◌, length, if◌then◌else◌}
+use Rattle.std.specs.Prelude.{Result, Ok, Err, ◌≡◌, ◌⊎◌, ℕ, ◌+◌, ◌-◌, ◌*◌, ◌/◌, ◌<◌, ◌==◌, nat_lt, nat_le, not, MatchBool, Bool, true, false, List, ◌++◌, length, if◌then◌else◌}
 use Rattle.std.specs.Int.{div_ceil}
 use Rattle.echo_base.specs.declared.reason.Reason.{Reason}
 use Rattle.echo_base.specs.declared.reason.Reason.TheVariants as reasons
 use Rattle.echo_base.specs.declared.refusal.Refusal.{Refusal}
 use Rattle.aper_fields.specs.declared.enumerated.EnumValue.{EnumValue}
 use Rattle.aper_fields.specs.Bits.{zeros, gap}
-use Rattle.aper_fields.specs.Reading.{Input, Read, refusal, width}
-use Rattle.aper_fields.specs.Run.{octet_count}
+use Rattle.aper_fields.specs.Reading.{Input, Read, refusal, width, open_at}
+use Rattle.aper_fields.specs.Run.{Run, octet_count, length_run, open_run, content_of}
 use Rattle.aper_fields.specs.Spelling.{Piece, Then, Just, Bits, Padding, Number, LengthOctets, Length, OctetsOf, FixedOctets, OctetString, FixedBits, Enumerated, Octets, Contained, IsExact}
 
 pub record Format (A : Type 0) : Type 1 where
@@ -184,3 +184,13 @@ contained_in F = record {
   Spells = Contained F.Spells;
   Refuses = λ i e. open_in.Refuses i e ⊎ ((content : Input) × (j : Input) × Stands open_in i content j × WholeRefuses F content e);
 }
+
+-- ---- back again
+
+-- a run of the piece is read as that value, wherever it stands and whatever stands behind it
+abbrev pub IsReadBack : {A : Type 0} → (Input → Read A) → Run → A → Type 0
+IsReadBack read run v = (at : ℕ) (rest : List Bool) → read (record { offset = at; left = run at ++ rest }) ≡ Ok (v, record { offset = at + length (run at); left = rest })
+
+-- the same of an open type: it is read as what it contains, at its place
+abbrev pub IsOpenReadBack : List Bool → Type 0
+IsOpenReadBack body = (at : ℕ) (rest : List Bool) → open_at (record { offset = at; left = open_run body at ++ rest }) ≡ Ok (record { offset = at + length (length_run (length (content_of body) / 8) at); left = content_of body }, record { offset = at + length (open_run body at); left = rest })

@@ -1,7 +1,11 @@
 //! Laws of the pieces, as clauses of functions that do nothing.
 
-ghost use Rattle.std.specs.Prelude.{ℕ, Bool, ◌^◌, ◌<◌, ◌≤◌};
-ghost use Rattle.aper_fields.specs.Format.{HasOneReading, number_in, length_in, fixed_octets_in, octet_string_in, fixed_bits_in, enumerated_in, open_in};
+ghost use Rattle.std.specs.Prelude.{ℕ, Bool, List, length, ◌+◌, ◌*◌, ◌^◌, ◌<◌, ◌≤◌};
+ghost use Rattle.aper_fields.specs.declared.enumerated.EnumValue.{EnumValue};
+ghost use Rattle.aper_fields.specs.Reading.{number_at, length_at, fixed_octets_at, octet_string_at, fixed_bits_at, enumerated_at};
+ghost use Rattle.aper_fields.specs.Run.{number_run, length_run, fixed_octets_run, octet_string_run, fixed_bits_run, enumerated_run, content_of};
+ghost use Rattle.aper_fields.specs.Spelling.{IsOctets, IsEnumValue};
+ghost use Rattle.aper_fields.specs.Format.{HasOneReading, IsReadBack, IsOpenReadBack, number_in, length_in, fixed_octets_in, octet_string_in, fixed_bits_in, enumerated_in, open_in};
 
 /// What two readings of one piece give at one place is the same: the value, the refusal and the place behind it. So
 /// no bits spell two values, and no spelling of a piece begins another.
@@ -14,4 +18,20 @@ pub fn one_reading()
     ensures enumerations { (roots : ℕ) (extensible : Bool) → 1 ≤ roots → roots < 2 ^ 64
         → HasOneReading (enumerated_in roots extensible) }
     ensures open_types { HasOneReading open_in }
+{}
+
+/// What a writer puts behind what was written is read back as that value, whatever stands behind it.
+pub fn written_is_read()
+    ensures numbers { (low top v : ℕ) → top < 2 ^ 64 → low ≤ v → v ≤ low + top
+        → IsReadBack (number_at low top) (number_run low top v) v }
+    ensures lengths { (n : ℕ) → n < 2 ^ 14 → IsReadBack length_at (length_run n) n }
+    ensures fixed_octets { (octets : List ℕ) → IsOctets octets
+        → IsReadBack (fixed_octets_at (length octets)) (fixed_octets_run octets) octets }
+    ensures octet_strings { (most : ℕ) (octets : List ℕ) → IsOctets octets → length octets ≤ most → length octets < 2 ^ 14
+        → IsReadBack (octet_string_at most) (octet_string_run octets) octets }
+    ensures fixed_bits { (n v : ℕ) → v < 2 ^ n → IsReadBack (fixed_bits_at n) (fixed_bits_run n v) v }
+    ensures enumerations { (roots : ℕ) (extensible : Bool) (v : EnumValue) → 1 ≤ roots → roots < 2 ^ 64
+        → IsEnumValue roots extensible v
+        → IsReadBack (enumerated_at roots extensible) (enumerated_run roots extensible v) v }
+    ensures open_types { (body : List Bool) → length (content_of body) < 8 * 2 ^ 14 → IsOpenReadBack body }
 {}

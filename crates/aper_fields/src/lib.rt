@@ -14,7 +14,7 @@ mod writer;
 mod writing;
 
 pub use enumerated::EnumValue;
-pub use laws::one_reading;
+pub use laws::{one_reading, written_is_read};
 pub use ranged::Ranged;
 pub use reader::BitReader;
 pub use reading::{

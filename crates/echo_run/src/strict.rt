@@ -3,6 +3,7 @@
 ghost use Rattle.std.specs.Prelude.{◌≡◌, ◌<◌, ◌≤◌, ◌^◌, IfOk, length, Some, true};
 ghost use Rattle.aper_fields.specs.Reading.{Gives, whole_at, number_at, octet_string_at, enumerated_at};
 ghost use Rattle.echo_run.specs.Message.{start};
+ghost use Rattle.echo_run.specs.Seen.{parts_of};
 ghost use Rattle.echo_run.specs.Strict.{GivesWhole, GivesWholeBy, bits_are_at, octet_is_at, number_is_at, index_is_at, ie_at, pair_at, tai_at, cgi_at, stmsi_at, value_at, initial_at};
 
 use crate::message::{Cgi, Stmsi, Tai};
@@ -185,8 +186,6 @@ pub struct InitialUe<'a> {
     /// S-TMSI.
     pub stmsi: Stmsi,
 }
-
-ghost use Rattle.echo_run.specs.Seen.{parts_of};
 
 /// Reads the list of IEs.
 #[tactic(auto, unfolding(crate::specs::Strict::value_at, crate::specs::Strict::parts_at, crate::specs::Strict::element_at, aper_fields::specs::Reading::whole_at))]

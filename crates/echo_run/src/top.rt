@@ -1,12 +1,12 @@
 //! The top call.
 
-ghost use Rattle.std.specs.Prelude.{◌≡◌, ◌≢◌, ◌↔◌, ◌⊎◌, ◌≤◌, ◌++◌, ℕ, List, length, Some, IsTrue, IfOk, IfSome, IsSomeAnd};
+ghost use Rattle.std.specs.Prelude.{◌≡◌, ◌≢◌, ◌↔◌, ◌⊎◌, ◌+◌, ◌≤◌, ◌++◌, ℕ, List, length, Some, IsTrue, IfOk, IfSome, IsSomeAnd};
 ghost use Rattle.echo_base.specs.Outside.{IsTaken, IsTakenBy, IsAtEnd, IsPut, Rose};
 ghost use Rattle.echo_base.specs.Reason.{reason_number};
 ghost use Rattle.echo_run.specs.declared.first.FirstCase.{FirstCase};
 ghost use Rattle.echo_run.specs.First.{IsFirst};
 ghost use Rattle.echo_run.specs.Text.{text_of};
-ghost use Rattle.echo_run.specs.Top.{IsPlain, ReadWhole, IsTextFor, IsFirstText, IsKnownRefusal};
+ghost use Rattle.echo_run.specs.Top.{IsPlain, most_octets, ReadWhole, IsTextFor, IsFirstText, IsKnownRefusal};
 
 use crate::first::read_first;
 use crate::text::write_text;
@@ -67,9 +67,9 @@ pub fn replay_top<S: Source, K: Sink>(
 
     // The case is refused for its length exactly where 67,108,865 octets came.
     ensures too_long { result ≡ Status.CaseRefused 6 0
-        → IsTakenBy (λ n. n ≡ 67108865) (S.left input.old) (S.left input.new) }
+        → IsTakenBy (λ n. n ≡ most_octets + 1) (S.left input.old) (S.left input.new) }
     ensures short { result ≢ Status.CaseRefused 6 0
-        → IsTakenBy (λ n. n ≤ 67108864) (S.left input.old) (S.left input.new) }
+        → IsTakenBy (λ n. n ≤ most_octets) (S.left input.old) (S.left input.new) }
 
     // It is refused as not there yet only where the whole text is no first text, and for nothing else.
     ensures not_yet { result ≡ Status.CaseRefused 33 0 → (octets : List ℕ)
@@ -92,12 +92,12 @@ pub fn replay_top<S: Source, K: Sink>(
 
     // A first text is done, with its text, where no count rose.
     ensures complete { (octets : List ℕ) (c : FirstCase) → IsPlain words.now → S.left input.old ≡ Some octets
-        → length octets ≤ 67108864 → IsFirst octets c
+        → length octets ≤ most_octets → IsFirst octets c
         → ¬ Rose (S.faults input.old) (S.faults input.new) → ¬ Rose (K.faults out.old) (K.faults out.new)
         → (result ≡ Status.OutOfMemory) ⊎ ((result ≡ Status.Done) × IsPut (K.held out.old) (text_of c) (K.held out.new)) }
     // Any other text is refused as not there yet.
     ensures others { (octets : List ℕ) → IsPlain words.now → S.left input.old ≡ Some octets
-        → length octets ≤ 67108864 → ¬ IsFirstText octets
+        → length octets ≤ most_octets → ¬ IsFirstText octets
         → ¬ Rose (S.faults input.old) (S.faults input.new)
         → (result ≡ Status.OutOfMemory) ⊎ (result ≡ Status.CaseRefused 33 0) }
 {
