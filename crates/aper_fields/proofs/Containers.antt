@@ -1,5 +1,5 @@
 -- Open types and containers are read exactly.
-use Rattle.std.proofs.Common.{MatchResult, ◌≡◌, ℕ, ◌+◌, ◌*◌, ◌<◌, ◌≤◌, Bool, true, false, cond, ltb, eqb, List, [], ◌++◌, length, take, Result, Ok, Err, refl, sym, ap, ◌∙◌, subst, inl, inr, arith}
+use Rattle.std.proofs.Common.{◌≡◌, ℕ, ◌+◌, ◌*◌, ◌<◌, ◌≤◌, Bool, true, false, cond, ltb, eqb, List, [], ◌++◌, length, take, Result, Ok, Err, refl, sym, ap, ◌∙◌, subst, inl, inr, arith}
 use Rattle.std.proofs.lemmas.Bool.{ltb-true, ltb-false, lt-ltb, le-ltb, eqb-true, eqb-false, ne_eqb}
 use Rattle.std.proofs.lemmas.List.{append-nil, take_at, drop_at, take-append-drop, length-append, length-take, nil_from_length}
 use Rattle.echo_base.specs.declared.reason.Reason.TheVariants as reasons
@@ -7,11 +7,11 @@ use Rattle.echo_base.specs.declared.refusal.Refusal.{Refusal}
 use Rattle.aper_fields.specs.Bits.{zeros, gap}
 use Rattle.aper_fields.specs.Reading.{Input, Read, Gives, ◌>>=◌, refusal, forward, padding_at, length_octets_at, content_at, open_at, end_at, whole_at, contained_at}
 use Rattle.aper_fields.specs.Spelling.{Octets, Open, Holds, Contained, IsExact}
-use Rattle.aper_fields.specs.Format.{Format, IsExactly, padding_in, counting, length_octets_in, open_in, EndRefuses, WholeRefuses, contained_in}
+use Rattle.aper_fields.specs.Format.{Format, IsExactly, padding_in, counting, length_octets_in, open_in, EndRefuses, EndsExactly, WholeRefuses, contained_in}
 use Rattle.aper_fields.proofs.Octet.{input, same_input}
 use Rattle.aper_fields.proofs.Steps.{guard_ok}
 use Rattle.aper_fields.proofs.Exact.{bind_ok, padding_exact, then_exact}
-use Rattle.aper_fields.proofs.Formats.{bind, bind_err, ok_of, ok_err, tested, short, stands_read, padding_exactly, then_exactly, counting_exactly}
+use Rattle.aper_fields.proofs.Formats.{bind, bind_err, ok_of, err_of, err_is, ok_err, tested, short, stands_read, padding_exactly, then_exactly, counting_exactly}
 use Rattle.aper_fields.proofs.ExactPieces.{length_octets_exactly}
 
 -- ---- open types
@@ -129,9 +129,9 @@ end_refused i e h =
     ]
 
 -- what `end` says
-pub end_reads : (r : Result (Unit {0}) Refusal) (i : Input) → Gives r i i (end_at i) → MatchResult r (λ _. i.left ≡ zeros (gap i.offset)) (EndRefuses i)
-end_reads (Ok u) i g = end_is i i u g
-end_reads (Err e) i g = end_wrong i e g.0
+pub end_reads : (r : Result (Unit {0}) Refusal) (i : Input) → Gives r i i (end_at i) → EndsExactly r i
+end_reads (Ok u) i g = (end_is i i u g, λ _. refl, λ e h. absurd (ok_err _ e (sym g ∙ end_refused i e h)))
+end_reads (Err d) i g = (end_wrong i d g.0, λ z. absurd (ok_err _ d (sym (end_again i.offset) ∙ ap (λ bits. end_at (input i.offset bits)) (sym z) ∙ g.0)), λ e h. ap err_of (err_is d e (sym g.0 ∙ end_refused i e h)))
 
 pub whole_wrong : {A : Type 0} (F : Format A) (f : Input → Read A) → IsExactly F f → (c : Input) (e : Refusal) → whole_at f c ≡ Err e → WholeRefuses F c e
 unfolding whole_at

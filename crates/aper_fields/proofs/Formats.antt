@@ -1,5 +1,5 @@
 -- Reading is exact for a format, its refusals too.
-use Rattle.std.proofs.Common.{◌⊎◌, ◌≡◌, ℕ, ◌+◌, ◌*◌, ◌^◌, ◌<◌, Bool, true, false, not, cond, ltb, leb, eqb, List, ◌++◌, length, Result, Ok, Err, refl, sym, ap, ◌∙◌, subst, inl, inr}
+use Rattle.std.proofs.Common.{◌⊎◌, ◌≡◌, ℕ, ◌+◌, ◌*◌, ◌^◌, ◌<◌, Bool, true, false, not, cond, ltb, leb, eqb, List, ◌++◌, length, Result, Ok, Err, IsOkAnd, refl, sym, ap, ◌∙◌, subst, inl, inr}
 use Rattle.std.proofs.lemmas.Bool.{cases_Bool, cases_lt, ltb-true, lt-ltb, le-ltb, lt-leb, le-leb, eqb-false, ne_eqb}
 use Rattle.echo_base.specs.declared.reason.Reason.{Reason}
 use Rattle.echo_base.specs.declared.reason.Reason.TheVariants as reasons
@@ -11,7 +11,7 @@ use Rattle.aper_fields.proofs.BitLaws.{length-bits, number_of-bits, bits-number_
 use Rattle.aper_fields.specs.Reading as reading
 use Rattle.aper_fields.specs.Reading.{Input, Read, refusal, forward, bits_at, padding_at, Gives, GivesBy}
 use Rattle.aper_fields.specs.Spelling.{Piece, IsExact}
-use Rattle.aper_fields.specs.Format.{Format, Stands, bits_in, just, refuse_here, ◌>>=◌, passing, mapped, counting, spelled_as, either, padding_in, Reads, ReadsBy, IsExactly, HasOneReading}
+use Rattle.aper_fields.specs.Format.{Format, Stands, bits_in, just, refuse_here, ◌>>=◌, passing, mapped, counting, spelled_as, either, padding_in, Reads, ReadsBy, ReadsExactly, ReadsExactlyBy, IsExactly, HasOneReading}
 use Rattle.aper_fields.proofs.Octet.{input, same_input}
 use Rattle.aper_fields.proofs.Exact.{bind_ok, bits_exact, padding_exact, then_exact, then_where_exact, done_exact, map_exact, same_exact}
 
@@ -211,13 +211,41 @@ ok_pair x y e = cc
 
 -- ---- what a reader of the code says
 
-pub gives_reads : {A : Type 0} (F : Format A) (f : Input → Read A) (r : Result A Refusal) (old new : Input) → IsExactly F f → Gives r old new (f old) → Reads F r old new
+gives_reads : {A : Type 0} (F : Format A) (f : Input → Read A) (r : Result A Refusal) (old new : Input) → IsExactly F f → Gives r old new (f old) → Reads F r old new
 gives_reads F f (Ok v) old new p g = p.spells.found old new v g
 gives_reads F f (Err e) old new p g = (p.wrong old e g.0, g.1)
 
-pub gives_reads_by : {X A : Type 0} (view : X → A) (F : Format A) (f : Input → Read A) (r : Result X Refusal) (old new : Input) → IsExactly F f → GivesBy view r old new (f old) → ReadsBy view F r old new
+gives_reads_by : {X A : Type 0} (view : X → A) (F : Format A) (f : Input → Read A) (r : Result X Refusal) (old new : Input) → IsExactly F f → GivesBy view r old new (f old) → ReadsBy view F r old new
 gives_reads_by view F f (Ok x) old new p g = p.spells.found old new (view x) g
 gives_reads_by view F f (Err e) old new p g = (p.wrong old e g.0, g.1)
+
+-- what stands here is what was given
+gives_standing : {X A : Type 0} (view : X → A) (F : Format A) (f : Input → Read A) (r : Result X Refusal) (old new : Input) → IsExactly F f → GivesBy view r old new (f old) → (v : A) (j : Input) → Stands F old v j → IsOkAnd r (λ x. view x ≡ v) × (new ≡ j)
+gives_standing view F f (Ok x) old new p g v j h =
+    let e : (view x, new) ≡ (v, j) = ok_pair _ _ (sym g ∙ stands_read F f p.spells old v j h) in
+    (ap (λ (z : _ × Input). z.0) e, ap (λ (z : _ × Input). z.1) e)
+gives_standing view F f (Err d) old new p g v j h = absurd (ok_err _ _ (sym (stands_read F f p.spells old v j h) ∙ g.0))
+
+-- a refusal that is due here was given
+gives_refusal : {X A : Type 0} (view : X → A) (F : Format A) (f : Input → Read A) (r : Result X Refusal) (old new : Input) → IsExactly F f → GivesBy view r old new (f old) → (e : Refusal) → F.Refuses old e → (r ≡ Err e) × (new ≡ old)
+gives_refusal view F f (Ok x) old new p g e h = absurd (ok_err _ _ (sym g ∙ p.refused old e h))
+gives_refusal view F f (Err d) old new p g e h = (ap err_of (err_is d e (sym g.0 ∙ p.refused old e h)), g.1)
+
+pub gives_exactly_by : {X A : Type 0} (view : X → A) (F : Format A) (f : Input → Read A) (r : Result X Refusal) (old new : Input) → IsExactly F f → GivesBy view r old new (f old) → ReadsExactlyBy view F r old new
+gives_exactly_by view F f r old new p g = (gives_reads_by view F f r old new p g, gives_standing view F f r old new p g, gives_refusal view F f r old new p g)
+
+gives_value : {A : Type 0} (r : Result A Refusal) (v : A) → IsOkAnd r (λ x. x ≡ v) → r ≡ Ok v
+gives_value (Ok x) v h = ap ok_of h
+gives_value (Err e) v h = absurd h
+
+gives_plain : {A : Type 0} (r : Result A Refusal) (old new : Input) (read : Read A) → Gives r old new read → GivesBy (λ x. x) r old new read
+gives_plain (Ok x) old new read g = g
+gives_plain (Err e) old new read g = g
+
+pub gives_exactly : {A : Type 0} (F : Format A) (f : Input → Read A) (r : Result A Refusal) (old new : Input) → IsExactly F f → Gives r old new (f old) → ReadsExactly F r old new
+gives_exactly F f r old new p g =
+    let h = gives_plain r old new (f old) g in
+    (gives_reads F f r old new p g, λ v j s. (let x = gives_standing (λ x. x) F f r old new p h v j s in (gives_value r v x.0, x.1)), gives_refusal (λ x. x) F f r old new p h)
 
 -- what two readers gave is the same
 pub one_reading_lem : {A : Type 0} (F : Format A) (f : Input → Read A) → IsExactly F f → HasOneReading F

@@ -1,5 +1,5 @@
 -- Formats: which runs of bits spell a value, and which refusal is due where none stands.
-use Rattle.std.specs.Prelude.{Result, Ok, Err, ◌≡◌, ◌⊎◌, ℕ, ◌+◌, ◌-◌, ◌*◌, ◌/◌, ◌<◌, ◌==◌, nat_lt, nat_le, not, MatchBool, Bool, true, false, List, ◌++◌, length, if◌then◌else◌}
+use Rattle.std.specs.Prelude.{Result, Ok, Err, IsOkAnd, MatchResult, ◌≡◌, ◌⊎◌, ℕ, ◌+◌, ◌-◌, ◌*◌, ◌/◌, ◌<◌, ◌==◌, nat_lt, nat_le, not, MatchBool, Bool, true, false, List, ◌++◌, length, if◌then◌else◌}
 use Rattle.std.specs.Int.{div_ceil}
 use Rattle.echo_base.specs.declared.reason.Reason.{Reason}
 use Rattle.echo_base.specs.declared.reason.Reason.TheVariants as reasons
@@ -27,6 +27,14 @@ Reads F (Err e) old new = F.Refuses old e × (new ≡ old)
 abbrev pub ReadsBy : {X A : Type 0} → (X → A) → Format A → Result X Refusal → Input → Input → Type 0
 ReadsBy view F (Ok v) old new = Stands F old (view v) new
 ReadsBy view F (Err e) old new = F.Refuses old e × (new ≡ old)
+
+-- Exactly that: what a reader gave reads so, and what stands here was given, and a refusal that is due here.
+abbrev pub ReadsExactly : {A : Type 0} → Format A → Result A Refusal → Input → Input → Type 0
+ReadsExactly F result old new = Reads F result old new × ((v : _) (j : Input) → Stands F old v j → (result ≡ Ok v) × (new ≡ j)) × ((e : Refusal) → F.Refuses old e → (result ≡ Err e) × (new ≡ old))
+
+-- the same where view says what is seen of the value
+abbrev pub ReadsExactlyBy : {X A : Type 0} → (X → A) → Format A → Result X Refusal → Input → Input → Type 0
+ReadsExactlyBy view F result old new = ReadsBy view F result old new × ((v : _) (j : Input) → Stands F old v j → IsOkAnd result (λ x. view x ≡ v) × (new ≡ j)) × ((e : Refusal) → F.Refuses old e → (result ≡ Err e) × (new ≡ old))
 
 -- what reading gives is what the format says: its values, and its refusals
 pub record IsExactly {A : Type 0} (F : Format A) (read : Input → Read A) : Type 0 where
@@ -173,6 +181,10 @@ open_in = padding_in >>= λ _. counting length_octets_in Octets
 -- the end of a container is refused where its padding is, or for octets behind it
 abbrev pub EndRefuses : Input → Refusal → Type 0
 EndRefuses i e = padding_in.Refuses i e ⊎ ((u : Unit {0}) × (j : Input) × Stands padding_in i u j × (0 < length j.left) × (e ≡ refusal reasons.TrailingBytes j))
+
+-- what the end of a container gives exactly: Ok where only zeros up to the next octet are left, else the refusal that is due
+abbrev pub EndsExactly : Result (Unit {0}) Refusal → Input → Type 0
+EndsExactly result i = MatchResult result (λ _. i.left ≡ zeros (gap i.offset)) (EndRefuses i) × (i.left ≡ zeros (gap i.offset) → result ≡ Ok tt) × ((e : Refusal) → EndRefuses i e → result ≡ Err e)
 
 -- a container is refused where its value is, or where it does not end behind it
 abbrev pub WholeRefuses : {A : Type 0} → Format A → Input → Refusal → Type 0

@@ -3,7 +3,7 @@
 ghost use Rattle.std.specs.Prelude.{◌≡◌, ◌-◌, ◌^◌, ◌<◌, ◌≤◌, IfOk, OnOk, OnErr};
 ghost use Rattle.aper_fields.specs.Run.{then_written, number_run};
 ghost use Rattle.aper_fields.specs.Reading.{Gives, number_at};
-ghost use Rattle.aper_fields.specs.Format.{Reads, number_in};
+ghost use Rattle.aper_fields.specs.Format.{ReadsExactly, number_in};
 
 use crate::reader::BitReader;
 use crate::reading::read_number;
@@ -24,7 +24,7 @@ impl<const LOW: u64, const HIGH: u64> Ranged<LOW, HIGH> {
         requires order { LOW ≤ HIGH }
         requires small { HIGH < 2 ^ 63 }
         ensures read { Gives result r.old r.new (number_at LOW (HIGH - LOW) r.old) }
-        ensures exact { Reads (number_in LOW (HIGH - LOW)) result r.old r.new }
+        ensures exact { ReadsExactly (number_in LOW (HIGH - LOW)) result r.old r.new }
         ensures within { IfOk result (λ v. (LOW ≤ v) × (v ≤ HIGH)) }
     {
         read_number(r, LOW, HIGH - LOW)

@@ -1,11 +1,11 @@
 //! Reading the pieces: each function moves the reader behind what it read, and leaves it where it was after a
 //! refusal, which says why and at which octet of the PDU.
 
-ghost use Rattle.std.specs.Prelude.{◌≡◌, ◌+◌, ◌-◌, ◌*◌, ◌^◌, ◌<◌, ◌≤◌, IfOk, OnOk, MatchResult, length, true, false};
-ghost use Rattle.aper_fields.specs.Bits.{zeros, gap};
+ghost use Rattle.std.specs.Prelude.{◌≡◌, ◌+◌, ◌-◌, ◌*◌, ◌^◌, ◌<◌, ◌≤◌, IfOk, OnOk, length, true, false};
+ghost use Rattle.aper_fields.specs.Bits.{gap};
 ghost use Rattle.aper_fields.specs.Reading.{Gives, GivesBy, width, within_at, counted_at, number_at, length_octets_at, length_at, fixed_octets_at, octet_string_at, fixed_bits_at, root_at, extended_at, enumerated_at, open_at, end_at};
 ghost use Rattle.aper_fields.specs.Spelling.{IsEnumValue};
-ghost use Rattle.aper_fields.specs.Format.{Reads, ReadsBy, length_in, fixed_octets_in, octet_string_in, fixed_bits_in, enumerated_in, open_in, EndRefuses};
+ghost use Rattle.aper_fields.specs.Format.{ReadsExactly, ReadsExactlyBy, length_in, fixed_octets_in, octet_string_in, fixed_bits_in, enumerated_in, open_in, EndsExactly};
 
 use crate::enumerated::EnumValue;
 use crate::reader::BitReader;
@@ -109,7 +109,7 @@ fn length_octets(r: &mut BitReader) -> Result<usize, Refusal>
 #[tactic(auto, unfolding(crate::specs::Reading::length_at))]
 pub fn read_len(r: &mut BitReader) -> Result<usize, Refusal>
     ensures read { Gives result r.old r.new (length_at r.old) }
-    ensures exact { Reads length_in result r.old r.new }
+    ensures exact { ReadsExactly length_in result r.old r.new }
     ensures small { IfOk result (λ n. n < 2 ^ 14) }
 {
     let mut ahead = r.ahead();
@@ -125,7 +125,7 @@ pub fn read_len(r: &mut BitReader) -> Result<usize, Refusal>
 pub fn read_octets_fixed<'a>(r: &mut BitReader<'a>, n: usize) -> Result<&'a [u8], Refusal>
     requires { 2 < n }
     ensures read { GivesBy (λ x. x.now) result r.old r.new (fixed_octets_at n r.old) }
-    ensures exact { ReadsBy (λ x. x.now) (fixed_octets_in n) result r.old r.new }
+    ensures exact { ReadsExactlyBy (λ x. x.now) (fixed_octets_in n) result r.old r.new }
     ensures len { IfOk result (λ octets. length octets.now ≡ n) }
 {
     let mut ahead = r.ahead();
@@ -141,7 +141,7 @@ pub fn read_octets_fixed<'a>(r: &mut BitReader<'a>, n: usize) -> Result<&'a [u8]
 #[tactic(auto, unfolding(crate::specs::Reading::octet_string_at))]
 pub fn read_octet_string<'a>(r: &mut BitReader<'a>, most: usize) -> Result<&'a [u8], Refusal>
     ensures read { GivesBy (λ x. x.now) result r.old r.new (octet_string_at most r.old) }
-    ensures exact { ReadsBy (λ x. x.now) (octet_string_in most) result r.old r.new }
+    ensures exact { ReadsExactlyBy (λ x. x.now) (octet_string_in most) result r.old r.new }
     ensures len { IfOk result (λ octets. (length octets.now ≤ most) × (length octets.now < 2 ^ 14)) }
 {
     let mut ahead = r.ahead();
@@ -163,7 +163,7 @@ pub fn read_bits_fixed(r: &mut BitReader, n: u32) -> Result<u64, Refusal>
     requires some { 1 ≤ n }
     requires most { n ≤ 64 }
     ensures read { Gives result r.old r.new (fixed_bits_at n r.old) }
-    ensures exact { Reads (fixed_bits_in n) result r.old r.new }
+    ensures exact { ReadsExactly (fixed_bits_in n) result r.old r.new }
     ensures fits { IfOk result (λ v. v < 2 ^ n) }
 {
     if n <= 16 {
@@ -215,7 +215,7 @@ pub fn read_enum(r: &mut BitReader, roots: u32, extensible: bool) -> Result<Enum
     requires some { 1 ≤ roots }
     requires most { roots ≤ 64 }
     ensures read { Gives result r.old r.new (enumerated_at roots extensible r.old) }
-    ensures exact { Reads (enumerated_in roots extensible) result r.old r.new }
+    ensures exact { ReadsExactly (enumerated_in roots extensible) result r.old r.new }
     ensures fits { IfOk result (IsEnumValue roots extensible) }
 {
     if !extensible {
@@ -236,7 +236,7 @@ pub fn read_enum(r: &mut BitReader, roots: u32, extensible: bool) -> Result<Enum
 #[tactic(auto, unfolding(crate::specs::Reading::open_at, crate::specs::Reading::content_at))]
 pub fn read_open<'a>(r: &mut BitReader<'a>) -> Result<BitReader<'a>, Refusal>
     ensures read { Gives result r.old r.new (open_at r.old) }
-    ensures exact { Reads open_in result r.old r.new }
+    ensures exact { ReadsExactly open_in result r.old r.new }
 {
     let mut ahead = r.ahead();
     ahead.align()?;
@@ -254,7 +254,7 @@ pub fn read_open<'a>(r: &mut BitReader<'a>) -> Result<BitReader<'a>, Refusal>
 #[tactic(auto, unfolding(crate::specs::Reading::end_at))]
 pub fn end(r: &BitReader) -> Result<(), Refusal>
     ensures read { Gives result r.now r.now (end_at r.now) }
-    ensures exact { MatchResult result (λ _. r.now.left ≡ zeros (gap r.now.offset)) (EndRefuses r.now) }
+    ensures exact { EndsExactly result r.now }
 {
     let mut ahead = r.ahead();
     ahead.align()?;
