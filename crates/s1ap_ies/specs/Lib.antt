@@ -1,0 +1,5 @@
+pub mod Reading
+pub mod Grammar
+pub mod Run
+pub mod Memory
+pub mod Tables

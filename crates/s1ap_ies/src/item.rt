@@ -1,0 +1,55 @@
+//! The items of lists.
+
+ghost use Rattle.std.specs.Prelude.{◌≡◌, ◌≤◌, ◌<◌, ◌*◌, ◌^◌, length, OnOk};
+ghost use Rattle.aper_fields.specs.Reading.{Gives};
+ghost use Rattle.aper_fields.specs.Format.{ReadsExactly};
+ghost use Rattle.aper_fields.specs.Run.{content_of, then_written};
+ghost use Rattle.s1ap_ies.specs.Reading.{item_at};
+ghost use Rattle.s1ap_ies.specs.Grammar.{item_in};
+ghost use Rattle.s1ap_ies.specs.Run.{item_run};
+
+use crate::sequence::read_criticality;
+use aper_fields::{BitReader, BitWriter, Ranged, read_open, write_bits_fixed, write_open};
+use echo_base::{OutOfMemory, Reason, Refusal};
+
+/// Reads the id of an item, its criticality, and up to what it contains.
+#[tactic(auto, unfolding(crate::specs::Reading::item_at))]
+fn read_fields<'a>(r: &mut BitReader<'a>, id: u16) -> Result<BitReader<'a>, Refusal>
+    ensures { Gives result r.old r.new (item_at id r.old) }
+{
+    let mut ahead = r.ahead();
+    if Ranged::<0, 65535>::read(&mut ahead)? != u64::from(id) {
+        return Err(r.refusal(Reason::MissingIe(id)));
+    }
+    read_criticality(&mut ahead)?;
+    let content = read_open(&mut ahead)?;
+    *r = ahead;
+    Ok(content)
+}
+
+/// Reads an item of the list whose items have that id, up to what it contains, which is a container of its own
+/// (TS 36.413, 9.1.4.1 and 9.1.4.3). It is refused for the first piece that is wrong: MissingIe with that id, at the
+/// id, where it has another; BadCriticality; as an open type is refused.
+pub fn read_item<'a>(r: &mut BitReader<'a>, id: u16) -> Result<BitReader<'a>, Refusal>
+    ensures read { Gives result r.old r.new (item_at id r.old) }
+    ensures exact { ReadsExactly (item_in id) result r.old r.new }
+{
+    read_fields(r, id)
+}
+
+/// Writes an item with its id, its criticality (0 reject, 1 ignore, 2 notify) and what it contains.
+#[tactic(auto, unfolding(crate::specs::Run::item_run))]
+pub fn write_item(
+    w: &mut BitWriter,
+    id: u16,
+    criticality: u8,
+    body: &BitWriter,
+) -> Result<(), OutOfMemory>
+    requires criticality { criticality ≤ 2 }
+    requires short { length (content_of body.now) < 8 * 2 ^ 14 }
+    ensures ok { OnOk result (w.new ≡ then_written w.old (item_run id criticality body.now)) }
+{
+    Ranged::<0, 65535>::write(w, u64::from(id))?;
+    write_bits_fixed(w, u64::from(criticality), 2)?;
+    write_open(w, body)
+}

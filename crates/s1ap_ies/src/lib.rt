@@ -1,0 +1,37 @@
+//! The values of S1AP IEs (3GPP TS 36.413, 9.2), each read exactly, refusals included, and written in one way; and which
+//! IEs each message has (9.1).
+#![tactic(auto)]
+
+mod bearer;
+#[cfg(test)]
+mod bearer_tests;
+mod bit_rates;
+mod cause;
+mod cgi;
+mod erab_done;
+mod erab_to_setup;
+mod item;
+mod laws;
+mod sec_caps;
+mod sequence;
+mod stmsi;
+mod tables;
+#[cfg(test)]
+mod tables_tests;
+mod tai;
+#[cfg(test)]
+mod tests;
+mod ue_ids;
+
+pub use bit_rates::BitRates;
+pub use cause::Cause;
+pub use cgi::Cgi;
+pub use erab_done::ErabDone;
+pub use erab_to_setup::ErabToSetup;
+pub use item::{read_item, write_item};
+pub use laws::written_is_spelled;
+pub use sec_caps::SecCaps;
+pub use stmsi::Stmsi;
+pub use tables::{IeRow, IeTable, MessageKind, ies_of};
+pub use tai::Tai;
+pub use ue_ids::UeIds;

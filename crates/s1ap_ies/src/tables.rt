@@ -1,0 +1,128 @@
+//! The information elements of each kind of message, in order (3GPP TS 36.413, 9.1).
+ghost use Rattle.std.specs.Prelude.{◌≡◌, ◌-◌, ◌++◌, map, length, replicate, eqb};
+ghost use Rattle.std.specs.List.{IsDistinct};
+ghost use Rattle.s1ap_ies.specs.Tables.{reject, ignore, optional, no_row, rows_of};
+
+/// A kind of message (3GPP TS 36.413, 9.1).
+#[derive(Clone, Copy, Debug, PartialEq, Eq)]
+pub enum MessageKind {
+    /// INITIAL UE MESSAGE (9.1.7.1).
+    InitialUeMessage,
+    /// UPLINK NAS TRANSPORT (9.1.7.3).
+    UplinkNasTransport,
+    /// DOWNLINK NAS TRANSPORT (9.1.7.2).
+    DownlinkNasTransport,
+    /// INITIAL CONTEXT SETUP REQUEST (9.1.4.1).
+    InitialContextSetupRequest,
+    /// INITIAL CONTEXT SETUP RESPONSE (9.1.4.3).
+    InitialContextSetupResponse,
+    /// INITIAL CONTEXT SETUP FAILURE (9.1.4.4).
+    InitialContextSetupFailure,
+    /// UE CONTEXT RELEASE REQUEST (9.1.4.5).
+    UeContextReleaseRequest,
+    /// UE CONTEXT RELEASE COMMAND (9.1.4.6).
+    UeContextReleaseCommand,
+    /// UE CONTEXT RELEASE COMPLETE (9.1.4.7).
+    UeContextReleaseComplete,
+    /// UE CAPABILITY INFO INDICATION (9.1.10).
+    UeCapabilityInfoIndication,
+}
+
+/// An information element that a message has.
+#[derive(Clone, Copy, Debug, PartialEq, Eq)]
+pub struct IeRow {
+    /// Its id.
+    pub id: u16,
+    /// Its criticality: 0 reject, 1 ignore, 2 notify.
+    pub criticality: u8,
+    /// Whether each message of the kind must have it.
+    pub needed: bool,
+}
+
+/// The information elements of a kind of message.
+#[derive(Clone, Copy, Debug, PartialEq, Eq)]
+pub struct IeTable {
+    /// The elements in order, and behind them rows of zeros.
+    pub rows: [IeRow; 6],
+    /// How many elements there are.
+    pub len: usize,
+}
+
+/// A needed element, whose criticality is reject.
+const fn reject(id: u16) -> IeRow
+    ensures { result ≡ reject id }
+{
+    IeRow {
+        id,
+        criticality: 0,
+        needed: true,
+    }
+}
+
+/// A needed element, whose criticality is ignore.
+const fn ignore(id: u16) -> IeRow
+    ensures { result ≡ ignore id }
+{
+    IeRow {
+        id,
+        criticality: 1,
+        needed: true,
+    }
+}
+
+/// An element that may be absent, whose criticality is reject.
+const fn optional(id: u16) -> IeRow
+    ensures { result ≡ optional id }
+{
+    IeRow {
+        id,
+        criticality: 0,
+        needed: false,
+    }
+}
+
+/// The row behind the last element.
+const NO_ROW: IeRow = IeRow {
+    id: 0,
+    criticality: 0,
+    needed: false,
+};
+
+/// The table of two to six rows.
+macro_rules! table {
+    ($a:expr, $b:expr) => {
+        IeTable { rows: [$a, $b, NO_ROW, NO_ROW, NO_ROW, NO_ROW], len: 2 }
+    };
+    ($a:expr, $b:expr, $c:expr) => {
+        IeTable { rows: [$a, $b, $c, NO_ROW, NO_ROW, NO_ROW], len: 3 }
+    };
+    ($a:expr, $b:expr, $c:expr, $d:expr, $e:expr) => {
+        IeTable { rows: [$a, $b, $c, $d, $e, NO_ROW], len: 5 }
+    };
+    ($a:expr, $b:expr, $c:expr, $d:expr, $e:expr, $f:expr) => {
+        IeTable { rows: [$a, $b, $c, $d, $e, $f], len: 6 }
+    };
+}
+
+/// The information elements of that kind of message.
+#[tactic(auto, using(crate::proofs::Distinct::ids_distinct))]
+#[rattlefmt::skip]
+pub fn ies_of(kind: MessageKind) -> IeTable
+    ensures len { result.len ≡ length (rows_of kind) }
+    ensures rows { result.rows ≡ rows_of kind ++ replicate (6 - length (rows_of kind)) no_row }
+    ensures distinct { IsDistinct eqb (map (λ row. row.id) (rows_of kind)) }
+{
+    use MessageKind::*;
+    match kind {
+        InitialUeMessage => table!(reject(8), reject(26), reject(67), ignore(100), ignore(134), optional(96)),
+        UplinkNasTransport => table!(reject(0), reject(8), reject(26), ignore(100), ignore(67)),
+        DownlinkNasTransport => table!(reject(0), reject(8), reject(26)),
+        InitialContextSetupRequest => table!(reject(0), reject(8), reject(66), reject(24), reject(107), reject(73)),
+        InitialContextSetupResponse => table!(ignore(0), ignore(8), ignore(51)),
+        InitialContextSetupFailure => table!(ignore(0), ignore(8), ignore(2)),
+        UeContextReleaseRequest => table!(reject(0), reject(8), ignore(2)),
+        UeContextReleaseCommand => table!(reject(99), ignore(2)),
+        UeContextReleaseComplete => table!(ignore(0), ignore(8)),
+        UeCapabilityInfoIndication => table!(reject(0), reject(8), ignore(74)),
+    }
+}
