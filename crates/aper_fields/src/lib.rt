@@ -20,7 +20,7 @@ pub use reader::BitReader;
 pub use reading::{
     end, read_bits_fixed, read_enum, read_len, read_octet_string, read_octets_fixed, read_open,
 };
-pub use writer::BitWriter;
+pub use writer::{BitWriter, Mark};
 pub use writing::{
     write_bits_fixed, write_enum, write_len, write_octet_string, write_octets_fixed, write_open,
 };

@@ -30,7 +30,7 @@ impl Model for BitWriter {
 
 /// A place in what was written: how many bits stand before it.
 #[derive(Drop)]
-pub(crate) struct Mark {
+pub struct Mark {
     octets: usize,
     free: u32,
 }
@@ -184,8 +184,8 @@ impl BitWriter {
         Ok(())
     }
 
-    /// Where the bits end.
-    pub(crate) fn mark(&self) -> Mark
+    /// The place where the bits end now.
+    pub fn mark(&self) -> Mark
         ensures { result ≡ length self.now }
     {
         Mark {
@@ -194,8 +194,9 @@ impl BitWriter {
         }
     }
 
-    /// Takes back what was written behind a mark.
-    pub(crate) fn back_to(&mut self, mark: Mark)
+    /// Takes back what was written behind a mark, so that the bits end there again: for several pieces of which one may
+    /// find no memory.
+    pub fn back_to(&mut self, mark: Mark)
         requires { mark ≤ length self.old }
         ensures { self.new ≡ take mark self.old }
     {

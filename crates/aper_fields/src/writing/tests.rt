@@ -121,3 +121,15 @@ fn contents(rt: HostRuntime) -> Result<(), Fail> {
     );
     Ok(())
 }
+
+#[test]
+fn taken_back(rt: HostRuntime) -> Result<(), Fail> {
+    let mut w = BitWriter::new(rt.alloc());
+    write_bits_fixed(&mut w, 0b101, 3)?;
+    let mark = w.mark();
+    write_bits_fixed(&mut w, 0xffff, 16)?;
+    w.back_to(mark);
+    write_bits_fixed(&mut w, 1, 1)?;
+    assert_eq!(rt; w.bytes(), b"\xb0".as_slice());
+    Ok(())
+}
