@@ -20,7 +20,7 @@ use Rattle.s1ap_ies.specs.Grammar.{zero_bit_in, preamble_in, criticality_in, ent
 behind : {A B : Type 0} (F : Format A) (f : Reader A) (G : A → Format B) (g : A → Reader B) → IsExactly F f → ((a : A) → IsExactly (G a) (g a)) → IsExactly (F >>= G) (reading.◌>>=◌ f g)
 behind F f G g p q = then_exactly F f G g p q
 
-zero_bit_exactly : (reason : Reason) → IsExactly (zero_bit_in reason) (zero_bit_at reason)
+pub zero_bit_exactly : (reason : Reason) → IsExactly (zero_bit_in reason) (zero_bit_at reason)
 unfolding zero_bit_in zero_bit_at
 zero_bit_exactly reason = passing_exactly (λ bit. eqb bit 0) reason (fixed_bits_in 1) _ (fixed_bits_exactly 1)
 
@@ -28,7 +28,7 @@ preamble_exactly : IsExactly preamble_in preamble_at
 unfolding preamble_in preamble_at
 preamble_exactly = behind _ _ _ _ (zero_bit_exactly reasons.SequenceExtension) (λ extension. behind _ _ _ _ (fixed_bits_exactly 1) (λ present. just_exactly _))
 
-criticality_exactly : IsExactly criticality_in criticality_at
+pub criticality_exactly : IsExactly criticality_in criticality_at
 unfolding criticality_in criticality_at
 criticality_exactly = passing_exactly (λ c. leb c 2) reasons.BadCriticality (fixed_bits_in 2) _ (fixed_bits_exactly 2)
 
@@ -69,7 +69,7 @@ pub sec_caps_exactly : IsExactly sec_caps_in sec_caps_at
 unfolding sec_caps_in sec_caps_at
 sec_caps_exactly = behind _ _ _ _ preamble_exactly (λ more. behind _ _ _ _ algorithms_exactly (λ eea. behind _ _ _ _ algorithms_exactly (λ eia. behind _ _ _ _ (extensions_exactly more) (λ end. just_exactly _))))
 
-choice_exactly : (roots n : ℕ) → IsExactly (choice_in roots n) (choice_at roots n)
+pub choice_exactly : (roots n : ℕ) → IsExactly (choice_in roots n) (choice_at roots n)
 unfolding choice_in choice_at
 choice_exactly roots n = behind _ _ _ _ (zero_bit_exactly reasons.BadChoice) (λ extension. passing_exactly (λ index. ltb index roots) reasons.BadChoice (fixed_bits_in n) _ (fixed_bits_exactly n))
 

@@ -1,3 +1,4 @@
 pub mod Exact
 pub mod Spelled
 pub mod Distinct
+pub mod Ranges

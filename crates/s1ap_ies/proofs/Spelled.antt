@@ -82,15 +82,15 @@ pub sec_caps_spelled : (v : SecCaps) → IsSecCaps v → IsSpelledBy sec_caps_in
 unfolding sec_caps_in sec_caps_run
 sec_caps_spelled v fits = record { everywhere = λ at. (false, _, _, refl, preamble.everywhere at, (v.eea, _, _, refl, (algorithms v.eea fits.0).everywhere _, (v.eia, _, [], sym (append-nil _), (algorithms v.eia fits.1).everywhere _, ended v _))) }
 
-choice : (roots n index : ℕ) → index < roots → index < 2 ^ n → IsSpelledBy (choice_in roots n) index (choice_run n index)
+pub choice_spelled : (roots n index : ℕ) → index < roots → index < 2 ^ n → IsSpelledBy (choice_in roots n) index (choice_run n index)
 unfolding choice_in
-choice roots n index some small = next _ _ _ _ _ _ (zero_bit reasons.BadChoice) (passed (λ index. ltb index roots) reasons.BadChoice (fixed_bits_in n) index (fixed_bits_run n index) (lt-ltb _ _ some) (size n index small))
+choice_spelled roots n index some small = next _ _ _ _ _ _ (zero_bit reasons.BadChoice) (passed (λ index. ltb index roots) reasons.BadChoice (fixed_bits_in n) index (fixed_bits_run n index) (lt-ltb _ _ some) (size n index small))
 
 pub cause_spelled : (v : Cause) → IsCause v → IsSpelledBy cause_in v (cause_run v)
 unfolding cause_in cause_run
 cause_spelled v fits =
     let cause : IsSpelledBy (enumerated_in (cause_roots v.group) true) (cause_value v) (enumerated_run (cause_roots v.group) true (cause_value v)) = record { everywhere = λ at. (fits.1, refl) } in
-    record { everywhere = λ at. (v.group, _, _, refl, (choice 5 3 v.group fits.0 (omega (arith, fits.0))).everywhere at, (cause_value v, _, [], sym (append-nil _), cause.everywhere _, (refl, refl))) }
+    record { everywhere = λ at. (v.group, _, _, refl, (choice_spelled 5 3 v.group fits.0 (omega (arith, fits.0))).everywhere at, (cause_value v, _, [], sym (append-nil _), cause.everywhere _, (refl, refl))) }
 
 id_pair : (mme enb : ℕ) → mme < 2 ^ 32 → enb < 2 ^ 24 → IsSpelledBy id_pair_in (Pair mme enb) (preamble_run ▸ number_run 0 4294967295 mme ▸ number_run 0 16777215 enb)
 unfolding id_pair_in
@@ -108,8 +108,8 @@ second F G a f p = record { everywhere = p.everywhere }
 
 pub ue_ids_spelled : (v : UeIds) → IsUeIds v → IsSpelledBy ue_ids_in v (ue_ids_run v)
 unfolding ue_ids_in ue_ids_run
-ue_ids_spelled (Pair mme enb) fits = two _ (λ kind. either (eqb kind 0) id_pair_in mme_alone_in) _ _ 0 _ (choice 2 1 0 (omega arith) (omega arith)) (first id_pair_in mme_alone_in _ _ (id_pair mme enb fits.0 fits.1))
-ue_ids_spelled (Mme mme) fits = two _ (λ kind. either (eqb kind 0) id_pair_in mme_alone_in) _ _ 1 _ (choice 2 1 1 (omega arith) (omega arith)) (second id_pair_in mme_alone_in _ _ (mme_alone mme fits))
+ue_ids_spelled (Pair mme enb) fits = two _ (λ kind. either (eqb kind 0) id_pair_in mme_alone_in) _ _ 0 _ (choice_spelled 2 1 0 (omega arith) (omega arith)) (first id_pair_in mme_alone_in _ _ (id_pair mme enb fits.0 fits.1))
+ue_ids_spelled (Mme mme) fits = two _ (λ kind. either (eqb kind 0) id_pair_in mme_alone_in) _ _ 1 _ (choice_spelled 2 1 1 (omega arith) (omega arith)) (second id_pair_in mme_alone_in _ _ (mme_alone mme fits))
 
 erab_id : (id : ℕ) → id < 16 → IsSpelledBy erab_id_in id (erab_id_run id)
 unfolding erab_id_in erab_id_run

@@ -3,3 +3,4 @@ pub mod Grammar
 pub mod Run
 pub mod Memory
 pub mod Tables
+pub mod Kept

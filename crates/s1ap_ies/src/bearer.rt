@@ -1,14 +1,14 @@
 //! The pieces of E-RAB items.
 
-ghost use Rattle.std.specs.Prelude.{◌≡◌, ◌<◌, ◌^◌, IfOk, OnOk};
+ghost use Rattle.std.specs.Prelude.{◌≡◌, ◌<◌, ◌^◌, IfOk, OnOk, OnErr};
 ghost use Rattle.aper_fields.specs.Reading.{Gives};
-ghost use Rattle.aper_fields.specs.Run.{then_written};
+ghost use Rattle.aper_fields.specs.Run.{then_written, ◌▸◌, fixed_bits_run};
 ghost use Rattle.s1ap_ies.specs.Reading.{erab_id_at, address_at, arp_at, qos_at};
-ghost use Rattle.s1ap_ies.specs.Run.{erab_id_run, address_run, qos_run};
+ghost use Rattle.s1ap_ies.specs.Kept.{Keeps};
+ghost use Rattle.s1ap_ies.specs.Run.{preamble_run, erab_id_run, address_run, qos_run};
 
-use crate::sequence::{
-    read_preamble, read_present, read_zero_bit, skip_extensions, write_preamble,
-};
+use crate::pieces::read_zero_bit;
+use crate::sequence::{read_preamble, read_present, skip_extensions, write_preamble};
 use aper_fields::{BitReader, BitWriter, Ranged, read_bits_fixed, write_bits_fixed};
 use echo_base::{OutOfMemory, Reason, Refusal};
 
@@ -29,7 +29,8 @@ pub fn read_erab_id(r: &mut BitReader) -> Result<u64, Refusal>
 #[tactic(auto, unfolding(crate::specs::Run::erab_id_run))]
 pub fn write_erab_id(w: &mut BitWriter, id: u8) -> Result<(), OutOfMemory>
     requires { id < 16 }
-    ensures { OnOk result (w.new ≡ then_written w.old (erab_id_run id)) }
+    ensures ok { OnOk result (w.new ≡ then_written w.old (erab_id_run id)) }
+    ensures kept { OnErr result (Keeps w.old w.new) }
 {
     write_bits_fixed(w, 0, 1)?;
     Ranged::<0, 15>::write(w, u64::from(id))
@@ -55,7 +56,8 @@ pub fn read_address(r: &mut BitReader) -> Result<u64, Refusal>
 /// Writes an IPv4 address as a transport layer address.
 #[tactic(auto, unfolding(crate::specs::Run::address_run))]
 pub fn write_address(w: &mut BitWriter, address: u32) -> Result<(), OutOfMemory>
-    ensures { OnOk result (w.new ≡ then_written w.old (address_run address)) }
+    ensures ok { OnOk result (w.new ≡ then_written w.old (address_run address)) }
+    ensures kept { OnErr result (Keeps w.old w.new) }
 {
     write_bits_fixed(w, 0, 1)?;
     Ranged::<1, 160>::write(w, 32)?;
@@ -85,6 +87,16 @@ fn read_arp(r: &mut BitReader) -> Result<u64, Refusal>
     Ok(arp)
 }
 
+/// Writes an allocation and retention priority.
+fn write_arp(w: &mut BitWriter, arp: u8) -> Result<(), OutOfMemory>
+    requires { arp < 2 ^ 6 }
+    ensures ok { OnOk result (w.new ≡ then_written w.old (preamble_run ▸ fixed_bits_run 6 arp)) }
+    ensures kept { OnErr result (Keeps w.old w.new) }
+{
+    write_preamble(w)?;
+    write_bits_fixed(w, u64::from(arp), 6)
+}
+
 /// Reads the QoS of an E-RAB without a guaranteed bit rate.
 #[tactic(auto, unfolding(crate::specs::Reading::qos_at))]
 pub fn read_qos(r: &mut BitReader) -> Result<Qos, Refusal>
@@ -108,12 +120,12 @@ pub fn read_qos(r: &mut BitReader) -> Result<Qos, Refusal>
 #[tactic(auto, unfolding(crate::specs::Run::qos_run))]
 pub fn write_qos(w: &mut BitWriter, qci: u8, arp: u8) -> Result<(), OutOfMemory>
     requires { arp < 2 ^ 6 }
-    ensures { OnOk result (w.new ≡ then_written w.old (qos_run qci arp)) }
+    ensures ok { OnOk result (w.new ≡ then_written w.old (qos_run qci arp)) }
+    ensures kept { OnErr result (Keeps w.old w.new) }
 {
     write_bits_fixed(w, 0, 1)?;
     write_bits_fixed(w, 0, 1)?;
     write_bits_fixed(w, 0, 1)?;
     Ranged::<0, 255>::write(w, u64::from(qci))?;
-    write_preamble(w)?;
-    write_bits_fixed(w, u64::from(arp), 6)
+    write_arp(w, arp)
 }

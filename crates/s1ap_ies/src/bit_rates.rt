@@ -1,11 +1,12 @@
 //! Bit rates.
 
-ghost use Rattle.std.specs.Prelude.{◌≡◌, OnOk, ◌≤◌};
+ghost use Rattle.std.specs.Prelude.{◌≡◌, OnOk, OnErr, ◌≤◌};
 ghost use Rattle.aper_fields.specs.Reading.{Gives};
 ghost use Rattle.aper_fields.specs.Format.{ReadsExactly};
 ghost use Rattle.aper_fields.specs.Run.{then_written};
 ghost use Rattle.s1ap_ies.specs.Reading.{bit_rates_at};
 ghost use Rattle.s1ap_ies.specs.Grammar.{bit_rates_in};
+ghost use Rattle.s1ap_ies.specs.Kept.{Keeps};
 ghost use Rattle.s1ap_ies.specs.Run.{IsBitRates, bit_rates_run};
 
 use crate::sequence::{read_preamble, skip_extensions, write_preamble};
@@ -35,6 +36,18 @@ fn read_fields(r: &mut BitReader) -> Result<BitRates, Refusal>
     Ok(BitRates { dl, ul })
 }
 
+/// Writes the fields.
+#[tactic(auto, unfolding(crate::specs::Run::bit_rates_run))]
+fn write_fields(w: &mut BitWriter, rates: &BitRates) -> Result<(), OutOfMemory>
+    requires { IsBitRates rates.now }
+    ensures ok { OnOk result (w.new ≡ then_written w.old (bit_rates_run rates.now)) }
+    ensures kept { OnErr result (Keeps w.old w.new) }
+{
+    write_preamble(w)?;
+    Ranged::<0, 10000000000>::write(w, rates.dl)?;
+    Ranged::<0, 10000000000>::write(w, rates.ul)
+}
+
 impl BitRates {
     /// Reads the value. It is refused for the first piece that is wrong: Truncated, NonZeroPadding, SequenceExtension
     /// where its extension bit is 1, NotMinimal and OutOfRange at a rate; in its iE-Extensions LongLength, TooLong,
@@ -46,14 +59,17 @@ impl BitRates {
         read_fields(r)
     }
 
-    /// Writes the value, without iE-Extensions.
-    #[tactic(auto, unfolding(crate::specs::Run::bit_rates_run))]
+    /// Writes the value, without iE-Extensions. Where memory runs out, nothing is written.
     pub fn write(&self, w: &mut BitWriter) -> Result<(), OutOfMemory>
         requires { IsBitRates self.now }
         ensures ok { OnOk result (w.new ≡ then_written w.old (bit_rates_run self.now)) }
+        ensures err { OnErr result (w.new ≡ w.old) }
     {
-        write_preamble(w)?;
-        Ranged::<0, 10000000000>::write(w, self.dl)?;
-        Ranged::<0, 10000000000>::write(w, self.ul)
+        let mark = w.mark();
+        if let Err(error) = write_fields(w, self) {
+            w.back_to(mark);
+            return Err(error);
+        }
+        Ok(())
     }
 }

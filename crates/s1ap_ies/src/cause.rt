@@ -1,14 +1,15 @@
 //! Causes.
 
-ghost use Rattle.std.specs.Prelude.{◌≡◌, OnOk, ◌≤◌, ◌<◌};
+ghost use Rattle.std.specs.Prelude.{◌≡◌, OnOk, OnErr, ◌≤◌, ◌<◌};
 ghost use Rattle.aper_fields.specs.Reading.{Gives};
 ghost use Rattle.aper_fields.specs.Format.{ReadsExactly};
 ghost use Rattle.aper_fields.specs.Run.{then_written};
 ghost use Rattle.s1ap_ies.specs.Reading.{cause_roots, cause_at};
 ghost use Rattle.s1ap_ies.specs.Grammar.{cause_in};
+ghost use Rattle.s1ap_ies.specs.Kept.{Keeps};
 ghost use Rattle.s1ap_ies.specs.Run.{IsCause, cause_run};
 
-use crate::sequence::{read_choice, write_choice};
+use crate::pieces::{read_choice, write_choice};
 use aper_fields::{BitReader, BitWriter, EnumValue, read_enum, write_enum};
 use echo_base::{OutOfMemory, Refusal};
 
@@ -55,6 +56,26 @@ fn read_fields(r: &mut BitReader) -> Result<Cause, Refusal>
     })
 }
 
+/// Writes the fields.
+#[tactic(auto, unfolding(crate::specs::Run::cause_run))]
+fn write_fields(w: &mut BitWriter, cause: &Cause) -> Result<(), OutOfMemory>
+    requires { IsCause cause.now }
+    ensures ok { OnOk result (w.new ≡ then_written w.old (cause_run cause.now)) }
+    ensures kept { OnErr result (Keeps w.old w.new) }
+{
+    let group = u64::from(cause.group);
+    write_choice(w, 3, group)?;
+    write_enum(
+        w,
+        roots_of(group),
+        true,
+        EnumValue {
+            extended: cause.extended,
+            index: cause.index,
+        },
+    )
+}
+
 impl Cause {
     /// Reads the value. It is refused for the first piece that is wrong: Truncated, BadChoice where the extension bit
     /// of the choice is 1 or there is no such group, OutOfRange where the group has no such cause.
@@ -65,22 +86,17 @@ impl Cause {
         read_fields(r)
     }
 
-    /// Writes the value.
-    #[tactic(auto, unfolding(crate::specs::Run::cause_run))]
+    /// Writes the value. Where memory runs out, nothing is written.
     pub fn write(&self, w: &mut BitWriter) -> Result<(), OutOfMemory>
         requires { IsCause self.now }
         ensures ok { OnOk result (w.new ≡ then_written w.old (cause_run self.now)) }
+        ensures err { OnErr result (w.new ≡ w.old) }
     {
-        let group = u64::from(self.group);
-        write_choice(w, 3, group)?;
-        write_enum(
-            w,
-            roots_of(group),
-            true,
-            EnumValue {
-                extended: self.extended,
-                index: self.index,
-            },
-        )
+        let mark = w.mark();
+        if let Err(error) = write_fields(w, self) {
+            w.back_to(mark);
+            return Err(error);
+        }
+        Ok(())
     }
 }

@@ -1,11 +1,12 @@
 //! Cell global identities.
 
-ghost use Rattle.std.specs.Prelude.{◌≡◌, OnOk, ◌^◌, ◌<◌};
+ghost use Rattle.std.specs.Prelude.{◌≡◌, OnOk, OnErr, ◌^◌, ◌<◌};
 ghost use Rattle.aper_fields.specs.Reading.{Gives};
 ghost use Rattle.aper_fields.specs.Format.{ReadsExactly};
 ghost use Rattle.aper_fields.specs.Run.{then_written};
 ghost use Rattle.s1ap_ies.specs.Reading.{cgi_at};
 ghost use Rattle.s1ap_ies.specs.Grammar.{cgi_in};
+ghost use Rattle.s1ap_ies.specs.Kept.{Keeps};
 ghost use Rattle.s1ap_ies.specs.Run.{IsCgi, cgi_run};
 
 use crate::sequence::{read_preamble, skip_extensions, write_preamble};
@@ -38,6 +39,18 @@ fn read_fields(r: &mut BitReader) -> Result<Cgi, Refusal>
     })
 }
 
+/// Writes the fields.
+#[tactic(auto, unfolding(crate::specs::Run::cgi_run))]
+fn write_fields(w: &mut BitWriter, cgi: &Cgi) -> Result<(), OutOfMemory>
+    requires { IsCgi cgi.now }
+    ensures ok { OnOk result (w.new ≡ then_written w.old (cgi_run cgi.now)) }
+    ensures kept { OnErr result (Keeps w.old w.new) }
+{
+    write_preamble(w)?;
+    write_bits_fixed(w, u64::from(cgi.plmn), 24)?;
+    write_bits_fixed(w, u64::from(cgi.cell), 28)
+}
+
 impl Cgi {
     /// Reads the value. It is refused for the first piece that is wrong: Truncated, NonZeroPadding, SequenceExtension
     /// where its extension bit is 1; in its iE-Extensions LongLength, TooLong, BadCriticality too.
@@ -48,14 +61,17 @@ impl Cgi {
         read_fields(r)
     }
 
-    /// Writes the value, without iE-Extensions.
-    #[tactic(auto, unfolding(crate::specs::Run::cgi_run))]
+    /// Writes the value, without iE-Extensions. Where memory runs out, nothing is written.
     pub fn write(&self, w: &mut BitWriter) -> Result<(), OutOfMemory>
         requires { IsCgi self.now }
         ensures ok { OnOk result (w.new ≡ then_written w.old (cgi_run self.now)) }
+        ensures err { OnErr result (w.new ≡ w.old) }
     {
-        write_preamble(w)?;
-        write_bits_fixed(w, u64::from(self.plmn), 24)?;
-        write_bits_fixed(w, u64::from(self.cell), 28)
+        let mark = w.mark();
+        if let Err(error) = write_fields(w, self) {
+            w.back_to(mark);
+            return Err(error);
+        }
+        Ok(())
     }
 }

@@ -1,11 +1,12 @@
 //! E-RABs that were set up.
 
-ghost use Rattle.std.specs.Prelude.{◌≡◌, OnOk, ◌<◌};
+ghost use Rattle.std.specs.Prelude.{◌≡◌, OnOk, OnErr, ◌<◌};
 ghost use Rattle.aper_fields.specs.Reading.{Gives};
 ghost use Rattle.aper_fields.specs.Format.{ReadsExactly};
 ghost use Rattle.aper_fields.specs.Run.{then_written};
 ghost use Rattle.s1ap_ies.specs.Reading.{erab_done_at};
 ghost use Rattle.s1ap_ies.specs.Grammar.{erab_done_in};
+ghost use Rattle.s1ap_ies.specs.Kept.{Keeps};
 ghost use Rattle.s1ap_ies.specs.Run.{IsErabDone, erab_done_run};
 
 use crate::bearer::{read_address, read_erab_id, write_address, write_erab_id};
@@ -43,6 +44,19 @@ fn read_fields(r: &mut BitReader) -> Result<ErabDone, Refusal>
     })
 }
 
+/// Writes the fields.
+#[tactic(auto, unfolding(crate::specs::Run::erab_done_run))]
+fn write_fields(w: &mut BitWriter, erab: &ErabDone) -> Result<(), OutOfMemory>
+    requires { IsErabDone erab.now }
+    ensures ok { OnOk result (w.new ≡ then_written w.old (erab_done_run erab.now)) }
+    ensures kept { OnErr result (Keeps w.old w.new) }
+{
+    write_preamble(w)?;
+    write_erab_id(w, erab.id)?;
+    write_address(w, erab.address)?;
+    write_bits_fixed(w, u64::from(erab.teid), 32)
+}
+
 impl ErabDone {
     /// Reads the value. It is refused for the first piece that is wrong: Truncated, NonZeroPadding, SequenceExtension
     /// where its extension bit is 1, OutOfRange where that of the E-RAB ID or of the address is 1 or the address has
@@ -54,15 +68,17 @@ impl ErabDone {
         read_fields(r)
     }
 
-    /// Writes the value, without iE-Extensions.
-    #[tactic(auto, unfolding(crate::specs::Run::erab_done_run))]
+    /// Writes the value, without iE-Extensions. Where memory runs out, nothing is written.
     pub fn write(&self, w: &mut BitWriter) -> Result<(), OutOfMemory>
         requires { IsErabDone self.now }
         ensures ok { OnOk result (w.new ≡ then_written w.old (erab_done_run self.now)) }
+        ensures err { OnErr result (w.new ≡ w.old) }
     {
-        write_preamble(w)?;
-        write_erab_id(w, self.id)?;
-        write_address(w, self.address)?;
-        write_bits_fixed(w, u64::from(self.teid), 32)
+        let mark = w.mark();
+        if let Err(error) = write_fields(w, self) {
+            w.back_to(mark);
+            return Err(error);
+        }
+        Ok(())
     }
 }

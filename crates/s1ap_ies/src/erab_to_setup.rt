@@ -1,17 +1,19 @@
 //! E-RABs that are to be set up.
 
-ghost use Rattle.std.specs.Prelude.{◌≡◌, IfOk, IfSome, OnOk, option_map};
+ghost use Rattle.std.specs.Prelude.{◌≡◌, IfOk, IfSome, OnOk, OnErr, option_map};
 ghost use Rattle.aper_fields.specs.Reading.{Gives, GivesBy};
-ghost use Rattle.aper_fields.specs.Run.{then_written};
+ghost use Rattle.aper_fields.specs.Run.{then_written, ◌▸◌, fixed_bits_run};
 ghost use Rattle.s1ap_ies.specs.Memory.{GivesIn, ReadsIn, item_of};
 ghost use Rattle.s1ap_ies.specs.Reading.{nas_at, erab_to_setup_at};
 ghost use Rattle.s1ap_ies.specs.Grammar.{erab_to_setup_in};
-ghost use Rattle.s1ap_ies.specs.Run.{IsNas, IsErabToSetup, present_run, nas_run, erab_to_setup_run};
+ghost use Rattle.s1ap_ies.specs.Kept.{Keeps};
+ghost use Rattle.s1ap_ies.specs.Run.{IsNas, IsErabToSetup, present_run, qos_run, address_run, nas_run, erab_to_setup_run};
 
 use crate::bearer::{
     Qos, read_address, read_erab_id, read_qos, write_address, write_erab_id, write_qos,
 };
-use crate::sequence::{read_present, read_zero_bit, skip_extensions};
+use crate::pieces::read_zero_bit;
+use crate::sequence::{read_present, skip_extensions};
 use aper_fields::{
     BitReader, BitWriter, read_bits_fixed, read_octet_string, write_bits_fixed, write_octet_string,
 };
@@ -116,7 +118,8 @@ fn read_fields(alloc: Global, r: &mut BitReader) -> Result<ErabToSetup, Bad>
 /// Writes a bit that says whether an optional part is there.
 #[tactic(auto, unfolding(crate::specs::Run::present_run))]
 fn write_present(w: &mut BitWriter, present: bool) -> Result<(), OutOfMemory>
-    ensures { OnOk result (w.new ≡ then_written w.old (present_run present)) }
+    ensures ok { OnOk result (w.new ≡ then_written w.old (present_run present)) }
+    ensures kept { OnErr result (Keeps w.old w.new) }
 {
     if present {
         write_bits_fixed(w, 1, 1)
@@ -129,12 +132,39 @@ fn write_present(w: &mut BitWriter, present: bool) -> Result<(), OutOfMemory>
 #[tactic(auto, unfolding(crate::specs::Run::nas_run))]
 fn write_nas(w: &mut BitWriter, nas: &Option<Octets>) -> Result<(), OutOfMemory>
     requires { IfSome nas.now IsNas }
-    ensures { OnOk result (w.new ≡ then_written w.old (nas_run nas.now)) }
+    ensures ok { OnOk result (w.new ≡ then_written w.old (nas_run nas.now)) }
+    ensures kept { OnErr result (Keeps w.old w.new) }
 {
     match nas {
         Some(octets) => write_octet_string(w, octets.items()),
         None => Ok(()),
     }
+}
+
+/// Writes the fields behind the E-RAB ID: the QoS, where the tunnel ends, and the NAS-PDU.
+fn write_bearer(w: &mut BitWriter, erab: &ErabToSetup) -> Result<(), OutOfMemory>
+    requires { IsErabToSetup erab.now }
+    ensures ok { OnOk result (w.new ≡ then_written w.old (qos_run erab.now.qci erab.now.arp ▸ address_run erab.now.address ▸ fixed_bits_run 32 erab.now.teid ▸ nas_run erab.now.nas)) }
+    ensures kept { OnErr result (Keeps w.old w.new) }
+{
+    write_qos(w, erab.qci, erab.arp)?;
+    write_address(w, erab.address)?;
+    write_bits_fixed(w, u64::from(erab.teid), 32)?;
+    write_nas(w, &erab.nas)
+}
+
+/// Writes the fields.
+#[tactic(auto, unfolding(crate::specs::Run::erab_to_setup_run))]
+fn write_fields(w: &mut BitWriter, erab: &ErabToSetup) -> Result<(), OutOfMemory>
+    requires { IsErabToSetup erab.now }
+    ensures ok { OnOk result (w.new ≡ then_written w.old (erab_to_setup_run erab.now)) }
+    ensures kept { OnErr result (Keeps w.old w.new) }
+{
+    write_bits_fixed(w, 0, 1)?;
+    write_present(w, erab.nas.is_some())?;
+    write_bits_fixed(w, 0, 1)?;
+    write_erab_id(w, erab.id)?;
+    write_bearer(w, erab)
 }
 
 impl ErabToSetup {
@@ -150,19 +180,17 @@ impl ErabToSetup {
         read_fields(alloc, r)
     }
 
-    /// Writes the value, without iE-Extensions.
-    #[tactic(auto, unfolding(crate::specs::Run::erab_to_setup_run))]
+    /// Writes the value, without iE-Extensions. Where memory runs out, nothing is written.
     pub fn write(&self, w: &mut BitWriter) -> Result<(), OutOfMemory>
         requires { IsErabToSetup self.now }
         ensures ok { OnOk result (w.new ≡ then_written w.old (erab_to_setup_run self.now)) }
+        ensures err { OnErr result (w.new ≡ w.old) }
     {
-        write_bits_fixed(w, 0, 1)?;
-        write_present(w, self.nas.is_some())?;
-        write_bits_fixed(w, 0, 1)?;
-        write_erab_id(w, self.id)?;
-        write_qos(w, self.qci, self.arp)?;
-        write_address(w, self.address)?;
-        write_bits_fixed(w, u64::from(self.teid), 32)?;
-        write_nas(w, &self.nas)
+        let mark = w.mark();
+        if let Err(error) = write_fields(w, self) {
+            w.back_to(mark);
+            return Err(error);
+        }
+        Ok(())
     }
 }

@@ -1,14 +1,15 @@
 //! The items of lists.
 
-ghost use Rattle.std.specs.Prelude.{◌≡◌, ◌≤◌, ◌<◌, ◌*◌, ◌^◌, length, OnOk};
+ghost use Rattle.std.specs.Prelude.{◌≡◌, ◌≤◌, ◌<◌, ◌*◌, ◌^◌, length, OnOk, OnErr};
 ghost use Rattle.aper_fields.specs.Reading.{Gives};
 ghost use Rattle.aper_fields.specs.Format.{ReadsExactly};
 ghost use Rattle.aper_fields.specs.Run.{content_of, then_written};
 ghost use Rattle.s1ap_ies.specs.Reading.{item_at};
 ghost use Rattle.s1ap_ies.specs.Grammar.{item_in};
+ghost use Rattle.s1ap_ies.specs.Kept.{Keeps};
 ghost use Rattle.s1ap_ies.specs.Run.{item_run};
 
-use crate::sequence::read_criticality;
+use crate::pieces::read_criticality;
 use aper_fields::{BitReader, BitWriter, Ranged, read_open, write_bits_fixed, write_open};
 use echo_base::{OutOfMemory, Reason, Refusal};
 
@@ -37,8 +38,26 @@ pub fn read_item<'a>(r: &mut BitReader<'a>, id: u16) -> Result<BitReader<'a>, Re
     read_fields(r, id)
 }
 
-/// Writes an item with its id, its criticality (0 reject, 1 ignore, 2 notify) and what it contains.
+/// Writes the id of an item, its criticality, and what it contains.
 #[tactic(auto, unfolding(crate::specs::Run::item_run))]
+fn write_fields(
+    w: &mut BitWriter,
+    id: u16,
+    criticality: u8,
+    body: &BitWriter,
+) -> Result<(), OutOfMemory>
+    requires criticality { criticality ≤ 2 }
+    requires short { length (content_of body.now) < 8 * 2 ^ 14 }
+    ensures ok { OnOk result (w.new ≡ then_written w.old (item_run id criticality body.now)) }
+    ensures kept { OnErr result (Keeps w.old w.new) }
+{
+    Ranged::<0, 65535>::write(w, u64::from(id))?;
+    write_bits_fixed(w, u64::from(criticality), 2)?;
+    write_open(w, body)
+}
+
+/// Writes an item with its id, its criticality (0 reject, 1 ignore, 2 notify) and what it contains. Where memory runs
+/// out, nothing is written.
 pub fn write_item(
     w: &mut BitWriter,
     id: u16,
@@ -48,8 +67,12 @@ pub fn write_item(
     requires criticality { criticality ≤ 2 }
     requires short { length (content_of body.now) < 8 * 2 ^ 14 }
     ensures ok { OnOk result (w.new ≡ then_written w.old (item_run id criticality body.now)) }
+    ensures err { OnErr result (w.new ≡ w.old) }
 {
-    Ranged::<0, 65535>::write(w, u64::from(id))?;
-    write_bits_fixed(w, u64::from(criticality), 2)?;
-    write_open(w, body)
+    let mark = w.mark();
+    if let Err(error) = write_fields(w, id, criticality, body) {
+        w.back_to(mark);
+        return Err(error);
+    }
+    Ok(())
 }

@@ -1,14 +1,16 @@
 //! Security capabilities.
 
-ghost use Rattle.std.specs.Prelude.{◌≡◌, IfOk, OnOk, ◌^◌, ◌<◌};
+ghost use Rattle.std.specs.Prelude.{◌≡◌, IfOk, OnOk, OnErr, ◌^◌, ◌<◌};
 ghost use Rattle.aper_fields.specs.Reading.{Gives};
 ghost use Rattle.aper_fields.specs.Format.{ReadsExactly};
 ghost use Rattle.aper_fields.specs.Run.{then_written};
 ghost use Rattle.s1ap_ies.specs.Reading.{algorithms_at, sec_caps_at};
 ghost use Rattle.s1ap_ies.specs.Grammar.{sec_caps_in};
+ghost use Rattle.s1ap_ies.specs.Kept.{Keeps};
 ghost use Rattle.s1ap_ies.specs.Run.{IsSecCaps, algorithms_run, sec_caps_run};
 
-use crate::sequence::{read_preamble, read_zero_bit, skip_extensions, write_preamble};
+use crate::pieces::read_zero_bit;
+use crate::sequence::{read_preamble, skip_extensions, write_preamble};
 use aper_fields::{BitReader, BitWriter, read_bits_fixed, write_bits_fixed};
 use echo_base::{OutOfMemory, Reason, Refusal};
 
@@ -36,7 +38,8 @@ fn read_algorithms(r: &mut BitReader) -> Result<u64, Refusal>
 
 /// Writes a bit string of 16 algorithms, behind its extension bit.
 fn write_algorithms(w: &mut BitWriter, bits: u16) -> Result<(), OutOfMemory>
-    ensures { OnOk result (w.new ≡ then_written w.old (algorithms_run bits)) }
+    ensures ok { OnOk result (w.new ≡ then_written w.old (algorithms_run bits)) }
+    ensures kept { OnErr result (Keeps w.old w.new) }
 {
     write_bits_fixed(w, 0, 1)?;
     write_bits_fixed(w, u64::from(bits), 16)
@@ -59,6 +62,18 @@ fn read_fields(r: &mut BitReader) -> Result<SecCaps, Refusal>
     })
 }
 
+/// Writes the fields.
+#[tactic(auto, unfolding(crate::specs::Run::sec_caps_run))]
+fn write_fields(w: &mut BitWriter, caps: &SecCaps) -> Result<(), OutOfMemory>
+    requires { IsSecCaps caps.now }
+    ensures ok { OnOk result (w.new ≡ then_written w.old (sec_caps_run caps.now)) }
+    ensures kept { OnErr result (Keeps w.old w.new) }
+{
+    write_preamble(w)?;
+    write_algorithms(w, caps.eea)?;
+    write_algorithms(w, caps.eia)
+}
+
 impl SecCaps {
     /// Reads the value. It is refused for the first piece that is wrong: Truncated, NonZeroPadding, SequenceExtension
     /// where its extension bit is 1, OutOfRange where one of a bit string is 1; in its iE-Extensions LongLength,
@@ -70,14 +85,17 @@ impl SecCaps {
         read_fields(r)
     }
 
-    /// Writes the value, without iE-Extensions.
-    #[tactic(auto, unfolding(crate::specs::Run::sec_caps_run))]
+    /// Writes the value, without iE-Extensions. Where memory runs out, nothing is written.
     pub fn write(&self, w: &mut BitWriter) -> Result<(), OutOfMemory>
         requires { IsSecCaps self.now }
         ensures ok { OnOk result (w.new ≡ then_written w.old (sec_caps_run self.now)) }
+        ensures err { OnErr result (w.new ≡ w.old) }
     {
-        write_preamble(w)?;
-        write_algorithms(w, self.eea)?;
-        write_algorithms(w, self.eia)
+        let mark = w.mark();
+        if let Err(error) = write_fields(w, self) {
+            w.back_to(mark);
+            return Err(error);
+        }
+        Ok(())
     }
 }

@@ -1,11 +1,12 @@
 //! S-TMSIs.
 
-ghost use Rattle.std.specs.Prelude.{◌≡◌, OnOk};
+ghost use Rattle.std.specs.Prelude.{◌≡◌, OnOk, OnErr};
 ghost use Rattle.aper_fields.specs.Reading.{Gives};
 ghost use Rattle.aper_fields.specs.Format.{ReadsExactly};
 ghost use Rattle.aper_fields.specs.Run.{then_written};
 ghost use Rattle.s1ap_ies.specs.Reading.{stmsi_at};
 ghost use Rattle.s1ap_ies.specs.Grammar.{stmsi_in};
+ghost use Rattle.s1ap_ies.specs.Kept.{Keeps};
 ghost use Rattle.s1ap_ies.specs.Run.{IsStmsi, stmsi_run};
 
 use crate::sequence::{read_preamble, skip_extensions, write_preamble};
@@ -38,6 +39,18 @@ fn read_fields(r: &mut BitReader) -> Result<Stmsi, Refusal>
     })
 }
 
+/// Writes the fields.
+#[tactic(auto, unfolding(crate::specs::Run::stmsi_run))]
+fn write_fields(w: &mut BitWriter, stmsi: &Stmsi) -> Result<(), OutOfMemory>
+    requires { IsStmsi stmsi.now }
+    ensures ok { OnOk result (w.new ≡ then_written w.old (stmsi_run stmsi.now)) }
+    ensures kept { OnErr result (Keeps w.old w.new) }
+{
+    write_preamble(w)?;
+    write_bits_fixed(w, u64::from(stmsi.mmec), 8)?;
+    write_bits_fixed(w, u64::from(stmsi.tmsi), 32)
+}
+
 impl Stmsi {
     /// Reads the value. It is refused for the first piece that is wrong: Truncated, NonZeroPadding, SequenceExtension
     /// where its extension bit is 1; in its iE-Extensions LongLength, TooLong, BadCriticality too.
@@ -48,14 +61,17 @@ impl Stmsi {
         read_fields(r)
     }
 
-    /// Writes the value, without iE-Extensions.
-    #[tactic(auto, unfolding(crate::specs::Run::stmsi_run))]
+    /// Writes the value, without iE-Extensions. Where memory runs out, nothing is written.
     pub fn write(&self, w: &mut BitWriter) -> Result<(), OutOfMemory>
         requires { IsStmsi self.now }
         ensures ok { OnOk result (w.new ≡ then_written w.old (stmsi_run self.now)) }
+        ensures err { OnErr result (w.new ≡ w.old) }
     {
-        write_preamble(w)?;
-        write_bits_fixed(w, u64::from(self.mmec), 8)?;
-        write_bits_fixed(w, u64::from(self.tmsi), 32)
+        let mark = w.mark();
+        if let Err(error) = write_fields(w, self) {
+            w.back_to(mark);
+            return Err(error);
+        }
+        Ok(())
     }
 }

@@ -1,14 +1,16 @@
 //! The identities by which a base station and the MME know a UE.
 
-ghost use Rattle.std.specs.Prelude.{◌≡◌, OnOk};
+ghost use Rattle.std.specs.Prelude.{◌≡◌, OnOk, OnErr};
 ghost use Rattle.aper_fields.specs.Reading.{Gives};
 ghost use Rattle.aper_fields.specs.Format.{ReadsExactly};
 ghost use Rattle.aper_fields.specs.Run.{then_written};
 ghost use Rattle.s1ap_ies.specs.Reading.{id_pair_at, mme_alone_at, ue_ids_at};
 ghost use Rattle.s1ap_ies.specs.Grammar.{ue_ids_in};
+ghost use Rattle.s1ap_ies.specs.Kept.{Keeps};
 ghost use Rattle.s1ap_ies.specs.Run.{IsUeIds, ue_ids_run};
 
-use crate::sequence::{read_choice, read_preamble, skip_extensions, write_choice, write_preamble};
+use crate::pieces::{read_choice, write_choice};
+use crate::sequence::{read_preamble, skip_extensions, write_preamble};
 use aper_fields::{BitReader, BitWriter, Ranged};
 use echo_base::{OutOfMemory, Refusal};
 
@@ -70,6 +72,27 @@ fn read_fields(r: &mut BitReader) -> Result<UeIds, Refusal>
     Ok(ids)
 }
 
+/// Writes the fields.
+#[tactic(auto, unfolding(crate::specs::Run::ue_ids_run))]
+fn write_fields(w: &mut BitWriter, ids: &UeIds) -> Result<(), OutOfMemory>
+    requires { IsUeIds ids.now }
+    ensures ok { OnOk result (w.new ≡ then_written w.old (ue_ids_run ids.now)) }
+    ensures kept { OnErr result (Keeps w.old w.new) }
+{
+    match *ids {
+        UeIds::Pair { mme, enb } => {
+            write_choice(w, 1, 0)?;
+            write_preamble(w)?;
+            Ranged::<0, 4294967295>::write(w, u64::from(mme))?;
+            Ranged::<0, 16777215>::write(w, u64::from(enb))
+        }
+        UeIds::Mme(mme) => {
+            write_choice(w, 1, 1)?;
+            Ranged::<0, 4294967295>::write(w, u64::from(mme))
+        }
+    }
+}
+
 impl UeIds {
     /// Reads the value. It is refused for the first piece that is wrong: Truncated, NonZeroPadding, BadChoice where the
     /// extension bit of the choice is 1, SequenceExtension where that of the pair is 1, NotMinimal and OutOfRange at an
@@ -81,23 +104,17 @@ impl UeIds {
         read_fields(r)
     }
 
-    /// Writes the value, without iE-Extensions.
-    #[tactic(auto, unfolding(crate::specs::Run::ue_ids_run))]
+    /// Writes the value, without iE-Extensions. Where memory runs out, nothing is written.
     pub fn write(&self, w: &mut BitWriter) -> Result<(), OutOfMemory>
         requires { IsUeIds self.now }
         ensures ok { OnOk result (w.new ≡ then_written w.old (ue_ids_run self.now)) }
+        ensures err { OnErr result (w.new ≡ w.old) }
     {
-        match *self {
-            UeIds::Pair { mme, enb } => {
-                write_choice(w, 1, 0)?;
-                write_preamble(w)?;
-                Ranged::<0, 4294967295>::write(w, u64::from(mme))?;
-                Ranged::<0, 16777215>::write(w, u64::from(enb))
-            }
-            UeIds::Mme(mme) => {
-                write_choice(w, 1, 1)?;
-                Ranged::<0, 4294967295>::write(w, u64::from(mme))
-            }
+        let mark = w.mark();
+        if let Err(error) = write_fields(w, self) {
+            w.back_to(mark);
+            return Err(error);
         }
+        Ok(())
     }
 }
