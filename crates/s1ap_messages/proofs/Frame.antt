@@ -1,0 +1,65 @@
+-- Headers and lists of IEs are read exactly, with the IEs kept as they stand.
+use Rattle.std.proofs.Common.{cond, eqb, List, [], arith}
+use Rattle.echo_base.specs.declared.reason.Reason.TheVariants as reasons
+use Rattle.aper_fields.specs.Reading.{number_at, open_at, contained_at}
+use Rattle.aper_fields.specs.Format.{IsExactly, fixed_bits_in}
+use Rattle.aper_fields.proofs.Formats.{either_exactly, just_exactly, passing_exactly}
+use Rattle.aper_fields.proofs.ExactNumbers.{number_exactly}
+use Rattle.aper_fields.proofs.ExactPieces.{fixed_bits_exactly}
+use Rattle.aper_fields.proofs.Containers.{open_exactly, contained_exactly}
+use Rattle.s1ap_ies.specs.declared.tables.MessageKind.{MessageKind}
+use Rattle.s1ap_ies.specs.Reading.{Reader, ◌>>=◌, done, zero_bit_at, criticality_at}
+use Rattle.s1ap_ies.proofs.Exact.{zero_bit_exactly, criticality_exactly, choice_exactly}
+use Rattle.s1ap_messages.specs.Many.{many_at, inside_at, looked_up_at}
+use Rattle.s1ap_messages.specs.Grammar.{Ie, Named, Other, header_in, or_other, kind_with, new_id, has_ie, ie_in, ies_in, pdu_in}
+use Rattle.s1ap_messages.specs.Reading.{value_at, header_at}
+use Rattle.s1ap_messages.proofs.Manys.{many_exactly}
+use Rattle.s1ap_messages.proofs.Pieces.{behind, inside_exactly, looked_up_exactly}
+use Rattle.s1ap_messages.proofs.Values.{value_exactly}
+
+pub header_exactly : IsExactly header_in header_at
+unfolding header_in header_at
+header_exactly =
+    behind _ _ _ _ (choice_exactly 3 2)
+    (λ outcome. behind _ _ _ _ (passing_exactly (λ bits. eqb bits 0) reasons.NonZeroPadding (fixed_bits_in 5) _ (fixed_bits_exactly 5))
+    (λ padding. behind _ _ _ _ (looked_up_exactly (λ code. or_other code (kind_with outcome code)) _ _ (number_exactly 0 255 (omega arith)))
+    (λ kind. behind _ _ _ _ criticality_exactly (λ criticality. just_exactly kind))))
+
+-- ---- the IEs, kept as they stand
+
+unfoldable pub ie_kept_at : MessageKind → List Ie → Reader Ie
+ie_kept_at kind before =
+    looked_up_at (new_id before) (number_at 0 65535) >>= λ id.
+    criticality_at >>= λ criticality.
+    open_at >>= λ content.
+    λ i. cond (has_ie kind id) ((inside_at content (value_at id) >>= λ v. done (Named id v)) i) (done (Other id) i)
+
+unfoldable pub ies_kept_at : MessageKind → Reader (List Ie)
+ies_kept_at kind =
+    zero_bit_at reasons.SequenceExtension >>= λ extension.
+    number_at 0 65535 >>= λ count.
+    many_at (ie_kept_at kind) count []
+
+unfoldable pub pdu_kept_at : Reader (MessageKind × List Ie)
+pdu_kept_at =
+    header_at >>= λ kind.
+    contained_at (ies_kept_at kind) >>= λ ies.
+    done (kind, ies)
+
+pub ie_exactly : (kind : MessageKind) (before : List Ie) → IsExactly (ie_in kind before) (ie_kept_at kind before)
+unfolding ie_in ie_kept_at
+ie_exactly kind before =
+    behind _ _ _ _ (looked_up_exactly (new_id before) _ _ (number_exactly 0 65535 (omega arith)))
+    (λ id. behind _ _ _ _ criticality_exactly
+    (λ criticality. behind _ _ _ _ open_exactly
+    (λ content. either_exactly (has_ie kind id) _ _ _ _ (behind _ _ _ _ (inside_exactly content _ _ (value_exactly id)) (λ v. just_exactly (Named id v))) (just_exactly (Other id)))))
+
+ies_exactly : (kind : MessageKind) → IsExactly (ies_in kind) (ies_kept_at kind)
+unfolding ies_in ies_kept_at
+ies_exactly kind =
+    behind _ _ _ _ (zero_bit_exactly reasons.SequenceExtension)
+    (λ extension. behind _ _ _ _ (number_exactly 0 65535 (omega arith)) (λ count. many_exactly (ie_in kind) (ie_kept_at kind) (ie_exactly kind) count))
+
+pub pdu_exactly : IsExactly pdu_in pdu_kept_at
+unfolding pdu_in pdu_kept_at
+pdu_exactly = behind _ _ _ _ header_exactly (λ kind. behind _ _ _ _ (contained_exactly (ies_in kind) (ies_kept_at kind) (ies_exactly kind)) (λ ies. just_exactly (kind, ies)))

@@ -1,0 +1,5 @@
+use Rattle.s1ap_messages.proofs.Small.{small_right}
+use Rattle.s1ap_messages.proofs.laws.small_is_right.Goals as goal
+
+pub returns : goal.returns
+returns c = small_right

@@ -1,0 +1,5 @@
+use Rattle.s1ap_messages.proofs.Whole.{written_spelled}
+use Rattle.s1ap_messages.proofs.laws.written_is_spelled.Goals as goal
+
+pub returns : goal.returns
+returns c = written_spelled

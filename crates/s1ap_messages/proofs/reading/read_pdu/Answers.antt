@@ -1,0 +1,18 @@
+use Rattle.std.proofs.Common.{subst}
+use Rattle.s1ap_messages.specs.Answer.{IsAnswer}
+use Rattle.s1ap_messages.specs.Grammar.{Spells, Refused}
+use Rattle.s1ap_messages.proofs.InRange.{message_ranges, answer_ranges}
+use Rattle.s1ap_messages.proofs.Exact.{message_answers, only_message, refused_message}
+use Rattle.s1ap_messages.proofs.reading.read_pdu.Goals as goal
+
+pub returns-clause-answers : goal.returns-clause-answers
+returns-clause-answers c = message_answers c.args.bytes.now c.read_message.result c.read_message.ensures
+
+pub returns-clause-only : goal.returns-clause-only
+returns-clause-only c = λ p s. subst (λ r. IsAnswer r c.read_message.result) (only_message c.args.bytes.now p s) c.read_message.ensures
+
+pub returns-clause-refused : goal.returns-clause-refused
+returns-clause-refused c = λ e h. subst (λ r. IsAnswer r c.read_message.result) (refused_message c.args.bytes.now e h) c.read_message.ensures
+
+pub returns-clause-ranges : goal.returns-clause-ranges
+returns-clause-ranges c = answer_ranges (Spells c.args.bytes.now) (Refused c.args.bytes.now) (message_ranges c.args.bytes.now) c.read_message.result (message_answers c.args.bytes.now c.read_message.result c.read_message.ensures)

@@ -1,0 +1,10 @@
+pub mod Many
+pub mod Values
+pub mod Messages
+pub mod Grammar
+pub mod Lent
+pub mod Run
+pub mod Reading
+pub mod Built
+pub mod Answer
+pub mod Small

@@ -1,0 +1,107 @@
+-- Reading a message from left to right, with a slot for each row of its table.
+use Rattle.std.specs.Prelude.{ℕ, zero, suc, ◌==◌, Bool, true, false, List, [], ◌∷◌, position, slice_set, slice_index_or, Option, Some, None, is_some, Result, Ok, Err, if◌then◌else◌}
+use Rattle.echo_base.specs.declared.reason.Reason.{Reason}
+use Rattle.echo_base.specs.declared.reason.Reason.TheVariants as reasons
+use Rattle.aper_fields.specs.Reading as pieces
+use Rattle.aper_fields.specs.Reading.{Input, Read, fixed_bits_at, number_at, octet_string_at, fixed_octets_at, enumerated_at, open_at, end_at, contained_at, whole_at}
+use Rattle.s1ap_ies.specs.declared.tables.IeRow.{IeRow}
+use Rattle.s1ap_ies.specs.declared.tables.MessageKind.{MessageKind}
+use Rattle.s1ap_ies.specs.Tables.{rows_of}
+use Rattle.s1ap_ies.specs.Reading.{Reader, ◌>>=◌, done, passing_at, zero_bit_at, criticality_at, choice_at, tai_at, cgi_at, stmsi_at, bit_rates_at, sec_caps_at, cause_at, ue_ids_at, erab_done_at, erab_to_setup_at, item_at}
+use Rattle.s1ap_messages.specs.declared.value.IeValue.TheVariants as value
+use Rattle.s1ap_messages.specs.Many.{many_at, inside_at, looked_up_at}
+use Rattle.s1ap_messages.specs.Values.{FieldValue}
+use Rattle.s1ap_messages.specs.Grammar.{kind_with, or_other}
+
+-- ---- values
+
+abbrev pub mapped_at : {A B : Type 0} → (A → B) → Reader A → Reader B
+mapped_at f read = λ i. pieces.◌>>=◌ (read i) (λ x. Ok (f x.0, x.1))
+
+-- an item of a list, with all of its open type
+unfoldable pub erab_at : {A : Type 0} → ℕ → Reader A → Reader A
+erab_at id read = item_at id >>= λ content. inside_at content read
+
+unfoldable pub erabs_at : {A : Type 0} → ℕ → Reader A → Reader (List A)
+erabs_at id read = number_at 1 255 >>= λ count. many_at (λ before. erab_at id read) count []
+
+unfoldable pub value_at : ℕ → Reader FieldValue
+value_at id = λ i.
+    if id == 0 then mapped_at value.Mme (number_at 0 4294967295) i
+    else (if id == 2 then mapped_at value.Cause cause_at i
+    else (if id == 8 then mapped_at value.Enb (number_at 0 16777215) i
+    else (if id == 24 then mapped_at value.Bearers (erabs_at 52 erab_to_setup_at) i
+    else (if id == 26 then mapped_at value.Nas (octet_string_at 2048) i
+    else (if id == 51 then mapped_at value.Done (erabs_at 50 erab_done_at) i
+    else (if id == 66 then mapped_at value.Rates bit_rates_at i
+    else (if id == 67 then mapped_at value.Tai tai_at i
+    else (if id == 73 then mapped_at value.Key (fixed_octets_at 32) i
+    else (if id == 74 then mapped_at value.Radio (octet_string_at 16383) i
+    else (if id == 96 then mapped_at value.Stmsi stmsi_at i
+    else (if id == 99 then mapped_at value.Ids ue_ids_at i
+    else (if id == 100 then mapped_at value.Cgi cgi_at i
+    else (if id == 107 then mapped_at value.Caps sec_caps_at i
+    else mapped_at value.Rrc (enumerated_at 5 true) i)))))))))))))
+
+-- ---- the header
+
+unfoldable pub header_at : Reader MessageKind
+header_at = do
+  outcome ← choice_at 3 2
+  padding ← passing_at (λ bits. bits == 0) reasons.NonZeroPadding (fixed_bits_at 5)
+  kind ← looked_up_at (λ code. or_other code (kind_with outcome code)) (number_at 0 255)
+  criticality ← criticality_at
+  done kind
+
+-- ---- the IEs
+
+-- the values that were read, each in the place of its row
+abbrev pub Slots : Type 0
+Slots = List (Option FieldValue)
+
+abbrev pub empty : Slots
+empty = None ∷ None ∷ None ∷ None ∷ None ∷ None ∷ []
+
+-- the place of the row with an id
+abbrev pub place_of : List IeRow → ℕ → Option ℕ
+place_of rows id = position (λ row. row.id == id) rows
+
+abbrev pub is_filled : Option ℕ → Slots → Bool
+is_filled None slots = false
+is_filled (Some place) slots = is_some (slice_index_or slots place None)
+
+abbrev pub free_id : List IeRow → Slots → ℕ → Result ℕ Reason
+free_id rows slots id = if is_filled (place_of rows id) slots then Err (reasons.RepeatedIe id) else Ok id
+
+-- a value with its place, or nothing of an IE that is passed over
+abbrev pub content_at : Option ℕ → ℕ → Input → Reader (Option (ℕ × FieldValue))
+content_at None id content = done None
+content_at (Some place) id content = inside_at content (value_at id) >>= λ v. done (Some (place, v))
+
+unfoldable pub ie_at : List IeRow → Slots → Reader (Option (ℕ × FieldValue))
+ie_at rows slots = do
+  id ← looked_up_at (free_id rows slots) (number_at 0 65535)
+  criticality ← criticality_at
+  content ← open_at
+  content_at (place_of rows id) id content
+
+abbrev pub noted : Slots → Option (ℕ × FieldValue) → Slots
+noted slots None = slots
+noted slots (Some x) = slice_set slots x.0 (Some x.1)
+
+-- so many IEs
+unfoldable pub fields_at : List IeRow → ℕ → Slots → Reader Slots
+fields_at rows zero slots = done slots
+fields_at rows (suc n) slots = ie_at rows slots >>= λ ie. fields_at rows n (noted slots ie)
+
+unfoldable pub ies_at : MessageKind → Reader Slots
+ies_at kind = do
+  extension ← zero_bit_at reasons.SequenceExtension
+  count ← number_at 0 65535
+  fields_at (rows_of kind) count empty
+
+unfoldable pub pdu_at : Reader (MessageKind × Slots)
+pdu_at = do
+  kind ← header_at
+  slots ← contained_at (ies_at kind)
+  done (kind, slots)

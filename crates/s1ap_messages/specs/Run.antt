@@ -1,0 +1,137 @@
+-- The octets with which a message is written: the IEs of its table in order, each with the table's criticality.
+use Rattle.std.specs.Prelude.{ℕ, ◌*◌, ◌^◌, ◌<◌, ◌≤◌, ◌≡◌, Bool, true, List, [], ◌∷◌, length, count_by, Option, Some, None, is_some, IfSome}
+use Rattle.std.specs.List.{AllByRecursion}
+use Rattle.aper_fields.specs.Bits.{packed}
+use Rattle.aper_fields.specs.Run.{Run, ◌▸◌, nothing_run, fixed_bits_run, number_run, octet_string_run, fixed_octets_run, enumerated_run, open_run}
+use Rattle.aper_fields.specs.Spelling.{IsEnumValue, IsOctets}
+use Rattle.s1ap_ies.specs.declared.tables.IeRow.{IeRow}
+use Rattle.s1ap_ies.specs.declared.tables.MessageKind.{MessageKind}
+use Rattle.s1ap_ies.specs.declared.erab_to_setup.ErabToSetup.{ErabToSetup}
+use Rattle.s1ap_ies.specs.Tables.{rows_of}
+use Rattle.s1ap_ies.specs.Run.{IsTai, IsCgi, IsStmsi, IsBitRates, IsSecCaps, IsCause, IsUeIds, IsErabDone, IsErabToSetup, IsNas, tai_run, cgi_run, stmsi_run, bit_rates_run, sec_caps_run, cause_run, ue_ids_run, erab_done_run, erab_to_setup_run, choice_run, item_run}
+use Rattle.s1ap_messages.specs.declared.header.Header.{Header}
+use Rattle.s1ap_messages.specs.declared.pdu.Pdu.{Pdu}
+use Rattle.s1ap_messages.specs.declared.value.IeValue.TheVariants as value
+use Rattle.s1ap_messages.specs.Values.{FieldValue}
+use Rattle.s1ap_messages.specs.Messages.{header_of, kind_of, values_of}
+
+-- ---- values
+
+-- the items of a list, each with the id and the criticality of its list
+unfoldable pub items_run : {A : Type 0} → ℕ → ℕ → (A → Run) → List A → Run
+items_run id criticality run [] = nothing_run
+items_run id criticality run (x ∷ xs) = item_run id criticality (run x 0) ▸ items_run id criticality run xs
+
+unfoldable pub erabs_run : {A : Type 0} → ℕ → ℕ → (A → Run) → List A → Run
+erabs_run id criticality run xs = number_run 1 255 (length xs) ▸ items_run id criticality run xs
+
+unfoldable pub value_run : FieldValue → Run
+value_run (value.Mme mme) = number_run 0 4294967295 mme
+value_run (value.Cause cause) = cause_run cause
+value_run (value.Enb enb) = number_run 0 16777215 enb
+value_run (value.Bearers bearers) = erabs_run 52 0 erab_to_setup_run bearers
+value_run (value.Nas nas) = octet_string_run nas
+value_run (value.Done done) = erabs_run 50 1 erab_done_run done
+value_run (value.Rates rates) = bit_rates_run rates
+value_run (value.Tai tai) = tai_run tai
+value_run (value.Key key) = fixed_octets_run key
+value_run (value.Radio radio) = octet_string_run radio
+value_run (value.Stmsi stmsi) = stmsi_run stmsi
+value_run (value.Ids ids) = ue_ids_run ids
+value_run (value.Cgi cgi) = cgi_run cgi
+value_run (value.Caps caps) = sec_caps_run caps
+value_run (value.Rrc rrc) = enumerated_run 5 true rrc
+
+-- an open type has at most 16,383 octets
+abbrev pub IsShort : List Bool → Type 0
+IsShort body = length body ≤ 8 * 16383
+
+-- a list of 1 to 256 values, each in its range
+abbrev pub AreSome : {A : Type 0} → (A → Type 0) → List A → Type 0
+AreSome In xs = (1 ≤ length xs) × (length xs ≤ 256) × AllByRecursion In xs
+
+-- a value in its range
+abbrev pub IsRightValue : FieldValue → Type 0
+IsRightValue (value.Mme mme) = mme < 2 ^ 32
+IsRightValue (value.Cause cause) = IsCause cause
+IsRightValue (value.Enb enb) = enb < 2 ^ 24
+IsRightValue (value.Bearers bearers) = AreSome IsErabToSetup bearers
+IsRightValue (value.Nas nas) = IsNas nas
+IsRightValue (value.Done done) = AreSome IsErabDone done
+IsRightValue (value.Rates rates) = IsBitRates rates
+IsRightValue (value.Tai tai) = IsTai tai
+IsRightValue (value.Key key) = length key ≡ 32
+IsRightValue (value.Radio radio) = length radio < 2 ^ 14
+IsRightValue (value.Stmsi stmsi) = IsStmsi stmsi
+IsRightValue (value.Ids ids) = IsUeIds ids
+IsRightValue (value.Cgi cgi) = IsCgi cgi
+IsRightValue (value.Caps caps) = IsSecCaps caps
+IsRightValue (value.Rrc rrc) = IsEnumValue 5 true rrc
+
+-- ---- the message
+
+-- reject, ignore or notify
+abbrev pub HasCriticality : IeRow → Type 0
+HasCriticality row = row.criticality ≤ 2
+
+-- an IE, where the message has it
+unfoldable pub ie_run : IeRow → Option FieldValue → Run
+ie_run row None = nothing_run
+ie_run row (Some v) = item_run row.id row.criticality (value_run v 0)
+
+-- the IEs of a table, with their values
+unfoldable pub fields_run : List IeRow → List (Option FieldValue) → Run
+fields_run (row ∷ rows) (v ∷ values) = ie_run row v ▸ fields_run rows values
+fields_run [] values = nothing_run
+fields_run (row ∷ rows) [] = nothing_run
+
+-- how many values there are
+abbrev pub count_of : List (Option FieldValue) → ℕ
+count_of values = count_by is_some values
+
+unfoldable pub ies_run : MessageKind → List (Option FieldValue) → Run
+ies_run kind values = fixed_bits_run 1 0 ▸ number_run 0 65535 (count_of values) ▸ fields_run (rows_of kind) values
+
+-- outcome, in an octet of its own, procedure code, and criticality
+unfoldable pub header_run : Header → Run
+header_run header = choice_run 2 header.outcome ▸ fixed_bits_run 5 0 ▸ number_run 0 255 header.code ▸ fixed_bits_run 2 header.criticality
+
+unfoldable pub pdu_run : MessageKind → List (Option FieldValue) → Run
+pdu_run kind values = header_run (header_of kind) ▸ open_run (ies_run kind values 0)
+
+-- the octets of a message as it is written
+unfoldable pub written : Pdu → List ℕ
+written p = packed (pdu_run (kind_of p) (values_of p) 0)
+
+-- the fields of a message are in their ranges
+abbrev pub AreInRange : Pdu → Type 0
+AreInRange p = AllByRecursion (λ v. IfSome v IsRightValue) (values_of p)
+
+-- what a field is: in its range, and short enough for an open type
+abbrev pub IsRightField : FieldValue → Type 0
+IsRightField v = IsRightValue v × IsShort (value_run v 0)
+
+-- A message whose fields are in their ranges, and of whose open types none has more than 16,383 octets.
+abbrev pub IsRight : Pdu → Type 0
+IsRight p = AllByRecursion (λ v. IfSome v IsRightField) (values_of p) × IsShort (ies_run (kind_of p) (values_of p) 0)
+
+-- its strings are octets, as those of a program are
+abbrev pub HasOctetsIn : FieldValue → Type 0
+HasOctetsIn (value.Mme mme) = Unit {0}
+HasOctetsIn (value.Cause cause) = Unit {0}
+HasOctetsIn (value.Enb enb) = Unit {0}
+HasOctetsIn (value.Bearers bearers) = AllByRecursion (λ (b : ErabToSetup). IfSome b.nas IsOctets) bearers
+HasOctetsIn (value.Nas nas) = IsOctets nas
+HasOctetsIn (value.Done done) = Unit {0}
+HasOctetsIn (value.Rates rates) = Unit {0}
+HasOctetsIn (value.Tai tai) = Unit {0}
+HasOctetsIn (value.Key key) = IsOctets key
+HasOctetsIn (value.Radio radio) = IsOctets radio
+HasOctetsIn (value.Stmsi stmsi) = Unit {0}
+HasOctetsIn (value.Ids ids) = Unit {0}
+HasOctetsIn (value.Cgi cgi) = Unit {0}
+HasOctetsIn (value.Caps caps) = Unit {0}
+HasOctetsIn (value.Rrc rrc) = Unit {0}
+
+abbrev pub HasOctets : Pdu → Type 0
+HasOctets p = AllByRecursion (λ v. IfSome v HasOctetsIn) (values_of p)

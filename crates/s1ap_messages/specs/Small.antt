@@ -1,0 +1,34 @@
+-- Messages that fit into their open types whatever their fields are.
+use Rattle.std.specs.Prelude.{◌≤◌, IfSome, length}
+use Rattle.std.specs.List.{AllByRecursion}
+use Rattle.s1ap_messages.specs.declared.pdu.Pdu.{Pdu}
+use Rattle.s1ap_messages.specs.declared.value.IeValue.TheVariants as value
+use Rattle.s1ap_messages.specs.Values.{FieldValue}
+use Rattle.s1ap_messages.specs.Messages.{values_of}
+use Rattle.s1ap_messages.specs.Run.{IsRightValue}
+
+-- at most one E-RAB that is to be set up, 40 that were set up, and 2,048 octets of radio capability
+abbrev pub IsFew : FieldValue → Type 0
+IsFew (value.Mme mme) = Unit {0}
+IsFew (value.Cause cause) = Unit {0}
+IsFew (value.Enb enb) = Unit {0}
+IsFew (value.Bearers bearers) = length bearers ≤ 1
+IsFew (value.Nas nas) = Unit {0}
+IsFew (value.Done done) = length done ≤ 40
+IsFew (value.Rates rates) = Unit {0}
+IsFew (value.Tai tai) = Unit {0}
+IsFew (value.Key key) = Unit {0}
+IsFew (value.Radio radio) = length radio ≤ 2048
+IsFew (value.Stmsi stmsi) = Unit {0}
+IsFew (value.Ids ids) = Unit {0}
+IsFew (value.Cgi cgi) = Unit {0}
+IsFew (value.Caps caps) = Unit {0}
+IsFew (value.Rrc rrc) = Unit {0}
+
+-- a small value in its range
+abbrev pub IsSmallValue : FieldValue → Type 0
+IsSmallValue v = IsRightValue v × IsFew v
+
+-- a message of small fields in their ranges
+abbrev pub IsSmall : Pdu → Type 0
+IsSmall p = AllByRecursion (λ v. IfSome v IsSmallValue) (values_of p)

@@ -1,0 +1,176 @@
+//! Reading messages.
+
+ghost use Rattle.std.specs.Prelude.{◌≡◌, ◌≤◌, ◌<◌, IfOk, IfSome, Ok, Err, length, take};
+ghost use Rattle.s1ap_ies.specs.Memory.{GivesIn};
+ghost use Rattle.s1ap_ies.specs.Tables.{rows_of};
+ghost use Rattle.s1ap_messages.specs.Reading.{empty, place_of, ie_at, fields_at, ies_at, pdu_at};
+ghost use Rattle.echo_base.specs.declared.refusal.Refusal.{Refusal};
+ghost use Rattle.s1ap_messages.specs.declared.pdu.Pdu.{Pdu};
+ghost use Rattle.s1ap_messages.specs.Grammar.{Spells, Refused, SpellsUplink, RefusedUplink};
+ghost use Rattle.s1ap_messages.specs.Run.{AreInRange};
+ghost use Rattle.s1ap_messages.specs.Built.{message_at, uplink_at};
+ghost use Rattle.s1ap_messages.specs.Answer.{Answers, IsAnswer};
+
+use crate::build::message;
+use crate::header::read_header;
+use crate::pdu::{Pdu, is_downlink};
+use crate::slots::Slots;
+use crate::value::{OwnedValue, read_value};
+use aper_fields::{BitReader, Ranged, end, read_open};
+use echo_base::{Bad, Reason, Refusal};
+use s1ap_ies::{IeRow, IeTable, MessageKind, ies_of, read_criticality, read_zero_bit};
+use std::alloc::Global;
+
+/// The place of the row with that id.
+fn place_of(rows: &[IeRow], id: u16) -> Option<usize>
+    ensures place { result ≡ place_of rows.now id }
+    ensures within { IfSome result (λ k. k < length rows.now) }
+{
+    rows.iter().position(|row| row.id == id)
+}
+
+/// Reads an IE behind others, and what its table names with its place.
+#[tactic(auto, unfolding(crate::specs::Reading::ie_at, aper_fields::specs::Reading::whole_at))]
+fn read_ie(
+    alloc: Global,
+    r: &mut BitReader,
+    rows: &[IeRow],
+    slots: &Slots,
+) -> Result<Option<(usize, OwnedValue)>, Bad>
+    requires { length rows.now ≤ 6 }
+    ensures read { GivesIn result r.old r.new (ie_at rows.now slots.now r.old) }
+    ensures within { IfOk result (λ found. IfSome found (λ f. f.0 < 6)) }
+{
+    let mut ahead = r.ahead();
+    let id = Ranged::<0, 65535>::read(&mut ahead)? as u16;
+    let place = place_of(rows, id);
+    if slots.is_filled(place) {
+        return Err(Bad::Refused(r.refusal(Reason::RepeatedIe(id))));
+    }
+    read_criticality(&mut ahead)?;
+    let mut content = read_open(&mut ahead)?;
+    let Some(place) = place else {
+        *r = ahead;
+        return Ok(None);
+    };
+    let value = read_value(alloc, &mut content, id)?;
+    end(&content)?;
+    *r = ahead;
+    Ok(Some((place, value)))
+}
+
+/// Reads so many IEs.
+#[tactic(auto, unfolding(crate::specs::Reading::fields_at))]
+fn read_fields(alloc: Global, r: &mut BitReader, rows: &[IeRow], count: u64) -> Result<Slots, Bad>
+    requires { length rows.now ≤ 6 }
+    ensures { GivesIn result r.old r.new (fields_at rows.now count empty r.old) }
+{
+    let mut ahead = r.ahead();
+    let mut slots = Slots::new();
+    let mut left = count;
+    while left > 0 {
+        let found = read_ie(alloc, &mut ahead, rows, &slots)?;
+        slots.note(found);
+        left -= 1;
+    }
+    *r = ahead;
+    Ok(slots)
+}
+
+/// The rows of a table.
+pub(crate) fn rows(table: &IeTable) -> &[IeRow]
+    requires { table.now.len ≤ 6 }
+    ensures { result.now ≡ take table.now.len table.now.rows }
+{
+    &table.rows[..table.len]
+}
+
+/// Reads the SEQUENCE of IEs of that kind of message.
+#[tactic(auto, unfolding(crate::specs::Reading::ies_at))]
+fn read_ies(alloc: Global, r: &mut BitReader, kind: MessageKind) -> Result<Slots, Bad>
+    ensures { GivesIn result r.old r.new (ies_at kind r.old) }
+{
+    let mut ahead = r.ahead();
+    read_zero_bit(&mut ahead, Reason::SequenceExtension)?;
+    let count = Ranged::<0, 65535>::read(&mut ahead)?;
+    let table = ies_of(kind);
+    let slots = read_fields(alloc, &mut ahead, rows(&table), count)?;
+    *r = ahead;
+    Ok(slots)
+}
+
+/// Reads the header, and the open type that contains the IEs.
+#[tactic(auto, unfolding(crate::specs::Reading::pdu_at, aper_fields::specs::Reading::whole_at, aper_fields::specs::Reading::contained_at))]
+fn read_parts(alloc: Global, r: &mut BitReader) -> Result<(MessageKind, Slots), Bad>
+    ensures { GivesIn result r.old r.new (pdu_at r.old) }
+{
+    let mut ahead = r.ahead();
+    let kind = read_header(&mut ahead)?;
+    let mut content = read_open(&mut ahead)?;
+    let slots = read_ies(alloc, &mut content, kind)?;
+    end(&content)?;
+    *r = ahead;
+    Ok((kind, slots))
+}
+
+/// Reads a message that is all of the octets.
+#[tactic(auto, unfolding(crate::specs::Built::message_at, aper_fields::specs::Reading::whole_at))]
+fn read_message(alloc: Global, bytes: &[u8]) -> Result<Pdu, Bad>
+    ensures { IsAnswer (message_at bytes.now) result }
+{
+    let mut r = BitReader::new(bytes, 0);
+    let (kind, mut slots) = read_parts(alloc, &mut r)?;
+    end(&r)?;
+    match message(kind, &mut slots) {
+        Ok(pdu) => Ok(pdu),
+        Err(id) => Err(Bad::Refused(Refusal {
+            reason: Reason::MissingIe(id),
+            place: bytes.len() as u64,
+        })),
+    }
+}
+
+/// Reads a message that an MME receives.
+#[tactic(auto, unfolding(crate::specs::Built::uplink_at))]
+fn read_received(alloc: Global, bytes: &[u8]) -> Result<Pdu, Bad>
+    ensures { IsAnswer (uplink_at bytes.now) result }
+{
+    let pdu = read_message(alloc, bytes)?;
+    if is_downlink(pdu.kind()) {
+        return Err(Bad::Refused(Refusal {
+            reason: Reason::WrongDirection,
+            place: 1,
+        }));
+    }
+    Ok(pdu)
+}
+
+/// Reads the message that all of the octets are. It is refused for the first piece that is wrong, at its octet: Truncated,
+/// LongLength, NonZeroPadding, NotMinimal, OutOfRange, TooLong, SequenceExtension, BadChoice, BadCriticality, TrailingBytes as
+/// the pieces are (ITU-T X.691); OtherProcedure at octet 1 for an outcome and procedure code of no message; RepeatedIe at the
+/// second id; and where no piece is wrong MissingIe at the end of the octets, for the first IE of the message's table that it
+/// needs. IEs may stand in any order and with any criticality, and other IEs are passed over. It takes memory for the NAS-PDU,
+/// the key, the radio capability and the lists that it keeps.
+pub fn read_pdu(alloc: Global, bytes: &[u8]) -> Result<Pdu, Bad>
+    // What is read is spelled so, and what is refused is refused for the refusal that is due.
+    ensures answers { Answers (Spells bytes.now) (Refused bytes.now) result }
+    // The message that the octets are is read, unless memory runs out.
+    ensures only { (p : Pdu) → Spells bytes.now p → IsAnswer (Ok p) result }
+    // The refusal that is due is given, unless memory runs out.
+    ensures refused { (e : Refusal) → Refused bytes.now e → IsAnswer (Err e) result }
+    // The fields of what is read are in their ranges.
+    ensures ranges { IfOk result AreInRange }
+{
+    read_message(alloc, bytes)
+}
+
+/// Reads the message that all of the octets are, of those that an MME receives: refused as `read_pdu` refuses, and
+/// WrongDirection at octet 1 for a message that an MME sends.
+pub fn read_uplink(alloc: Global, bytes: &[u8]) -> Result<Pdu, Bad>
+    ensures answers { Answers (SpellsUplink bytes.now) (RefusedUplink bytes.now) result }
+    ensures only { (p : Pdu) → SpellsUplink bytes.now p → IsAnswer (Ok p) result }
+    ensures refused { (e : Refusal) → RefusedUplink bytes.now e → IsAnswer (Err e) result }
+    ensures ranges { IfOk result AreInRange }
+{
+    read_received(alloc, bytes)
+}

@@ -1,0 +1,160 @@
+//! Messages worked out by hand from 3GPP TS 36.413 and ITU-T X.691, aligned PER, in hexadecimal.
+
+ghost use Rattle.std.specs.Prelude.{◌<◌};
+
+use crate::{Pdu, read_pdu, write_pdu};
+use aper_fields::EnumValue;
+use device_types::Octets;
+use echo_base::{Bad, OutOfMemory, Refusal};
+use s1ap_ies::{BitRates, Cause, Cgi, ErabDone, ErabToSetup, SecCaps, Stmsi, Tai, UeIds};
+use small::is_small;
+use std::alloc::{AllocError, Global};
+use std::process::Abort;
+use std::test::Fail;
+
+mod contexts;
+mod orders;
+mod refused;
+mod refused_ies;
+mod small;
+mod uplink;
+mod worked;
+
+/// An E-RAB that is to be set up, with its NAS-PDU lent.
+#[derive(Clone, Copy, Debug, PartialEq, Eq)]
+struct Bearer<'a> {
+    id: u8,
+    qci: u8,
+    arp: u8,
+    address: u32,
+    teid: u32,
+    nas: Option<&'a [u8]>,
+}
+
+/// The fields of a message, with its texts and lists lent; of the E-RABs that are to be set up the first, and how many
+/// there are.
+#[derive(Clone, Copy, Debug, PartialEq, Eq)]
+enum Fields<'a> {
+    Initial(u32, &'a [u8], Tai, Cgi, EnumValue, Option<Stmsi>),
+    Uplink(u32, u32, &'a [u8], Cgi, Tai),
+    Downlink(u32, u32, &'a [u8]),
+    Setup(u32, u32, BitRates, usize, Option<Bearer<'a>>, SecCaps, &'a [u8]),
+    SetupDone(u32, u32, &'a [ErabDone]),
+    SetupFailed(u32, u32, Cause),
+    ReleaseAsked(u32, u32, Cause),
+    Release(UeIds, Cause),
+    Released(u32, u32),
+    Capability(u32, u32, &'a [u8]),
+}
+
+fn first_of(bearers: &[ErabToSetup]) -> Option<Bearer<'_>> {
+    let [first, ..] = bearers else {
+        return None;
+    };
+    let nas = match &first.nas {
+        Some(nas) => Some(nas.items()),
+        None => None,
+    };
+    Some(Bearer {
+        id: first.id,
+        qci: first.qci,
+        arp: first.arp,
+        address: first.address,
+        teid: first.teid,
+        nas,
+    })
+}
+
+#[rattlefmt::skip]
+fn fields_of(pdu: &Pdu) -> Fields<'_> {
+    match pdu {
+        Pdu::InitialUeMessage { enb, nas, tai, cgi, rrc, stmsi } => Fields::Initial(*enb, nas.items(), *tai, *cgi, *rrc, *stmsi),
+        Pdu::UplinkNasTransport { mme, enb, nas, cgi, tai } => Fields::Uplink(*mme, *enb, nas.items(), *cgi, *tai),
+        Pdu::DownlinkNasTransport { mme, enb, nas } => Fields::Downlink(*mme, *enb, nas.items()),
+        Pdu::InitialContextSetupRequest { mme, enb, rates, bearers, caps, key } => {
+            let bearers = bearers.items();
+            Fields::Setup(*mme, *enb, *rates, bearers.len(), first_of(bearers), *caps, key.items())
+        }
+        Pdu::InitialContextSetupResponse { mme, enb, done } => Fields::SetupDone(*mme, *enb, done.items()),
+        Pdu::InitialContextSetupFailure { mme, enb, cause } => Fields::SetupFailed(*mme, *enb, *cause),
+        Pdu::UeContextReleaseRequest { mme, enb, cause } => Fields::ReleaseAsked(*mme, *enb, *cause),
+        Pdu::UeContextReleaseCommand { ids, cause } => Fields::Release(*ids, *cause),
+        Pdu::UeContextReleaseComplete { mme, enb } => Fields::Released(*mme, *enb),
+        Pdu::UeCapabilityInfoIndication { mme, enb, radio } => Fields::Capability(*mme, *enb, radio.items()),
+    }
+}
+
+fn digit(character: u8) -> u8
+    ensures { result < 16 }
+{
+    match character {
+        b'0'..=b'9' => character - b'0',
+        b'a'..=b'f' => character - b'a' + 10,
+        _ => 0,
+    }
+}
+
+/// The octets of a text of hexadecimal digits.
+fn octets_of(alloc: Global, text: &str) -> Result<Vec<u8>, AllocError> {
+    let mut octets = Vec::new(alloc);
+    for pair in text.as_bytes().chunks_exact(2) {
+        if let [high, low] = pair {
+            octets.push(digit(*high) * 16 + digit(*low))?;
+        }
+    }
+    Ok(octets)
+}
+
+/// Why the octets are refused, if they are.
+fn refusal_of(alloc: Global, octets: &[u8]) -> Result<Option<Refusal>, OutOfMemory> {
+    match read_pdu(alloc, octets) {
+        Ok(_) => Ok(None),
+        Err(Bad::Refused(refusal)) => Ok(Some(refusal)),
+        Err(Bad::OutOfMemory) => Err(OutOfMemory),
+    }
+}
+
+/// The octets are read as that message.
+fn reads(rt: &impl Abort, alloc: Global, text: &str, want: Fields<'_>) -> Result<(), Fail> {
+    let pdu = read_pdu(alloc, &octets_of(alloc, text)?)?;
+    assert_eq!(rt; fields_of(&pdu), want, "for {text}");
+    Ok(())
+}
+
+/// The octets are read as that message, and it is written as them.
+fn agrees(rt: &impl Abort, alloc: Global, text: &str, want: Fields<'_>) -> Result<(), Fail> {
+    let octets = octets_of(alloc, text)?;
+    let pdu = read_pdu(alloc, &octets)?;
+    assert_eq!(rt; fields_of(&pdu), want, "for {text}");
+    assert!(rt; is_small(&pdu), "for {text}");
+    let written = write_pdu(alloc, &pdu)?;
+    assert_eq!(rt; written.items(), octets.as_slice(), "for {text}");
+    Ok(())
+}
+
+/// The cases of a table: of each line what stands before its first space, and what stands behind it. A line whose first word
+/// is `#` is a comment.
+fn cases(alloc: Global, table: &str) -> Result<Vec<(&str, &str)>, AllocError> {
+    let mut cases = Vec::new(alloc);
+    for line in table.lines() {
+        if let Some((text, want)) = line.split_once(' ') {
+            if text != "#" {
+                cases.push((text, want))?;
+            }
+        }
+    }
+    Ok(cases)
+}
+
+/// The octets of each case are refused as it says.
+fn refuses_each(rt: &impl Abort, alloc: Global, table: &str) -> Result<(), Fail> {
+    for (text, want) in cases(alloc, table)? {
+        let refusal = refusal_of(alloc, &octets_of(alloc, text)?)?;
+        assert!(rt; refusal.is_some(), "{text} is read");
+        if let Some(refusal) = refusal {
+            let refusal = format!(in alloc; "{refusal}")?;
+            assert_eq!(rt; refusal.as_str(), want, "for {text}");
+        }
+    }
+    Ok(())
+}

@@ -1,0 +1,112 @@
+//! Messages that are refused, each for the first piece that is wrong. Most are a UE CONTEXT RELEASE COMPLETE, whose octets are
+//! `2017 00` the header, `0f` the length, `00 0002` the extension bit and the count of IEs, and from octet 7 on the IEs
+//! `0000 40 02 0001` and `0008 40 02 0001`, each an id, a criticality, a length and the content.
+
+use super::{octets_of, refusal_of, refuses_each};
+use echo_base::{Reason, Refusal};
+use std::test::Fail;
+
+#[test]
+fn refused_messages(rt: HostRuntime) -> Result<(), Fail> {
+    for table in [HEADERS, SEQUENCES, IES, ATTACH_REQUESTS] {
+        refuses_each(&rt, rt.alloc(), table)?;
+    }
+    Ok(())
+}
+
+const HEADERS: &str = "
+ 1 Truncated at 0
+# the extension bit of the outcome; an outcome 3
+8017000f000002000040020001000840020001 8 BadChoice at 0
+6017000f000002000040020001000840020001 8 BadChoice at 0
+# padding behind the outcome
+2117000f000002000040020001000840020001 3 NonZeroPadding at 0
+20 1 Truncated at 1
+# a code of no message; codes with an outcome that they do not have
+00110000 9 OtherProcedure 17 at 1
+4017000f000002000040020001000840020001 9 OtherProcedure 23 at 1
+2012000f000002000040020001000840020001 9 OtherProcedure 18 at 1
+400c000f000002000040020001000840020001 9 OtherProcedure 12 at 1
+# what stands behind the code is not looked at
+4017c1 9 OtherProcedure 23 at 1
+2017 1 Truncated at 2
+2017c00f000002000040020001000840020001 10 BadCriticality at 2
+2017c10f000002000040020001000840020001 10 BadCriticality at 2
+2017410f000002000040020001000840020001 3 NonZeroPadding at 2
+# lengths: none, 15 of 14 octets, 15 in two octets, in fragments
+201700 1 Truncated at 3
+2017000f0000020000400200010008400200 1 Truncated at 3
+201700800f000002000040020001000840020001 2 LongLength at 3
+201700c1000002000040020001000840020001 6 TooLong at 3
+";
+
+const SEQUENCES: &str = "
+# nothing in the message; a count of one octet
+20170000 1 Truncated at 4
+201700020000 1 Truncated at 5
+2017000f800002000040020001000840020001 7 SequenceExtension at 4
+# padding in front of the count
+2017000f010002000040020001000840020001 3 NonZeroPadding at 4
+# three IEs, 65535 IEs, of which there are two
+2017000f000003000040020001000840020001 1 Truncated at 19
+2017000f00ffff000040020001000840020001 1 Truncated at 19
+# one IE, none, of which there are two
+2017000f000001000040020001000840020001 13 TrailingBytes at 13
+2017000f000000000040020001000840020001 13 TrailingBytes at 7
+# an octet behind the IEs, within the length and behind it
+2017001000000200004002000100084002000100 13 TrailingBytes at 19
+2017000f00000200004002000100084002000100 13 TrailingBytes at 19
+";
+
+const IES: &str = "
+# one octet of an id; an id alone; an id and a criticality
+2017000a00000200004002000100 1 Truncated at 13
+2017000b0000020000400200010008 1 Truncated at 15
+2017000c000002000040020001000840 1 Truncated at 16
+2017000f0000020000c0020001000840020001 10 BadCriticality at 9
+2017000f0000020000c1020001000840020001 10 BadCriticality at 9
+2017000f000002000041020001000840020001 3 NonZeroPadding at 9
+# two in two octets; in fragments; three of two octets
+2017001000000200004080020001000840020001 2 LongLength at 10
+20170010000002000040c2020001000840020001 6 TooLong at 10
+2017000f000002000040020001000840030001 1 Truncated at 16
+# no content; an octet too few; an octet too many
+2017000d00000200004000000840020001 1 Truncated at 11
+2017000e0000020000400100000840020001 1 Truncated at 12
+2017001000000200004003000100000840020001 13 TrailingBytes at 13
+# padding in a value; a number in two octets, 01 p(6); of four octets, 11 p(6)
+2017000f000002000040020101000840020001 3 NonZeroPadding at 11
+2017001000000200004002000100084003400001 4 NotMinimal at 18
+2017001200000200004002000100084005c001000000 5 OutOfRange at 17
+";
+
+const ATTACH_REQUESTS: &str = "
+# its length of 62 in two octets; an octet more; its eNB UE S1AP ID 1 in three octets, 10 p(6)
+000c40803e000005000800020001001a00161507417108298039000000001002e0e000040201d011004300060002f8390001006440080002f839000000100086400130 2 LongLength at 3
+000c403e000005000800020001001a00161507417108298039000000001002e0e000040201d011004300060002f8390001006440080002f83900000010008640013000 13 TrailingBytes at 66
+000c40400000050008000480000001001a00161507417108298039000000001002e0e000040201d011004300060002f8390001006440080002f839000000100086400130 4 NotMinimal at 12
+";
+
+#[test]
+fn cut_messages(rt: HostRuntime) -> Result<(), Fail> {
+    let texts = [
+        "000c403e000005000800020001001a00161507417108298039000000001002e0e000040201d011004300060002f8390001006440080002f839000000100086400130",
+        "000c4037000006000800020001001a000504c7000000004300060002f8390001006440080002f83900000010008640014000600006004000000001",
+        "0017001000000200630004000100010002400120",
+    ];
+    for text in texts {
+        let octets = octets_of(rt.alloc(), text)?;
+        for n in 0..octets.len() {
+            let want = Refusal {
+                reason: Reason::Truncated,
+                place: n.min(3) as u64,
+            };
+            assert_eq!(rt;
+                refusal_of(rt.alloc(), &octets[..n])?,
+                Some(want),
+                "{n} octets of {text}"
+            );
+        }
+    }
+    Ok(())
+}

@@ -1,0 +1,110 @@
+//! Which messages an MME receives; and the longest NAS-PDU.
+
+use super::{cases, octets_of, refusal_of};
+use crate::{Pdu, read_pdu, read_uplink};
+use echo_base::Reason::TooLong;
+use echo_base::{Bad, OutOfMemory, Refusal};
+use std::alloc::Global;
+use std::process::Abort;
+use std::test::Fail;
+
+/// The kind of message that an MME reads, or why it is refused.
+fn answer(alloc: Global, text: &str) -> Result<String, Fail> {
+    match read_uplink(alloc, &octets_of(alloc, text)?) {
+        Ok(pdu) => {
+            let kind = pdu.kind();
+            Ok(format!(in alloc; "{kind:?}")?)
+        }
+        Err(Bad::Refused(refusal)) => Ok(format!(in alloc; "{refusal}")?),
+        Err(Bad::OutOfMemory) => Err(OutOfMemory)?,
+    }
+}
+
+fn answers_each(rt: &impl Abort, alloc: Global, table: &str) -> Result<(), Fail> {
+    for (text, want) in cases(alloc, table)? {
+        let answer = answer(alloc, text)?;
+        assert_eq!(rt; answer.as_str(), want, "for {text}");
+    }
+    Ok(())
+}
+
+#[test]
+fn received(rt: HostRuntime) -> Result<(), Fail> {
+    answers_each(&rt, rt.alloc(), RECEIVED)
+}
+
+const RECEIVED: &str = "
+000c403e000005000800020001001a00161507417108298039000000001002e0e000040201d011004300060002f8390001006440080002f839000000100086400130 InitialUeMessage
+000d4032000005000000020001000800020001001a000908470000000000075e006440080002f83900000010004340060002f8390001 UplinkNasTransport
+200900220000030000400200010008400200010033400f000032400a0a1fc0a8000200000002 InitialContextSetupResponse
+400900140000030000400200010008400200010002400124 InitialContextSetupFailure
+00124015000003000000020001000800020001000240020280 UeContextReleaseRequest
+2017000f000002000040020001000840020001 UeContextReleaseComplete
+00164016000003000000020001000800020001004a4003020102 UeCapabilityInfoIndication
+";
+
+#[test]
+fn not_received(rt: HostRuntime) -> Result<(), Fail> {
+    answers_each(&rt, rt.alloc(), NOT_RECEIVED)
+}
+
+const NOT_RECEIVED: &str = "
+# a downlink NAS transport, and one that is cut, that has an octet too many, or that lacks its NAS-PDU
+000b4017000003000000020001000800020001001a000403074e0a 14 WrongDirection at 1
+000b4017000003000000020001000800020001001a000403074e 1 Truncated at 3
+000b4017000003000000020001000800020001001a000403074e0a00 13 TrailingBytes at 27
+000b400f000002000000020001000800020001 11 MissingIe 26 at 19
+# an initial context setup request
+00090080840000060000000200010008000200010042000a183b9aca00603b9aca00001800360000340031450009200f80c0a800010000000122074201e0060002f839000100155201c101090908696e7465726e657405010a2d0001006b000518000c0000004900201111111111111111111111111111111111111111111111111111111111111111 14 WrongDirection at 1
+# a context release command, and one without its cause
+0017001000000200630004000100010002400122 14 WrongDirection at 1
+0017000b0000010063000400010001 11 MissingIe 2 at 15
+# messages that an MME receives
+2017000f000001000040020001000840020001 13 TrailingBytes at 13
+00110000 9 OtherProcedure 17 at 1
+";
+
+/// The octets of the text, and behind them so many octets ab.
+fn with_octets(alloc: Global, text: &str, number: usize) -> Result<Vec<u8>, Fail> {
+    let mut octets = octets_of(alloc, text)?;
+    for _ in 0..number {
+        octets.push(0xab)?;
+    }
+    Ok(octets)
+}
+
+#[test]
+fn longest_nas(rt: HostRuntime) -> Result<(), Fail> {
+    // 2,048 octets: 8800; with their length 2,050: 8802; all IEs with the octets before them 2,070: 8816
+    let text = "000b408816000003000000020001000800020001001a0088028800";
+    let octets = with_octets(rt.alloc(), text, 2048)?;
+    let pdu = read_pdu(rt.alloc(), &octets)?;
+    let Pdu::DownlinkNasTransport {
+        mme: _,
+        enb: _,
+        nas,
+    } = &pdu
+    else {
+        assert!(rt; false);
+        return Ok(());
+    };
+    assert_eq!(rt; nas.items().len(), 2048);
+    // 2,049 octets behind their length in octet 25; and of as many none, behind their length in octet 23
+    let text = "000b408817000003000000020001000800020001001a0088038801";
+    let octets = with_octets(rt.alloc(), text, 2049)?;
+    let want = Some(Refusal {
+        reason: TooLong,
+        place: 25,
+    });
+    assert_eq!(rt; refusal_of(rt.alloc(), &octets)?, want);
+    let text = "000b4015000003000000020001000800020001001a00028801";
+    let want = Some(Refusal {
+        reason: TooLong,
+        place: 23,
+    });
+    assert_eq!(rt;
+        refusal_of(rt.alloc(), &octets_of(rt.alloc(), text)?)?,
+        want
+    );
+    Ok(())
+}
