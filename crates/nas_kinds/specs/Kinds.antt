@@ -1,0 +1,122 @@
+-- The messages of a device (TS 24.301, 8.2): their first octets, and their mandatory fields in order.
+use Rattle.std.specs.Prelude.{◌≡◌, ℕ, ◌/◌, ◌%◌, ◌≤◌, ◌==◌, List, ◌∷◌}
+use Rattle.echo_base.specs.declared.reason.Reason.{Reason}
+use Rattle.echo_base.specs.declared.reason.Reason.TheVariants as reasons
+use Rattle.echo_base.specs.declared.reason.Identity.{Identity}
+use Rattle.nas_kinds.specs.declared.kind.Header.{Header}
+use Rattle.nas_kinds.specs.declared.kind.Header.TheVariants.{Plain, Protected, Service}
+use Rattle.nas_kinds.specs.declared.kind.Kind.{Kind}
+use Rattle.nas_kinds.specs.declared.kind.Kind.TheVariants as kinds
+use Rattle.nas_kinds.specs.declared.nas_in.NasIn.{NasIn}
+use Rattle.nas_kinds.specs.declared.nas_in.NasIn.TheVariants.{AttachRequest, AttachComplete, DetachRequest, AreaRequest, AuthResponse, SecurityComplete, SecurityReject, ServiceRequest}
+use Rattle.nas_kinds.specs.Field.{Field, Stands, just, ◌>>=◌, meaning, octet_in, octets_in, counted_in, long_counted_in}
+use Rattle.nas_kinds.specs.Identity.{IsIdentity}
+
+-- ---- fields
+
+-- EPS mobile identity (9.9.3.12)
+unfoldable pub identity_in : Field Identity
+identity_in = meaning IsIdentity (λ octets. reasons.NasIdentity) counted_in
+
+-- UE network capability (9.9.3.34): its first two octets are the encryption and the integrity algorithms
+unfoldable pub capability_in : Field (ℕ × ℕ)
+capability_in = meaning (λ octets algorithms. (more : List ℕ) × (octets ≡ algorithms.0 ∷ algorithms.1 ∷ more)) (λ octets. reasons.NasShort) counted_in
+
+-- ESM message container (9.9.3.15): an ESM message (9.2) begins with the bearer identity and discriminator, the procedure
+-- transaction identity and the message type
+unfoldable pub container_in : Field ℕ
+container_in = meaning (λ octets pti. (bearer : ℕ) × (type : ℕ) × (more : List ℕ) × (octets ≡ bearer ∷ pti ∷ type ∷ more)) (λ octets. reasons.NasShort) long_counted_in
+
+-- ---- the table: the messages that are read, by their message types (9.8), each with its mandatory fields (8.2)
+
+abbrev pub message_type : Kind → ℕ
+message_type kinds.AttachRequest = 0x41
+message_type kinds.AttachComplete = 0x43
+message_type kinds.DetachRequest = 0x45
+message_type kinds.AreaRequest = 0x48
+message_type kinds.AuthResponse = 0x53
+message_type kinds.SecurityComplete = 0x5e
+message_type kinds.SecurityReject = 0x5f
+
+-- an octet that is none of these is refused as NasKind
+unfoldable pub kind_in : Field Kind
+kind_in = meaning (λ octet kind. octet ≡ message_type kind) reasons.NasKind octet_in
+
+unfoldable pub fields_in : Kind → Field NasIn
+-- 8.2.4: EPS attach type and NAS key set identifier, identity, capability, container
+fields_in kinds.AttachRequest = do
+  attach_type ← octet_in
+  identity ← identity_in
+  capability ← capability_in
+  pti ← container_in
+  just (AttachRequest identity capability.0 capability.1 pti)
+-- 8.2.2: container
+fields_in kinds.AttachComplete = do
+  container ← long_counted_in
+  just AttachComplete
+-- 8.2.11.1: detach type (9.9.3.7: bit 4 is switch off) and NAS key set identifier, identity
+fields_in kinds.DetachRequest = do
+  detach_type ← octet_in
+  identity ← identity_in
+  just (DetachRequest (detach_type / 8 % 2 == 1) identity)
+-- 8.2.29: update type and NAS key set identifier, identity
+fields_in kinds.AreaRequest = do
+  update_type ← octet_in
+  identity ← identity_in
+  just (AreaRequest identity)
+-- 8.2.8: authentication response parameter (9.9.3.4)
+fields_in kinds.AuthResponse = do
+  res ← counted_in
+  just (AuthResponse res)
+-- 8.2.21
+fields_in kinds.SecurityComplete = just SecurityComplete
+-- 8.2.22: EMM cause (9.9.3.9)
+fields_in kinds.SecurityReject = do
+  cause ← octet_in
+  just (SecurityReject cause)
+
+-- ---- whole messages
+
+-- a message type, and the fields of its message
+unfoldable pub message_in : Field NasIn
+message_in = kind_in >>= fields_in
+
+-- The first octet: the protocol discriminator 7 in its low half (9.2), the security header type in its high half (9.3.1),
+-- which is 0, plain, 1 to 4, protected, or 12, SERVICE REQUEST.
+abbrev pub IsHeader : ℕ → Header → Type 0
+IsHeader octet Plain = (octet % 16 ≡ 7) × (octet / 16 ≡ 0)
+IsHeader octet Protected = (octet % 16 ≡ 7) × (1 ≤ octet / 16) × (octet / 16 ≤ 4)
+IsHeader octet Service = (octet % 16 ≡ 7) × (octet / 16 ≡ 12)
+
+unfoldable pub header_in : Field Header
+header_in = meaning IsHeader (λ octet. reasons.NasDiscriminator) octet_in
+
+-- what is in front of the message type in a protected message (8.2.23): a message authentication code (9.5), a sequence
+-- number (9.6), and the first octet of a plain message
+unfoldable pub security_in : Field (Unit {0})
+security_in = do
+  code ← octets_in 4
+  number ← octet_in
+  meaning (λ octet nothing. IsHeader octet Plain) (λ octet. reasons.NasDiscriminator) octet_in
+
+-- what is behind the first octet
+unfoldable pub behind_in : Header → Field NasIn
+behind_in Plain = message_in
+behind_in Protected = do
+  security ← security_in
+  message_in
+-- 8.2.25: key set identifier and sequence number, a short message authentication code of two octets
+behind_in Service = do
+  behind ← octets_in 3
+  just ServiceRequest
+
+unfoldable pub nas_in : Field NasIn
+nas_in = header_in >>= behind_in
+
+-- the octets are this message, whatever follows its mandatory fields
+abbrev pub NasSpells : List ℕ → NasIn → Type 0
+NasSpells octets message = (rest : List ℕ) × Stands nas_in octets message rest
+
+-- the octets are no message, and the first field that is wrong is so for that reason
+abbrev pub NasRefuses : List ℕ → Reason → Type 0
+NasRefuses octets reason = nas_in.Refuses octets reason

@@ -1,0 +1,228 @@
+-- Reading a NAS message from left to right: a value and what is left, or the reason of the first field that is wrong.
+use Rattle.std.specs.Prelude.{◌≡◌, ℕ, ◌+◌, ◌*◌, ◌/◌, ◌%◌, ◌==◌, nat_lt, List, [], ◌∷◌, length, take, drop, Option, Some, None, Result, Ok, Err, if◌then◌else◌}
+use Rattle.std.specs.Int.{w32, from_be_bytes}
+use Rattle.echo_base.specs.declared.reason.Reason.{Reason}
+use Rattle.echo_base.specs.declared.reason.Reason.TheVariants as reasons
+use Rattle.echo_base.specs.declared.reason.Identity.{Identity}
+use Rattle.echo_base.specs.declared.reason.Identity.TheVariants.{Imsi, Tmsi}
+use Rattle.echo_base.specs.declared.refusal.Refusal.{Refusal}
+use Rattle.nas_kinds.specs.declared.kind.Header.{Header}
+use Rattle.nas_kinds.specs.declared.kind.Header.TheVariants.{Plain, Protected, Service}
+use Rattle.nas_kinds.specs.declared.kind.Kind.{Kind}
+use Rattle.nas_kinds.specs.declared.kind.Kind.TheVariants as kinds
+use Rattle.nas_kinds.specs.declared.nas_in.NasIn.{NasIn}
+use Rattle.nas_kinds.specs.declared.nas_in.NasIn.TheVariants.{AttachRequest, AttachComplete, DetachRequest, AreaRequest, AuthResponse, SecurityComplete, SecurityReject, ServiceRequest}
+use Rattle.nas_kinds.specs.Identity.{halves}
+
+-- a value and what is left behind it, or why there is none
+abbrev pub Read : Type 0 → Type 0
+Read A = Result (A × List ℕ) Reason
+
+-- a way to read
+abbrev pub Reader : Type 0 → Type 0
+Reader A = List ℕ → Read A
+
+-- What a reader returned is what reading gives. It stands behind what it read; a refusal has no place.
+abbrev pub Gives : {A : Type 0} → Result A Refusal → List ℕ → List ℕ → Read A → Type 0
+Gives (Ok v) old new read = read ≡ Ok (v, new)
+Gives (Err e) old new read = (read ≡ Err e.reason) × (e.place ≡ 0)
+
+-- the same where view says what is seen of the value
+abbrev pub GivesBy : {X A : Type 0} → (X → A) → Result X Refusal → List ℕ → List ℕ → Read A → Type 0
+GivesBy view (Ok x) old new read = read ≡ Ok (view x, new)
+GivesBy view (Err e) old new read = (read ≡ Err e.reason) × (e.place ≡ 0)
+
+-- ---- ways to read out of others
+
+-- what was read, and behind it what its value calls for
+abbrev pub on : {A B : Type 0} → Read A → (A → Reader B) → Read B
+on (Ok x) g = g x.0 x.1
+on (Err reason) g = Err reason
+
+infixl 10 ◌>>=◌
+abbrev pub ◌>>=◌ : {A B : Type 0} → Reader A → (A → Reader B) → Reader B
+f >>= g = λ octets. on (f octets) g
+
+-- the value, of no octets
+abbrev pub done : {A : Type 0} → A → Reader A
+done v = λ octets. Ok (v, octets)
+
+-- the value that is there, of no octets, or the reason
+abbrev pub known : {A : Type 0} → Option A → Reason → Reader A
+known (Some v) reason = λ octets. Ok (v, octets)
+known None reason = λ octets. Err reason
+
+-- ---- the formats of fields
+
+-- an octet
+unfoldable pub octet_at : Reader ℕ
+octet_at [] = Err reasons.NasShort
+octet_at (octet ∷ octets) = Ok (octet, octets)
+
+-- so many octets
+unfoldable pub octets_at : ℕ → Reader (List ℕ)
+octets_at n octets = if nat_lt (length octets) n then Err reasons.NasShort else Ok (take n octets, drop n octets)
+
+-- octets behind their count in one octet
+unfoldable pub counted_at : Reader (List ℕ)
+counted_at = octet_at >>= octets_at
+
+-- octets behind their count in two octets
+unfoldable pub long_counted_at : Reader (List ℕ)
+long_counted_at = do
+  high ← octet_at
+  low ← octet_at
+  octets_at (256 * high + low)
+
+-- ---- fields
+
+-- the decimal number that goes on with these digits, if they are digits
+abbrev pub decimal_from : ℕ → List ℕ → Option ℕ
+decimal_from number [] = Some number
+decimal_from number (digit ∷ digits) = if nat_lt 9 digit then None else decimal_from (10 * number + digit) digits
+
+-- the IMSI that halves of octets are
+abbrev pub imsi_of_halves : List ℕ → Option ℕ
+imsi_of_halves [] = None
+imsi_of_halves (type ∷ digits) = if type == 9 then decimal_from 0 digits else None
+
+abbrev pub imsi_of : List ℕ → Option ℕ
+imsi_of octets = if length octets == 8 then imsi_of_halves (halves octets) else None
+
+-- the M-TMSI of the GUTI that the octets are
+abbrev pub guti_of : List ℕ → Option ℕ
+guti_of [] = None
+guti_of (type ∷ octets) = if type == 0xf6 then (if length octets == 10 then Some (from_be_bytes w32 (drop 6 octets)) else None) else None
+
+-- by an IMSI, or else by a GUTI
+abbrev pub identity_by : Option ℕ → Option ℕ → Option Identity
+identity_by (Some imsi) guti = Some (Imsi imsi)
+identity_by None (Some tmsi) = Some (Tmsi tmsi)
+identity_by None None = None
+
+-- the identity that the octets are
+unfoldable pub identity_of : List ℕ → Option Identity
+identity_of octets = identity_by (imsi_of octets) (guti_of octets)
+
+unfoldable pub identity_at : Reader Identity
+identity_at = do
+  octets ← counted_at
+  known (identity_of octets) reasons.NasIdentity
+
+-- the first two octets
+abbrev pub algorithms_of : List ℕ → Option (ℕ × ℕ)
+algorithms_of [] = None
+algorithms_of (eea ∷ []) = None
+algorithms_of (eea ∷ eia ∷ more) = Some (eea, eia)
+
+unfoldable pub capability_at : Reader (ℕ × ℕ)
+capability_at = do
+  octets ← counted_at
+  known (algorithms_of octets) reasons.NasShort
+
+-- the second of three octets
+abbrev pub pti_of : List ℕ → Option ℕ
+pti_of [] = None
+pti_of (bearer ∷ []) = None
+pti_of (bearer ∷ pti ∷ []) = None
+pti_of (bearer ∷ pti ∷ type ∷ more) = Some pti
+
+unfoldable pub container_at : Reader ℕ
+container_at = do
+  octets ← long_counted_at
+  known (pti_of octets) reasons.NasShort
+
+-- ---- messages
+
+unfoldable pub attach_request_at : Reader NasIn
+attach_request_at = do
+  attach_type ← octet_at
+  identity ← identity_at
+  capability ← capability_at
+  pti ← container_at
+  done (AttachRequest identity capability.0 capability.1 pti)
+
+unfoldable pub attach_complete_at : Reader NasIn
+attach_complete_at = do
+  container ← long_counted_at
+  done AttachComplete
+
+unfoldable pub detach_request_at : Reader NasIn
+detach_request_at = do
+  detach_type ← octet_at
+  identity ← identity_at
+  done (DetachRequest (detach_type / 8 % 2 == 1) identity)
+
+unfoldable pub area_request_at : Reader NasIn
+area_request_at = do
+  update_type ← octet_at
+  identity ← identity_at
+  done (AreaRequest identity)
+
+unfoldable pub auth_response_at : Reader NasIn
+auth_response_at = do
+  res ← counted_at
+  done (AuthResponse res)
+
+unfoldable pub security_reject_at : Reader NasIn
+security_reject_at = do
+  cause ← octet_at
+  done (SecurityReject cause)
+
+abbrev pub fields_at : Kind → Reader NasIn
+fields_at kinds.AttachRequest = attach_request_at
+fields_at kinds.AttachComplete = attach_complete_at
+fields_at kinds.DetachRequest = detach_request_at
+fields_at kinds.AreaRequest = area_request_at
+fields_at kinds.AuthResponse = auth_response_at
+fields_at kinds.SecurityComplete = done SecurityComplete
+fields_at kinds.SecurityReject = security_reject_at
+
+-- the message of that type
+unfoldable pub kind_of : ℕ → Option Kind
+kind_of octet = if octet == 0x41 then Some kinds.AttachRequest else (if octet == 0x43 then Some kinds.AttachComplete else (if octet == 0x45 then Some kinds.DetachRequest else (if octet == 0x48 then Some kinds.AreaRequest else (if octet == 0x53 then Some kinds.AuthResponse else (if octet == 0x5e then Some kinds.SecurityComplete else (if octet == 0x5f then Some kinds.SecurityReject else None))))))
+
+unfoldable pub kind_at : Reader Kind
+kind_at = do
+  octet ← octet_at
+  known (kind_of octet) (reasons.NasKind octet)
+
+unfoldable pub message_at : Reader NasIn
+message_at = kind_at >>= fields_at
+
+-- ---- the first octet
+
+-- what a first octet says
+unfoldable pub header_of : ℕ → Option Header
+header_of octet = if octet == 0x07 then Some Plain else (if octet == 0x17 then Some Protected else (if octet == 0x27 then Some Protected else (if octet == 0x37 then Some Protected else (if octet == 0x47 then Some Protected else (if octet == 0xc7 then Some Service else None)))))
+
+unfoldable pub header_at : Reader Header
+header_at = do
+  octet ← octet_at
+  known (header_of octet) reasons.NasDiscriminator
+
+-- what is in front of the message type in a protected message
+unfoldable pub security_at : Reader (Unit {0})
+security_at = do
+  code ← octets_at 4
+  number ← octet_at
+  inner ← octet_at
+  known (if inner == 0x07 then Some tt else None) reasons.NasDiscriminator
+
+unfoldable pub protected_at : Reader NasIn
+protected_at = do
+  security ← security_at
+  message_at
+
+unfoldable pub service_at : Reader NasIn
+service_at = do
+  behind ← octets_at 3
+  done ServiceRequest
+
+abbrev pub behind_at : Header → Reader NasIn
+behind_at Plain = message_at
+behind_at Protected = protected_at
+behind_at Service = service_at
+
+unfoldable pub nas_at : Reader NasIn
+nas_at = header_at >>= behind_at

@@ -1,0 +1,20 @@
+//! The messages of EPS mobility management (3GPP TS 24.301): those of a device, each read exactly, refusals included, and
+//! those of the network, each written in one way.
+#![tactic(auto)]
+
+mod identity;
+mod kind;
+mod laws;
+mod nas_in;
+mod reader;
+mod reading;
+#[cfg(test)]
+mod tests;
+mod writing;
+#[cfg(test)]
+mod writing_tests;
+
+pub use laws::one_answer;
+pub use nas_in::NasIn;
+pub use reading::read_nas;
+pub use writing::write_nas;

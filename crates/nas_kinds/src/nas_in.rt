@@ -1,0 +1,48 @@
+//! The NAS messages that are read.
+
+use device_types::Octets;
+use echo_base::Identity;
+
+/// An EPS mobility management message from a device (3GPP TS 24.301, 8.2), with what is used of its mandatory fields.
+#[derive(Debug, Drop)]
+pub enum NasIn {
+    /// ATTACH REQUEST (8.2.4).
+    AttachRequest {
+        /// The EPS mobile identity (9.9.3.12).
+        identity: Identity,
+        /// The encryption algorithms that the device supports, a bit each (9.9.3.34).
+        eea: u8,
+        /// The integrity algorithms that the device supports, a bit each (9.9.3.34).
+        eia: u8,
+        /// The procedure transaction identity of the ESM message in it (9.4).
+        pti: u8,
+    },
+    /// ATTACH COMPLETE (8.2.2).
+    AttachComplete,
+    /// DETACH REQUEST of a device (8.2.11.1).
+    DetachRequest {
+        /// The device is switched off (9.9.3.7).
+        off: bool,
+        /// The EPS mobile identity (9.9.3.12).
+        identity: Identity,
+    },
+    /// TRACKING AREA UPDATE REQUEST (8.2.29).
+    AreaRequest {
+        /// The old GUTI (9.9.3.12).
+        identity: Identity,
+    },
+    /// AUTHENTICATION RESPONSE (8.2.8).
+    AuthResponse {
+        /// RES (9.9.3.4).
+        res: Octets,
+    },
+    /// SECURITY MODE COMPLETE (8.2.21).
+    SecurityComplete,
+    /// SECURITY MODE REJECT (8.2.22).
+    SecurityReject {
+        /// The EMM cause (9.9.3.9).
+        cause: u8,
+    },
+    /// SERVICE REQUEST (8.2.25).
+    ServiceRequest,
+}

@@ -1,0 +1,231 @@
+//! Reading whole messages.
+
+ghost use Rattle.std.specs.Prelude.{◌≡◌, ℕ, List, Err};
+ghost use Rattle.echo_base.specs.declared.reason.Reason.{Reason};
+ghost use Rattle.echo_base.specs.declared.refusal.Bad.TheVariants.{Refused};
+ghost use Rattle.nas_kinds.specs.declared.nas_in.NasIn.{NasIn};
+ghost use Rattle.nas_kinds.specs.Reading.{Gives, identity_at, capability_at, container_at, attach_request_at, attach_complete_at, detach_request_at, area_request_at, security_reject_at, auth_response_at, kind_at, fields_at, message_at, security_at, behind_at, header_at, service_at, nas_at};
+ghost use Rattle.nas_kinds.specs.Memory.{GivesIn, Reads, IsUnlessNoMemory};
+ghost use Rattle.nas_kinds.specs.Kinds.{NasSpells, NasRefuses};
+
+use crate::identity::identity_of;
+use crate::kind::{Header, Kind, header_of, kind_of};
+use crate::nas_in::NasIn;
+use crate::reader::{NasReader, refused};
+use device_types::Octets;
+use echo_base::{Bad, Identity, Reason, Refusal};
+use std::alloc::Global;
+
+/// An EPS mobile identity (9.9.3.12).
+#[tactic(auto, unfolding(crate::specs::Reading::identity_at))]
+fn read_identity(r: &mut NasReader) -> Result<Identity, Refusal>
+    ensures { Gives result r.old r.new (identity_at r.old) }
+{
+    let octets = r.counted()?;
+    let Some(identity) = identity_of(octets) else {
+        return Err(refused(Reason::NasIdentity));
+    };
+    Ok(identity)
+}
+
+/// The first two octets of a UE network capability (9.9.3.34): the encryption and the integrity algorithms.
+#[tactic(auto, unfolding(crate::specs::Reading::capability_at))]
+fn read_capability(r: &mut NasReader) -> Result<(u8, u8), Refusal>
+    ensures { Gives result r.old r.new (capability_at r.old) }
+{
+    let [eea, eia, ..] = r.counted()? else {
+        return Err(refused(Reason::NasShort));
+    };
+    Ok((*eea, *eia))
+}
+
+/// The procedure transaction identity of the ESM message in a container (9.9.3.15).
+#[tactic(auto, unfolding(crate::specs::Reading::container_at))]
+fn read_container(r: &mut NasReader) -> Result<u8, Refusal>
+    ensures { Gives result r.old r.new (container_at r.old) }
+{
+    let [_bearer, pti, _kind, ..] = r.long_counted()? else {
+        return Err(refused(Reason::NasShort));
+    };
+    Ok(*pti)
+}
+
+/// The fields of an ATTACH REQUEST (8.2.4).
+#[tactic(auto, unfolding(crate::specs::Reading::attach_request_at))]
+fn read_attach_request(r: &mut NasReader) -> Result<NasIn, Refusal>
+    ensures { Gives result r.old r.new (attach_request_at r.old) }
+{
+    r.octet()?;
+    let identity = read_identity(r)?;
+    let (eea, eia) = read_capability(r)?;
+    let pti = read_container(r)?;
+    Ok(NasIn::AttachRequest {
+        identity,
+        eea,
+        eia,
+        pti,
+    })
+}
+
+/// The fields of an ATTACH COMPLETE (8.2.2).
+#[tactic(auto, unfolding(crate::specs::Reading::attach_complete_at))]
+fn read_attach_complete(r: &mut NasReader) -> Result<NasIn, Refusal>
+    ensures { Gives result r.old r.new (attach_complete_at r.old) }
+{
+    r.long_counted()?;
+    Ok(NasIn::AttachComplete)
+}
+
+/// The fields of a DETACH REQUEST (8.2.11.1).
+#[tactic(auto, using(crate::proofs::Digits::fourth_bit), unfolding(crate::specs::Reading::detach_request_at))]
+fn read_detach_request(r: &mut NasReader) -> Result<NasIn, Refusal>
+    ensures { Gives result r.old r.new (detach_request_at r.old) }
+{
+    let detach_type = r.octet()?;
+    let identity = read_identity(r)?;
+    Ok(NasIn::DetachRequest {
+        off: detach_type & 0x08 != 0,
+        identity,
+    })
+}
+
+/// The fields of a TRACKING AREA UPDATE REQUEST (8.2.29).
+#[tactic(auto, unfolding(crate::specs::Reading::area_request_at))]
+fn read_area_request(r: &mut NasReader) -> Result<NasIn, Refusal>
+    ensures { Gives result r.old r.new (area_request_at r.old) }
+{
+    r.octet()?;
+    let identity = read_identity(r)?;
+    Ok(NasIn::AreaRequest { identity })
+}
+
+/// The fields of an AUTHENTICATION RESPONSE (8.2.8), with RES in memory of its own.
+#[tactic(auto, unfolding(crate::specs::Reading::auth_response_at))]
+fn read_auth_response(alloc: Global, r: &mut NasReader) -> Result<NasIn, Bad>
+    ensures { GivesIn result r.new (auth_response_at r.old) }
+{
+    let res = r.counted()?;
+    let res = Octets::from(Vec::from_slice(alloc, res)?);
+    Ok(NasIn::AuthResponse { res })
+}
+
+/// The fields of a SECURITY MODE REJECT (8.2.22).
+#[tactic(auto, unfolding(crate::specs::Reading::security_reject_at))]
+fn read_security_reject(r: &mut NasReader) -> Result<NasIn, Refusal>
+    ensures { Gives result r.old r.new (security_reject_at r.old) }
+{
+    let cause = r.octet()?;
+    Ok(NasIn::SecurityReject { cause })
+}
+
+/// The mandatory fields of a message.
+fn read_fields(alloc: Global, r: &mut NasReader, kind: Kind) -> Result<NasIn, Bad>
+    ensures { GivesIn result r.new (fields_at kind r.old) }
+{
+    match kind {
+        Kind::AttachRequest => Ok(read_attach_request(r)?),
+        Kind::AttachComplete => Ok(read_attach_complete(r)?),
+        Kind::DetachRequest => Ok(read_detach_request(r)?),
+        Kind::AreaRequest => Ok(read_area_request(r)?),
+        Kind::AuthResponse => read_auth_response(alloc, r),
+        Kind::SecurityComplete => Ok(NasIn::SecurityComplete),
+        Kind::SecurityReject => Ok(read_security_reject(r)?),
+    }
+}
+
+/// The message type (9.8).
+#[tactic(auto, unfolding(crate::specs::Reading::kind_at))]
+fn read_kind(r: &mut NasReader) -> Result<Kind, Refusal>
+    ensures { Gives result r.old r.new (kind_at r.old) }
+{
+    let octet = r.octet()?;
+    let Some(kind) = kind_of(octet) else {
+        return Err(refused(Reason::NasKind(octet)));
+    };
+    Ok(kind)
+}
+
+/// A message type, and the fields of its message.
+#[tactic(auto, unfolding(crate::specs::Reading::message_at))]
+fn read_message(alloc: Global, r: &mut NasReader) -> Result<NasIn, Bad>
+    ensures { GivesIn result r.new (message_at r.old) }
+{
+    let kind = read_kind(r)?;
+    read_fields(alloc, r, kind)
+}
+
+/// What is in front of the message type in a protected message (8.2.23): a message authentication code, a sequence number,
+/// and the first octet of a plain message.
+#[tactic(auto, unfolding(crate::specs::Reading::security_at))]
+fn skip_security(r: &mut NasReader) -> Result<(), Refusal>
+    ensures { Gives result r.old r.new (security_at r.old) }
+{
+    r.octets(4)?;
+    r.octet()?;
+    let inner = r.octet()?;
+    if inner != 0x07 {
+        return Err(refused(Reason::NasDiscriminator));
+    }
+    Ok(())
+}
+
+/// The fields of a SERVICE REQUEST (8.2.25).
+#[tactic(auto, unfolding(crate::specs::Reading::service_at))]
+fn read_service(r: &mut NasReader) -> Result<NasIn, Refusal>
+    ensures { Gives result r.old r.new (service_at r.old) }
+{
+    r.octets(3)?;
+    Ok(NasIn::ServiceRequest)
+}
+
+/// What is behind the first octet.
+#[tactic(auto, unfolding(crate::specs::Reading::protected_at))]
+fn read_behind(alloc: Global, r: &mut NasReader, header: Header) -> Result<NasIn, Bad>
+    ensures { GivesIn result r.new (behind_at header r.old) }
+{
+    match header {
+        Header::Plain => read_message(alloc, r),
+        Header::Protected => {
+            skip_security(r)?;
+            read_message(alloc, r)
+        }
+        Header::Service => Ok(read_service(r)?),
+    }
+}
+
+/// The first octet of a message.
+#[tactic(auto, unfolding(crate::specs::Reading::header_at))]
+fn read_header(r: &mut NasReader) -> Result<Header, Refusal>
+    ensures { Gives result r.old r.new (header_at r.old) }
+{
+    let octet = r.octet()?;
+    let Some(header) = header_of(octet) else {
+        return Err(refused(Reason::NasDiscriminator));
+    };
+    Ok(header)
+}
+
+/// A message from its first octet on.
+#[tactic(auto, unfolding(crate::specs::Reading::nas_at))]
+fn read_whole(alloc: Global, r: &mut NasReader) -> Result<NasIn, Bad>
+    ensures { GivesIn result r.new (nas_at r.old) }
+{
+    let header = read_header(r)?;
+    read_behind(alloc, r, header)
+}
+
+/// Reads the message that the octets begin with; what follows its mandatory fields is passed over. It is refused for the
+/// first field that is wrong: NasShort where a field is not whole, or too short for what is used of it; NasDiscriminator
+/// for the first octet, and for that of the plain message in a protected one; NasKind, with the octet, for a message type
+/// that is none of the table's; NasIdentity for an identity that is neither an IMSI of 15 digits nor a GUTI. Only RES takes
+/// memory.
+pub fn read_nas(alloc: Global, octets: &[u8]) -> Result<NasIn, Bad>
+    ensures reading { (rest : List ℕ) × GivesIn result rest (nas_at octets.now) }
+    ensures read { Reads octets.now result }
+    ensures only { (message : NasIn) → NasSpells octets.now message → IsUnlessNoMemory result message }
+    ensures refused { (reason : Reason) → NasRefuses octets.now reason
+        → result ≡ Err (Refused (record { reason = reason; place = 0 })) }
+{
+    let mut r = NasReader::new(octets);
+    read_whole(alloc, &mut r)
+}
