@@ -1,0 +1,5 @@
+pub mod DeviceLaws
+pub mod IndexLaws
+pub mod ItemLaws
+pub mod ObjectLaws
+pub mod TextLaws

@@ -1,0 +1,5 @@
+pub mod Index
+pub mod Kinds
+pub mod Range
+pub mod Row
+pub mod Table

@@ -1,0 +1,122 @@
+-- The lines of the subscriber table, a JSON object each.
+use Rattle.std.specs.Prelude.{◌≡◌, ℕ, List, [], ◌∷◌, codes, Option, Some, None, Result, Ok, Err, is_none, find, option_and_then, if◌then◌else◌}
+use Rattle.std.specs.Option.{option_map_or}
+use Rattle.std.specs.Str.{is_utf8}
+use Rattle.serde_json.specs.Data as json
+use Rattle.serde_json.specs.Data.{Data}
+use Rattle.serde_json.specs.Read.{read}
+use Rattle.serde_json.specs.Find.{get}
+use Rattle.serde_json.specs.View.{view}
+use Rattle.serde_json.specs.declared.value.Value.{Value}
+use Rattle.device_types.specs.declared.subscriber.Subscriber.{Subscriber}
+use Rattle.echo_base.specs.declared.reason.Column.{Column}
+use Rattle.echo_base.specs.declared.reason.Column.TheVariants.{Imsi, Tmsi, Rand, Autn, Res, Key, Apn, Ip, Sgw, Teid, AmbrDl, AmbrUl, Forbidden}
+use Rattle.echo_base.specs.declared.reason.Reason.{Reason}
+use Rattle.echo_base.specs.declared.reason.Reason.TheVariants.{BadJson, MissingColumn, BadColumn}
+use Rattle.echo_base.specs.declared.refusal.Refusal.{Refusal}
+use Rattle.echo_base.specs.declared.refusal.Bad.{Bad}
+use Rattle.echo_base.specs.declared.refusal.Bad.TheVariants.{Refused, OutOfMemory}
+use Rattle.subs_table.specs.Kinds.{Kind, whole, decimal, hexadecimal, address, name, wholes}
+
+-- the columns in their order, all of them needed
+abbrev pub columns : List Column
+columns = Imsi ∷ Tmsi ∷ Rand ∷ Autn ∷ Res ∷ Key ∷ Apn ∷ Ip ∷ Sgw ∷ Teid ∷ AmbrDl ∷ AmbrUl ∷ Forbidden ∷ []
+
+-- the key of a column
+unfoldable pub key_of : Column → List ℕ
+key_of Imsi = codes "imsi"
+key_of Tmsi = codes "tmsi"
+key_of Rand = codes "rand"
+key_of Autn = codes "autn"
+key_of Res = codes "res"
+key_of Key = codes "key"
+key_of Apn = codes "apn"
+key_of Ip = codes "ip"
+key_of Sgw = codes "sgw"
+key_of Teid = codes "teid"
+key_of AmbrDl = codes "ambr_dl"
+key_of AmbrUl = codes "ambr_ul"
+key_of Forbidden = codes "forbidden"
+
+-- ---- reading an object
+
+-- what is read of an object, or why it is refused
+abbrev pub Reader : Type 0 → Type 0
+Reader A = Data → Result A Reason
+
+infixl 10 ◌>>=◌
+abbrev pub and_then : {A B : Type 0} → Result A Reason → (A → Result B Reason) → Result B Reason
+and_then (Ok v) f = f v
+and_then (Err reason) f = Err reason
+
+-- one thing, and then what its value calls for; the first refusal stands
+abbrev pub ◌>>=◌ : {A B : Type 0} → Reader A → (A → Reader B) → Reader B
+f >>= g = λ row. and_then (f row) (λ v. g v row)
+
+abbrev pub done : {A : Type 0} → A → Reader A
+done v = λ row. Ok v
+
+-- every column is there, or the first that is missing is told
+unfoldable pub all_columns : Reader (Unit {0})
+all_columns row = option_map_or (λ column. Err (MissingColumn column)) (find (λ column. is_none (get (key_of column) row)) columns) (Ok tt)
+
+-- a column of that kind; of a repeated key the last value counts, which is serde_json's word
+unfoldable pub column_at : {A : Type 0} → Column → Kind A → Reader A
+column_at column kind row = option_map_or Ok (option_and_then kind (get (key_of column) row)) (Err (BadColumn column))
+
+-- the row of that number: a line for each column, with its kind and range
+unfoldable pub subscriber_at : ℕ → Reader Subscriber
+subscriber_at number = do
+  all ← all_columns
+  imsi ← column_at Imsi (decimal 15)
+  tmsi ← column_at Tmsi (whole 0 4294967295)
+  rand ← column_at Rand (hexadecimal 16 16)
+  autn ← column_at Autn (hexadecimal 16 16)
+  res ← column_at Res (hexadecimal 4 16)
+  key ← column_at Key (hexadecimal 32 32)
+  apn ← column_at Apn (name 1 30)
+  ip ← column_at Ip address
+  sgw ← column_at Sgw address
+  teid ← column_at Teid (whole 1 4000000000)
+  ambr_dl ← column_at AmbrDl (whole 0 10000000000)
+  ambr_ul ← column_at AmbrUl (whole 0 10000000000)
+  forbidden ← column_at Forbidden (wholes 16 65535)
+  done (record { number = number; imsi = imsi; tmsi = tmsi; rand = rand; autn = autn; res = res; key = key; apn = apn; ip = ip; sgw = sgw; teid = teid; ambr_dl = ambr_dl; ambr_ul = ambr_ul; forbidden = forbidden })
+
+-- ---- reading a line
+
+-- the value, where it is an object
+abbrev pub as_row : Data → Option Data
+as_row json.null = None
+as_row (json.boolean b) = None
+as_row (json.number n) = None
+as_row (json.string s) = None
+as_row (json.array ds) = None
+as_row (json.object ms) = Some (json.object ms)
+
+-- the object of a line, which is UTF-8 and JSON by the reading of serde_json
+unfoldable pub object_of : List ℕ → Option Data
+object_of line = if is_utf8 line then option_and_then as_row (read line) else None
+
+-- the row of that number that the line is, or why it is refused
+unfoldable pub row_of : ℕ → List ℕ → Result Subscriber Reason
+row_of number line = option_map_or (subscriber_at number) (object_of line) (Err BadJson)
+
+-- ---- what a call answers
+
+-- the value or the reason, which has the place 0
+abbrev pub Gives : {A : Type 0} → Result A Refusal → Result A Reason → Type 0
+Gives (Ok v) wanted = wanted ≡ Ok v
+Gives (Err refusal) wanted = (wanted ≡ Err refusal.reason) × (refusal.place ≡ 0)
+
+-- the value or the reason, or no memory
+abbrev pub MatchRow : {A : Type 0} → Result A Bad → Result A Reason → Type 0
+MatchRow (Ok v) wanted = wanted ≡ Ok v
+MatchRow (Err (Refused refusal)) wanted = (wanted ≡ Err refusal.reason) × (refusal.place ≡ 0)
+MatchRow (Err OutOfMemory) wanted = Unit {0}
+
+-- the object of a line, none where it is refused, or no memory
+abbrev pub MatchObject : Result Value Bad → Option Data → Type 0
+MatchObject (Ok value) wanted = wanted ≡ Some (view value)
+MatchObject (Err (Refused refusal)) wanted = (wanted ≡ None) × (refusal.reason ≡ BadJson) × (refusal.place ≡ 0)
+MatchObject (Err OutOfMemory) wanted = Unit {0}
