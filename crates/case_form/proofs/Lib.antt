@@ -1,0 +1,11 @@
+pub mod NumberLaws
+pub mod WordLaws
+pub mod LineLaws
+pub mod RowLaws
+pub mod PlaceLaws
+pub mod StateLaws
+pub mod ExactLaws
+pub mod EventLaws
+pub mod TraceLaws
+pub mod FormLaws
+pub mod CaseLaws

@@ -1,0 +1,19 @@
+//! The case text: subscribers, a trace and a schedule in one text of lines.
+#![tactic(auto)]
+
+mod case;
+mod event;
+mod laws;
+#[cfg(test)]
+mod line_tests;
+mod number;
+mod reading;
+mod section;
+#[cfg(test)]
+mod tests;
+mod trace;
+mod words;
+
+pub use case::{Case, CaseBad, TraceLine};
+pub use laws::{events_are_exact, trace_lines_are_exact};
+pub use reading::read_case;

@@ -1,0 +1,207 @@
+//! Reading a case text, line by line.
+
+ghost use Rattle.std.specs.Prelude.{◌≡◌, ◌+◌, ◌≤◌, length, is_some, All, IfOk};
+ghost use Rattle.echo_base.specs.declared.refusal.Bad.TheVariants.{Refused};
+ghost use Rattle.subs_table.specs.Row.{row_of};
+ghost use Rattle.case_form.specs.Case.{row_reason, form_reason, most_lines, first_bad, MatchFirstBad, IsCase};
+ghost use Rattle.case_form.specs.Event.{event_of, IsInForm};
+ghost use Rattle.case_form.specs.Section.{heading_of};
+ghost use Rattle.case_form.specs.State.{Takes, TakesLine, seen_of, unread, next, next_heading_reason, reason_in, rows_after, trace_after, schedule_after, after};
+ghost use Rattle.case_form.specs.Trace.{sent_of};
+
+use crate::case::{Case, CaseBad, TraceLine};
+use crate::event::read_event;
+use crate::section::{Section, heading_of, is_heading, is_passed_over};
+use crate::trace::read_sent;
+use bstr::ByteSlice;
+use device_types::{Event, Octets};
+use echo_base::{Bad, Reason, Refusal};
+use std::alloc::Global;
+use subs_table::{SubsTable, read_row};
+
+/// As many octets as a line may have, without its end.
+const MOST_OCTETS: usize = 8192;
+
+/// As many lines as a trace or a schedule may have.
+const MOST_LINES: usize = 100_000;
+
+/// A refusal, which has the place 0.
+fn refused(reason: Reason) -> Bad
+    ensures { result ≡ Refused (record { reason = reason; place = 0 }) }
+{
+    Bad::Refused(Refusal { reason, place: 0 })
+}
+
+/// Goes on to the section of a heading, which has to come later than the section before.
+fn take_heading(section: &mut Option<Section>, line: &[u8]) -> Result<(), Bad>
+    ensures { Takes result (next_heading_reason section.old (heading_of line.now))
+        (section.new ≡ heading_of line.now) }
+{
+    let Some(heading) = heading_of(line) else {
+        return Err(refused(Reason::BadSection));
+    };
+    if Some(heading) <= *section {
+        return Err(refused(Reason::BadSection));
+    }
+    *section = Some(heading);
+    Ok(())
+}
+
+/// Adds the row of a line to the table.
+#[tactic(auto, unfolding(crate::specs::State::rows_after))]
+fn take_row(alloc: Global, table: &mut SubsTable, line: &[u8]) -> Result<(), Bad>
+    ensures { Takes result (row_reason table.old (row_of (length table.old + 1) line.now))
+        (table.new ≡ rows_after table.old line.now) }
+{
+    let row = read_row(alloc, line, table.len() + 1)?;
+    table.add(row)?;
+    Ok(())
+}
+
+/// Adds a line of that number to the trace.
+#[tactic(auto, unfolding(crate::specs::State::trace_after))]
+fn take_trace_line(
+    alloc: Global,
+    trace: &mut Vec<TraceLine>,
+    number: u32,
+    line: &[u8],
+) -> Result<(), Bad>
+    ensures { Takes result (form_reason (length trace.old.items) (is_some (sent_of line.now)))
+        (trace.new.items ≡ trace_after number trace.old.items line.now) }
+{
+    if trace.len() >= MOST_LINES {
+        return Err(refused(Reason::TooManyLines));
+    }
+    let Some((station, text)) = read_sent(line) else {
+        return Err(refused(Reason::BadLine));
+    };
+    let text = Octets::from(Vec::from_slice(alloc, text)?);
+    trace.push(TraceLine {
+        line: number,
+        station,
+        text,
+    })?;
+    Ok(())
+}
+
+/// Adds the event of a line to the schedule, where there are so many rows.
+#[tactic(auto, unfolding(crate::specs::State::schedule_after))]
+fn take_event(schedule: &mut Vec<Event>, rows: u32, line: &[u8]) -> Result<(), Bad>
+    ensures { Takes result (form_reason (length schedule.old.items) (is_some (event_of rows line.now)))
+        (schedule.new.items ≡ schedule_after rows schedule.old.items line.now) }
+{
+    if schedule.len() >= MOST_LINES {
+        return Err(refused(Reason::TooManyLines));
+    }
+    let Some(event) = read_event(line, rows) else {
+        return Err(refused(Reason::BadLine));
+    };
+    schedule.push(event)?;
+    Ok(())
+}
+
+/// A case text that was read in part.
+#[derive(Drop)]
+struct Reading {
+    alloc: Global,
+    /// The section of the last heading.
+    section: Option<Section>,
+    /// The number of the last line.
+    number: u32,
+    /// What the lines say.
+    case: Case,
+}
+
+/// Nothing read.
+fn begin(alloc: Global) -> Reading
+    ensures { seen_of result ≡ unread }
+{
+    Reading {
+        alloc,
+        section: None,
+        number: 0,
+        case: Case {
+            table: SubsTable::new(alloc),
+            trace: Vec::new(alloc),
+            schedule: Vec::new(alloc),
+        },
+    }
+}
+
+/// Takes a line, of the number that is set.
+#[tactic(auto, unfolding(crate::specs::State::reason_in, crate::specs::State::after))]
+fn take(reading: &mut Reading, line: &[u8]) -> Result<(), Bad>
+    ensures { Takes result (reason_in (seen_of reading.old) line.now)
+        (seen_of reading.new ≡ after (seen_of reading.old) line.now) }
+{
+    if line.len() > MOST_OCTETS {
+        return Err(refused(Reason::LineTooLong));
+    }
+    if is_passed_over(line) {
+        return Ok(());
+    }
+    if is_heading(line) {
+        return take_heading(&mut reading.section, line);
+    }
+    let alloc = reading.alloc;
+    let number = reading.number;
+    match reading.section {
+        None => Err(refused(Reason::BadSection)),
+        Some(Section::Subscribers) => take_row(alloc, &mut reading.case.table, line),
+        Some(Section::Trace) => take_trace_line(alloc, &mut reading.case.trace, number, line),
+        Some(Section::Schedule) => {
+            let rows = reading.case.table.len();
+            take_event(&mut reading.case.schedule, rows, line)
+        }
+    }
+}
+
+/// Takes the next line.
+fn take_next(reading: &mut Reading, line: &[u8]) -> Result<(), CaseBad>
+    ensures { let seen = next (seen_of reading.old) in
+        TakesLine result (reason_in seen line.now) seen.number (seen_of reading.new ≡ after seen line.now) }
+{
+    let number = reading.number.saturating_add(1);
+    reading.number = number;
+    match take(reading, line) {
+        Ok(()) => Ok(()),
+        Err(Bad::Refused(refusal)) => Err(CaseBad::Refused {
+            reason: refusal.reason,
+            line: number,
+        }),
+        Err(Bad::OutOfMemory) => Err(CaseBad::OutOfMemory),
+    }
+}
+
+/// Reads a case text. It is refused for the first line that is bad, with the first reason that applies to that line.
+///
+/// Lines end with LF. One CR before a LF is dropped, and the last line may lack its LF. Empty lines, and comments, which
+/// begin with `#`, are passed over. The headings `[subscribers]`, `[trace]` and `[schedule]` stand in this order, each at
+/// most once. Behind them stand:
+/// - JSON objects, the rows of the subscriber table;
+/// - lines `STATION TEXT`: a base station from 1 to 65535, and a text of one octet or more without spaces;
+/// - events, as `take R D N`, with words parted by one space: a replica from 1 to 16, a device from 1 to the number of
+///   rows, and numbers of messages and effects from 1 to 4294967295. Numbers have no leading zeros.
+///
+/// A line is refused as LineTooLong where it has more than 8,192 octets; as BadSection where it is another heading, where
+/// that heading or a later one stands before it, or where it is no heading and none stands before it; as TooManyLines
+/// where 100,000 lines of its trace or schedule stand before it; for what reading or adding its row refuses; or as BadLine
+/// where it has another form. Line numbers begin with 1; those above 4,294,967,295 count as that number.
+#[tactic(auto, unfolding(crate::specs::Case::first_bad))]
+pub fn read_case(alloc: Global, bytes: &[u8]) -> Result<Case, CaseBad>
+    // Nothing is said of when memory is wanted.
+    ensures first_bad { MatchFirstBad result (first_bad bytes.now) }
+    ensures case { IfOk result (IsCase bytes.now) }
+
+    ensures stations { IfOk result (λ case. All (λ line. 1 ≤ line.station) case.trace.items) }
+    ensures events { IfOk result (λ case. All (IsInForm (length case.table)) case.schedule.items) }
+    ensures trace_most { IfOk result (λ case. length case.trace.items ≤ most_lines) }
+    ensures schedule_most { IfOk result (λ case. length case.schedule.items ≤ most_lines) }
+{
+    let mut reading = begin(alloc);
+    for line in bytes.lines() {
+        take_next(&mut reading, line)?;
+    }
+    let Reading { case, .. } = reading;
+    Ok(case)
+}
