@@ -1,8 +1,6 @@
 pub mod LineLaws
-pub mod Elements
-pub mod StrictLaws
-pub mod RequestLaws
+pub mod HexLaws
 pub mod FirstLaws
-pub mod DownlinkLaws
+pub mod RequestLaws
+pub mod TextLaws
 pub mod TopLaws
-pub mod SpelledLaws

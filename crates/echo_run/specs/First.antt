@@ -1,15 +1,13 @@
--- First texts: one subscriber, and one trace line with the Service Request of a device.
+-- First texts: one subscriber, and one trace line with the PDU of a base station.
 use Rattle.std.specs.Prelude.{◌≡◌, ℕ, ◌^◌, ◌<◌, ◌==◌, ◌||◌, Bool, false, List, [], ◌∷◌, ◌++◌, length, codes, Some}
 use Rattle.std.specs.List.{AllPass, AllByRecursion}
 use Rattle.std.specs.Char.{is_ascii_digit}
 use Rattle.std.specs.Str.{IsUtf8}
-use Rattle.hex.specs.Hex.{encode_lower}
+use Rattle.hex.specs.Hex.{IsBytes, encode_lower}
 use Rattle.serde_json.specs.Data.{Data, unsigned, number, string}
 use Rattle.serde_json.specs.Read.{read}
 use Rattle.serde_json.specs.Find.{get}
 use Rattle.echo_run.specs.declared.first.FirstCase.{FirstCase}
-use Rattle.echo_run.specs.declared.message.Stmsi.{Stmsi}
-use Rattle.echo_run.specs.Messages.{InitialUeMessage, initial_written, IsRightInitial}
 
 -- lines, each with the LF that ends it
 abbrev pub ended_lines : List (List ℕ) → List ℕ
@@ -38,29 +36,11 @@ pub record IsSubscriber (line imsi : List ℕ) (tmsi : ℕ) : Type 0 where
   pub tmsi_is : get (codes "tmsi") value ≡ Some (number (unsigned tmsi))
   pub small : tmsi < 2 ^ 32
 
--- A Service Request (TS 24.301, 8.2.25) with S-TMSI: four octets, the first of them security header type 12 and discriminator 7.
-pub record IsServiceRequest (message : InitialUeMessage) (stmsi : Stmsi) : Type 0 where
-  pub root_cause : message.rrc.extended ≡ false
-  pub sender : message.stmsi ≡ Some stmsi
-  pub four : length message.nas ≡ 4
-  pub rest : List ℕ
-  pub first : message.nas ≡ 199 ∷ rest
-
--- an InitialUEMessage, as it is written, that carries a Service Request of that sender
-pub record IsRequest (pdu : List ℕ) (enb sender : ℕ) : Type 0 where
-  pub message : InitialUeMessage
-  pub stmsi : Stmsi
-  pub right : IsRightInitial message
-  pub request : IsServiceRequest message stmsi
-  pub spelt : pdu ≡ initial_written message
-  pub enb_is : message.enb ≡ enb
-  pub sender_is : stmsi.tmsi ≡ sender
-
--- the octets are the first text of a case
+-- the octets are the first text of a case: its PDU is any octets, at least one, in lower-case hexadecimal text
 pub record IsFirst (octets : List ℕ) (c : FirstCase) : Type 0 where
   pub subscriber : List ℕ
-  pub pdu : List ℕ
-  pub lines : octets ≡ four_lines subscriber (encode_lower pdu)
+  pub lines : octets ≡ four_lines subscriber (encode_lower c.pdu)
   pub one_line : IsLine subscriber
   pub row : IsSubscriber subscriber c.imsi c.tmsi
-  pub request : IsRequest pdu c.enb c.sender
+  pub bytes : IsBytes c.pdu
+  pub some : 0 < length c.pdu

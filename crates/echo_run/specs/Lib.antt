@@ -1,7 +1,4 @@
-pub mod Message
-pub mod Messages
 pub mod First
+pub mod Request
 pub mod Text
 pub mod Top
-pub mod Strict
-pub mod Seen

@@ -6,7 +6,7 @@ use Rattle.echo_base.specs.declared.status.Status.TheVariants.{Done, Usage, Case
 use Rattle.echo_base.specs.Outside.{IsTaken, IsAtEnd}
 use Rattle.echo_run.specs.declared.first.FirstCase.{FirstCase}
 use Rattle.echo_run.specs.First.{IsFirst}
-use Rattle.echo_run.specs.Text.{text_of}
+use Rattle.echo_run.specs.Text.{IsTextOf}
 
 -- the words of the command are the one word `plain`
 abbrev pub IsPlain : List (String Global) → Type 0
@@ -24,10 +24,11 @@ pub record ReadWhole (before : Option (List ℕ)) (octets : List ℕ) (after : O
 
 -- the text that the definition gives for a first text
 abbrev pub IsTextFor : List ℕ → List ℕ → Type 0
-IsTextFor octets text = (c : FirstCase) × IsFirst octets c × (text ≡ text_of c)
+IsTextFor octets text = (c : FirstCase) × IsFirst octets c × IsTextOf c text
 
-abbrev pub IsFirstText : List ℕ → Type 0
-IsFirstText octets = (c : FirstCase) × IsFirst octets c
+-- the definition gives a text
+abbrev pub HasText : List ℕ → Type 0
+HasText octets = (text : List ℕ) × IsTextFor octets text
 
 -- a refused case is refused as a whole: for its length, or since its commands are not there yet
 abbrev pub IsKnownRefusal : Status → Type 0

@@ -4,8 +4,8 @@ ghost use Rattle.std.specs.Prelude.{◌≡◌, ℕ, Some, IfOk, IfSome};
 ghost use Rattle.echo_run.specs.First.{IsFirst};
 ghost use Rattle.echo_run.specs.declared.first.FirstCase.{FirstCase};
 
+use crate::digits::decode_lower;
 use crate::lines::read_lines;
-use crate::request::{decode_lower, read_request};
 use crate::subscriber::read_subscriber;
 use device_types::Octets;
 use std::alloc::{AllocError, Global};
@@ -17,10 +17,8 @@ pub struct FirstCase {
     pub imsi: Octets,
     /// The subscriber's M-TMSI.
     pub tmsi: u32,
-    /// The eNB UE S1AP ID of the message.
-    pub enb: u32,
-    /// The M-TMSI that the message names.
-    pub sender: u32,
+    /// The PDU of the base station.
+    pub pdu: Octets,
 }
 
 /// The case that a text says, if it is a first text.
@@ -34,16 +32,8 @@ pub fn read_first(alloc: Global, octets: &[u8]) -> Result<Option<FirstCase>, All
     let Some(pdu) = decode_lower(alloc, digits)? else {
         return Ok(None);
     };
-    let Some((enb, sender)) = read_request(&pdu) else {
-        return Ok(None);
-    };
     let Some((imsi, tmsi)) = read_subscriber(alloc, line)? else {
         return Ok(None);
     };
-    Ok(Some(FirstCase {
-        imsi,
-        tmsi,
-        enb,
-        sender,
-    }))
+    Ok(Some(FirstCase { imsi, tmsi, pdu }))
 }

@@ -71,6 +71,28 @@ fn texts_of_first_texts(rt: HostRuntime) -> Result<(), Fail> {
         (SUBSCRIBER, WIDE, WIDE_REJECTED),
         (last, GREATEST, REJECTED),
         (SUBSCRIBER, STRANGE, STRANGER),
+        // two IEs in the other order, an IE and the PDU with another criticality, an IE that the table does not name, and
+        // an RRC cause beyond the roots
+        (
+            SUBSCRIBER,
+            "000c4037000006001a000504c7000000000800020001004300060002f8390001006440080002f83900000010008640014000600006004000000001",
+            REJECTED,
+        ),
+        (
+            SUBSCRIBER,
+            "000c0037000006000840020001001a000504c7000000004300060002f8390001006440080002f83900000010008640014000600006004000000001",
+            REJECTED,
+        ),
+        (
+            SUBSCRIBER,
+            "000c403f000007000800020001001a000504c7000000004300060002f8390001006440080002f83900000010008640014000600006004000000001004b000400000000",
+            REJECTED,
+        ),
+        (
+            SUBSCRIBER,
+            "000c4037000006000800020001001a000504c7000000004300060002f8390001006440080002f83900000010008640018000600006004000000001",
+            REJECTED,
+        ),
     ];
     for (subscriber, pdu, wanted) in rows {
         let text = format!(in alloc; "[subscribers]\n{subscriber}\n[trace]\n1 {pdu}\n")?;
@@ -81,102 +103,107 @@ fn texts_of_first_texts(rt: HostRuntime) -> Result<(), Fail> {
     Ok(())
 }
 
+/// What is written where the line of the trace is refused.
+fn refused(alloc: Global, refusal: &str) -> Result<String, AllocError> {
+    format!(in alloc;
+        "refused 4 {refusal}\ndevice 208930000000001 messages 0 steps 0\nsession detached link off area 000000 0 bearer none radio 0\n"
+    )
+}
+
 #[test]
-fn other_subscribers_and_messages(rt: HostRuntime) -> Result<(), Fail> {
+fn refused_messages(rt: HostRuntime) -> Result<(), Fail> {
     let alloc = rt.alloc();
+    // a PDU, and why it is refused
     let rows = [
-        // an attach request
+        // cut to 40 octets, and one octet more
         (
-            SUBSCRIBER,
-            "000c403e000005000800020001001a00161507417108298039000000001002e0e000040201d011004300060002f8390001006440080002f839000000100086400130",
-        ),
-        // upper-case digits, an odd number of them, none, and what is no hexadecimal text
-        (
-            SUBSCRIBER,
-            "000c4037000006000800020001001a000504C7000000004300060002f8390001006440080002f83900000010008640014000600006004000000001",
-        ),
-        (SUBSCRIBER, "000"),
-        (SUBSCRIBER, ""),
-        (SUBSCRIBER, "0g"),
-        // cut short, and one octet more
-        (
-            SUBSCRIBER,
-            "000c4037000006000800020001001a000504c7000000004300060002f8390001006440080002f839000000100086400140006000060040000000",
+            "000c4037000006000800020001001a000504c7000000004300060002f8390001006440080002f839",
+            "1 Truncated at 3",
         ),
         (
-            SUBSCRIBER,
             "000c4037000006000800020001001a000504c7000000004300060002f8390001006440080002f8390000001000864001400060000600400000000100",
+            "13 TrailingBytes at 59",
         ),
         // a length in two octets, and an eNB UE S1AP ID with a zero octet in front
         (
-            SUBSCRIBER,
             "000c408037000006000800020001001a000504c7000000004300060002f8390001006440080002f83900000010008640014000600006004000000001",
+            "2 LongLength at 3",
         ),
         (
-            SUBSCRIBER,
             "000c403800000600080003400001001a000504c7000000004300060002f8390001006440080002f83900000010008640014000600006004000000001",
+            "4 NotMinimal at 12",
         ),
-        // two IEs in the other order, an IE with another criticality, and the PDU with another
+        // an IE twice, another procedure, and an UplinkNASTransport without its first IE
         (
-            SUBSCRIBER,
-            "000c4037000006001a000504c7000000000800020001004300060002f8390001006440080002f83900000010008640014000600006004000000001",
-        ),
-        (
-            SUBSCRIBER,
-            "000c4037000006000840020001001a000504c7000000004300060002f8390001006440080002f83900000010008640014000600006004000000001",
-        ),
-        (
-            SUBSCRIBER,
-            "000c0037000006000800020001001a000504c7000000004300060002f8390001006440080002f83900000010008640014000600006004000000001",
-        ),
-        // an IE that the table does not name, an IE twice, and another procedure
-        (
-            SUBSCRIBER,
-            "000c403f000007000800020001001a000504c7000000004300060002f8390001006440080002f83900000010008640014000600006004000000001004b000400000000",
-        ),
-        (
-            SUBSCRIBER,
             "000c403c000007000800020001001a000504c7000000004300060002f8390001006440080002f839000000100086400140006000060040000000010086400140",
+            "12 RepeatedIe 134 at 59",
         ),
+        ("00110000", "9 OtherProcedure 17 at 1"),
         (
-            SUBSCRIBER,
             "000d4037000006000800020001001a000504c7000000004300060002f8390001006440080002f83900000010008640014000600006004000000001",
+            "11 MissingIe 0 at 59",
         ),
-        // an RRC cause beyond the roots, a fifth NAS octet, another first NAS octet, and no S-TMSI
-        (
-            SUBSCRIBER,
-            "000c4037000006000800020001001a000504c7000000004300060002f8390001006440080002f83900000010008640018000600006004000000001",
-        ),
-        (
-            SUBSCRIBER,
-            "000c4038000006000800020001001a000605c700000000004300060002f8390001006440080002f83900000010008640014000600006004000000001",
-        ),
-        (
-            SUBSCRIBER,
-            "000c4037000006000800020001001a000504c6000000004300060002f8390001006440080002f83900000010008640014000600006004000000001",
-        ),
-        (
-            SUBSCRIBER,
-            "000c402d000005000800020001001a000504c7000000004300060002f8390001006440080002f839000000100086400140",
-        ),
-        // subscribers
-        ("{", REQUEST),
-        ("[]", REQUEST),
-        ("", REQUEST),
-        (r#"{"imsi":"208930000000001"}"#, REQUEST),
-        (r#"{"tmsi":1}"#, REQUEST),
-        (r#"{"imsi":"20893000000001","tmsi":1}"#, REQUEST),
-        (r#"{"imsi":"20893000000000a","tmsi":1}"#, REQUEST),
-        (r#"{"imsi":208930000000001,"tmsi":1}"#, REQUEST),
-        (r#"{"imsi":"208930000000001","tmsi":4294967296}"#, REQUEST),
-        (r#"{"imsi":"208930000000001","tmsi":-1}"#, REQUEST),
-        (r#"{"imsi":"208930000000001","tmsi":1.0}"#, REQUEST),
-        (r#"{"imsi":"208930000000001","tmsi":"1"}"#, REQUEST),
+        ("00", "1 Truncated at 1"),
     ];
-    for (subscriber, pdu) in rows {
-        let text = format!(in alloc; "[subscribers]\n{subscriber}\n[trace]\n1 {pdu}\n")?;
+    for (pdu, wanted) in rows {
+        let text = format!(in alloc; "[subscribers]\n{SUBSCRIBER}\n[trace]\n1 {pdu}\n")?;
         let (status, out) = run(alloc, &["plain"], text.as_str(), &[], &[])?;
-        assert_eq!(rt; status, NOT_YET, "for {subscriber} {pdu}");
+        let wanted = refused(alloc, wanted)?;
+        assert_eq!(rt; status, Status::Done, "for {pdu}");
+        assert_eq!(rt; out.held(), wanted.as_bytes(), "for {pdu}");
+    }
+    Ok(())
+}
+
+#[test]
+fn other_messages(rt: HostRuntime) -> Result<(), Fail> {
+    let alloc = rt.alloc();
+    let rows = [
+        // an attach request, and an UplinkNASTransport
+        "000c403e000005000800020001001a00161507417108298039000000001002e0e000040201d011004300060002f8390001006440080002f839000000100086400130",
+        "000d4035000005000000020001000800020001001a000c0b075308a0a1a2a3a4a5a6a7006440080002f83900000010004340060002f8390001",
+        // a DownlinkNASTransport
+        "000b4017000003000000020001000800020001001a000403074e0a",
+        // a fifth NAS octet, another first NAS octet, and no S-TMSI
+        "000c4038000006000800020001001a000605c700000000004300060002f8390001006440080002f83900000010008640014000600006004000000001",
+        "000c4037000006000800020001001a000504c6000000004300060002f8390001006440080002f83900000010008640014000600006004000000001",
+        "000c402d000005000800020001001a000504c7000000004300060002f8390001006440080002f839000000100086400140",
+        // upper-case digits, an odd number of them, none, and what is no hexadecimal text
+        "000c4037000006000800020001001a000504C7000000004300060002f8390001006440080002f83900000010008640014000600006004000000001",
+        "000",
+        "",
+        "0g",
+    ];
+    for pdu in rows {
+        let text = format!(in alloc; "[subscribers]\n{SUBSCRIBER}\n[trace]\n1 {pdu}\n")?;
+        let (status, out) = run(alloc, &["plain"], text.as_str(), &[], &[])?;
+        assert_eq!(rt; status, NOT_YET, "for {pdu}");
+        assert!(rt; out.held().is_empty());
+    }
+    Ok(())
+}
+
+#[test]
+fn other_subscribers(rt: HostRuntime) -> Result<(), Fail> {
+    let alloc = rt.alloc();
+    let rows = [
+        "{",
+        "[]",
+        "",
+        r#"{"imsi":"208930000000001"}"#,
+        r#"{"tmsi":1}"#,
+        r#"{"imsi":"20893000000001","tmsi":1}"#,
+        r#"{"imsi":"20893000000000a","tmsi":1}"#,
+        r#"{"imsi":208930000000001,"tmsi":1}"#,
+        r#"{"imsi":"208930000000001","tmsi":4294967296}"#,
+        r#"{"imsi":"208930000000001","tmsi":-1}"#,
+        r#"{"imsi":"208930000000001","tmsi":1.0}"#,
+        r#"{"imsi":"208930000000001","tmsi":"1"}"#,
+    ];
+    for subscriber in rows {
+        let text = format!(in alloc; "[subscribers]\n{subscriber}\n[trace]\n1 {REQUEST}\n")?;
+        let (status, out) = run(alloc, &["plain"], text.as_str(), &[], &[])?;
+        assert_eq!(rt; status, NOT_YET, "for {subscriber}");
         assert!(rt; out.held().is_empty());
     }
     Ok(())

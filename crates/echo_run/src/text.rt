@@ -1,14 +1,16 @@
 //! The text that is written for a first text.
 
-ghost use Rattle.std.specs.Prelude.{◌≡◌, ◌^◌, ◌<◌, ◌++◌, ◌∷◌, [], OnOk, IfOk, string_bytes};
+ghost use Rattle.std.specs.Prelude.{◌≡◌, ◌^◌, ◌<◌, ◌++◌, ◌∷◌, [], ℕ, List, OnOk, IfOk, IfSome, IsSomeAnd, string_bytes};
 ghost use Rattle.echo_base.specs.declared.refusal.Refusal.{Refusal};
+ghost use Rattle.s1ap_messages.specs.Run.{written};
 ghost use Rattle.echo_run.specs.First.{ended_lines};
-ghost use Rattle.echo_run.specs.Text.{device_line, down_line, refused_line, service_reject, rejected_text, refused_text, text_of};
-ghost use Rattle.echo_run.specs.Messages.{downlink_written};
+ghost use Rattle.echo_run.specs.Text.{device_line, down_line, refused_line, service_reject, rejected_text, refused_text, request_text, IsTextOf};
 
-use crate::downlink::write_downlink;
 use crate::first::FirstCase;
-use echo_base::{Identity, Reason, Refusal};
+use crate::request::request_of;
+use device_types::Octets;
+use echo_base::{Bad, Identity, Reason, Refusal};
+use s1ap_messages::{Pdu, read_pdu, write_pdu};
 use std::alloc::{AllocError, Global};
 
 /// Puts a line and its end behind a text.
@@ -71,38 +73,70 @@ fn write_refused(alloc: Global, line: u32, refusal: Refusal) -> Result<String, A
 
 const DETACHED: &str = "session detached link off area 000000 0 bearer none radio 0";
 
-/// The text for a subscriber whose Service Request is rejected.
-fn write_rejected(alloc: Global, case: &FirstCase) -> Result<Vec<u8>, AllocError>
-    requires { case.now.enb < 2 ^ 24 }
-    ensures { IfOk result (λ text. text.items ≡ rejected_text case.now) }
+/// The octets of a Service Reject with the cause 10 (TS 24.301, 8.2.24) for the first subscriber.
+fn write_reject(alloc: Global, enb: u32) -> Result<Octets, AllocError>
+    requires { enb < 2 ^ 24 }
+    ensures { IfOk result (λ octets. octets ≡ written (service_reject enb)) }
 {
-    let reject = write_downlink(alloc, 1, case.enb, &[0x07, 0x4e, 0x0a])?;
+    let mut nas = Octets::new(alloc);
+    nas.push(0x07)?;
+    nas.push(0x4e)?;
+    nas.push(0x0a)?;
+    write_pdu(alloc, &Pdu::DownlinkNasTransport { mme: 1, enb, nas })
+}
+
+/// The text for a subscriber whose Service Request is rejected.
+fn write_rejected(alloc: Global, case: &FirstCase, enb: u32) -> Result<Vec<u8>, AllocError>
+    requires { enb < 2 ^ 24 }
+    ensures { IfOk result (λ text. text.items ≡ rejected_text case.now enb) }
+{
+    let reject = write_reject(alloc, enb)?;
     let device = write_device(alloc, case.imsi.items(), 1, 1)?;
-    let down = write_down(alloc, 1, 1, &reject)?;
+    let down = write_down(alloc, 1, 1, reject.items())?;
     write_lines(alloc, &device, down.as_bytes(), DETACHED.as_bytes())
 }
 
-/// The text where the Service Request is not the subscriber's.
-fn write_stranger(alloc: Global, case: &FirstCase) -> Result<Vec<u8>, AllocError>
-    ensures { IfOk result (λ text. text.items ≡ refused_text case.now) }
+/// The text where the line of the trace is refused.
+fn write_refusal(alloc: Global, case: &FirstCase, refusal: Refusal) -> Result<Vec<u8>, AllocError>
+    ensures { IfOk result (λ text. text.items ≡ refused_text case.now refusal) }
 {
-    let refusal = Refusal {
-        reason: Reason::UnknownDevice(Identity::Tmsi(case.sender)),
-        place: 0,
-    };
     let refused = write_refused(alloc, 4, refusal)?;
     let device = write_device(alloc, case.imsi.items(), 0, 0)?;
     write_lines(alloc, refused.as_bytes(), &device, DETACHED.as_bytes())
 }
 
-/// The text for a first text.
-pub fn write_text(alloc: Global, case: &FirstCase) -> Result<Vec<u8>, AllocError>
-    requires { case.now.enb < 2 ^ 24 }
-    ensures { IfOk result (λ text. text.items ≡ text_of case.now) }
+/// The text for a Service Request.
+fn write_request(
+    alloc: Global,
+    case: &FirstCase,
+    enb: u32,
+    sender: u32,
+) -> Result<Vec<u8>, AllocError>
+    requires { enb < 2 ^ 24 }
+    ensures { IfOk result (λ text. text.items ≡ request_text case.now enb sender) }
 {
-    if case.sender == case.tmsi {
-        write_rejected(alloc, case)
-    } else {
-        write_stranger(alloc, case)
+    if sender == case.tmsi {
+        return write_rejected(alloc, case, enb);
     }
+    let refusal = Refusal {
+        reason: Reason::UnknownDevice(Identity::Tmsi(sender)),
+        place: 0,
+    };
+    write_refusal(alloc, case, refusal)
+}
+
+/// The text for a first text, where there is one.
+pub fn write_text(alloc: Global, case: &FirstCase) -> Result<Option<Vec<u8>>, AllocError>
+    ensures found { IfOk result (λ o. IfSome o (λ text. IsTextOf case.now text.items)) }
+    ensures only { (text : List ℕ) → IsTextOf case.now text → IfOk result (λ o. IsSomeAnd o (λ found. found.items ≡ text)) }
+{
+    let pdu = match read_pdu(alloc, case.pdu.items()) {
+        Ok(pdu) => pdu,
+        Err(Bad::Refused(refusal)) => return Ok(Some(write_refusal(alloc, case, refusal)?)),
+        Err(Bad::OutOfMemory) => return Err(AllocError),
+    };
+    let Some((enb, sender)) = request_of(&pdu) else {
+        return Ok(None);
+    };
+    Ok(Some(write_request(alloc, case, enb, sender)?))
 }

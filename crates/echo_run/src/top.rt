@@ -3,10 +3,7 @@
 ghost use Rattle.std.specs.Prelude.{◌≡◌, ◌≢◌, ◌↔◌, ◌⊎◌, ◌+◌, ◌≤◌, ◌++◌, ℕ, List, length, Some, IsTrue, IfOk, IfSome, IsSomeAnd};
 ghost use Rattle.echo_base.specs.Outside.{IsTaken, IsTakenBy, IsAtEnd, IsPut, Rose};
 ghost use Rattle.echo_base.specs.Reason.{reason_number};
-ghost use Rattle.echo_run.specs.declared.first.FirstCase.{FirstCase};
-ghost use Rattle.echo_run.specs.First.{IsFirst};
-ghost use Rattle.echo_run.specs.Text.{text_of};
-ghost use Rattle.echo_run.specs.Top.{IsPlain, most_octets, ReadWhole, IsTextFor, IsFirstText, IsKnownRefusal};
+ghost use Rattle.echo_run.specs.Top.{IsPlain, most_octets, ReadWhole, IsTextFor, HasText, IsKnownRefusal};
 
 use crate::first::read_first;
 use crate::text::write_text;
@@ -33,19 +30,20 @@ fn refused(reason: Reason) -> Status
     }
 }
 
-/// The text for a case text, if it is a first text.
+/// The text for a case text, where there is one.
 fn plain_text(alloc: Global, octets: &[u8]) -> Result<Option<Vec<u8>>, AllocError>
     ensures found { IfOk result (λ o. IfSome o (λ text. IsTextFor octets.now text.items)) }
-    ensures only { (c : FirstCase) → IsFirst octets.now c → IfOk result (λ o. IsSomeAnd o (λ text. text.items ≡ text_of c)) }
+    ensures only { (text : List ℕ) → IsTextFor octets.now text → IfOk result (λ o. IsSomeAnd o (λ found. found.items ≡ text)) }
 {
     match read_first(alloc, octets)? {
-        Some(case) => Ok(Some(write_text(alloc, &case)?)),
+        Some(case) => write_text(alloc, &case),
         None => Ok(None),
     }
 }
 
 /// Reads a case text from the source, and writes what comes of it to the sink. The command is the words, without the
-/// program's name: so far it is the one word `plain`, and the case text has to be a first text.
+/// program's name: so far it is the one word `plain`. The case text has to be a first text (one subscriber and one trace
+/// line), whose PDU is refused or is an InitialUEMessage with a Service Request.
 ///
 /// The statuses, in the order in which they are found: `Usage`, before anything is read; `ReadFault`, where the source
 /// failed; `CaseRefused` with the number 6 (TooLong) and the line 0 for more than 67,108,864 octets, and with 33
@@ -71,9 +69,9 @@ pub fn replay_top<S: Source, K: Sink>(
     ensures short { result ≢ Status.CaseRefused 6 0
         → IsTakenBy (λ n. n ≤ most_octets) (S.left input.old) (S.left input.new) }
 
-    // It is refused as not there yet only where the whole text is no first text, and for nothing else.
+    // It is refused as not there yet only where the definition gives no text for it, and for nothing else.
     ensures not_yet { result ≡ Status.CaseRefused 33 0 → (octets : List ℕ)
-        × ReadWhole (S.left input.old) octets (S.left input.new) × ¬ IsFirstText octets }
+        × ReadWhole (S.left input.old) octets (S.left input.new) × ¬ HasText octets }
     ensures refusals { IsKnownRefusal result }
 
     // Done: the source was read to its end, and the sink gained exactly the text for what was read.
@@ -90,14 +88,14 @@ pub fn replay_top<S: Source, K: Sink>(
     // On every other status the sink is as it was.
     ensures silent { result ≢ Status.Done → result ≢ Status.WriteFault → out.new ≡ out.old }
 
-    // A first text is done, with its text, where no count rose.
-    ensures complete { (octets : List ℕ) (c : FirstCase) → IsPlain words.now → S.left input.old ≡ Some octets
-        → length octets ≤ most_octets → IsFirst octets c
+    // A text that has one is done, with it, where no count rose.
+    ensures complete { (octets text : List ℕ) → IsPlain words.now → S.left input.old ≡ Some octets
+        → length octets ≤ most_octets → IsTextFor octets text
         → ¬ Rose (S.faults input.old) (S.faults input.new) → ¬ Rose (K.faults out.old) (K.faults out.new)
-        → (result ≡ Status.OutOfMemory) ⊎ ((result ≡ Status.Done) × IsPut (K.held out.old) (text_of c) (K.held out.new)) }
+        → (result ≡ Status.OutOfMemory) ⊎ ((result ≡ Status.Done) × IsPut (K.held out.old) text (K.held out.new)) }
     // Any other text is refused as not there yet.
     ensures others { (octets : List ℕ) → IsPlain words.now → S.left input.old ≡ Some octets
-        → length octets ≤ most_octets → ¬ IsFirstText octets
+        → length octets ≤ most_octets → ¬ HasText octets
         → ¬ Rose (S.faults input.old) (S.faults input.new)
         → (result ≡ Status.OutOfMemory) ⊎ (result ≡ Status.CaseRefused 33 0) }
 {

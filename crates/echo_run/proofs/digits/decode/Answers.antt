@@ -2,8 +2,8 @@ use Rattle.std.proofs.Common.{◌≡◌, true, false, not, inl, inr, sym, ap, �
 use Rattle.std.specs.Str.{bytes_eq}
 use Rattle.std.proofs.lemmas.Slice.Eq.{bytes_eq-Decides}
 use Rattle.hex.specs.Hex.{encode_lower}
-use Rattle.echo_run.proofs.RequestLaws.{not_decoded, decoded_is}
-use Rattle.echo_run.proofs.request.decode_lower.Goals as goal
+use Rattle.echo_run.proofs.HexLaws.{not_decoded, decoded_is}
+use Rattle.echo_run.proofs.digits.decode.Goals as goal
 
 pub returns-else-is_memory-clause-only : goal.returns-else-is_memory-clause-only
 returns-else-is_memory-clause-only c = λ octets fits e.
