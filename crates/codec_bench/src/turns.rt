@@ -1,0 +1,82 @@
+//! Reading and writing in turns.
+
+ghost use Rattle.std.specs.Prelude.{◌≡◌, ◌*◌, All, IfOk, length};
+ghost use Rattle.s1ap_messages.specs.Run.{written};
+ghost use Rattle.codec_bench.specs.Sample.{IsSample};
+
+use crate::sample::Sample;
+use device_types::Octets;
+use echo_base::{Bad, OutOfMemory};
+use s1ap_messages::{Pdu, read_pdu, write_pdu};
+use std::alloc::Global;
+
+/// Reads the octets of a sample: its message again.
+fn read_again(alloc: Global, sample: &Sample) -> Result<Pdu, OutOfMemory>
+    requires { IsSample sample.now }
+    ensures { IfOk result (λ pdu. pdu ≡ sample.now.pdu) }
+{
+    match read_pdu(alloc, sample.octets.items()) {
+        Ok(pdu) => Ok(pdu),
+        Err(Bad::OutOfMemory) => Err(OutOfMemory),
+        Err(Bad::Refused(_)) => unreachable!(),
+    }
+}
+
+/// Writes the message of a sample.
+#[tactic(auto, using(crate::proofs::Written::sample_is_right))]
+fn write_again(alloc: Global, sample: &Sample) -> Result<Octets, OutOfMemory>
+    requires { IsSample sample.now }
+    ensures { IfOk result (λ octets. octets ≡ written sample.now.pdu) }
+{
+    write_pdu(alloc, &sample.pdu)
+}
+
+/// Reads each sample once: how many messages were read.
+fn read_each(alloc: Global, samples: &[Sample]) -> Result<usize, OutOfMemory>
+    requires { All IsSample samples.now }
+    ensures { IfOk result (λ count. count ≡ length samples.now) }
+{
+    let mut count = 0;
+    for sample in samples {
+        let _pdu = read_again(alloc, sample)?;
+        count += 1;
+    }
+    Ok(count)
+}
+
+/// Writes each sample once: how many messages were written.
+fn write_each(alloc: Global, samples: &[Sample]) -> Result<usize, OutOfMemory>
+    requires { All IsSample samples.now }
+    ensures { IfOk result (λ count. count ≡ length samples.now) }
+{
+    let mut count = 0;
+    for sample in samples {
+        let _octets = write_again(alloc, sample)?;
+        count += 1;
+    }
+    Ok(count)
+}
+
+/// Reads all samples so many times: how many messages were read.
+pub fn read_turns(alloc: Global, samples: &[Sample], turns: u32) -> Result<u128, OutOfMemory>
+    requires { All IsSample samples.now }
+    ensures { IfOk result (λ count. count ≡ turns * length samples.now) }
+{
+    let mut count = 0;
+    for _ in 0..turns {
+        count += read_each(alloc, samples)? as u128;
+    }
+    Ok(count)
+}
+
+/// Writes all samples so many times: how many messages were written.
+pub fn write_turns(alloc: Global, samples: &[Sample], turns: u32) -> Result<u128, OutOfMemory>
+    requires { All IsSample samples.now }
+    ensures { IfOk result (λ count. count ≡ turns * length samples.now) }
+{
+    let mut count = 0;
+    for _ in 0..turns {
+        count += write_each(alloc, samples)? as u128;
+    }
+    Ok(count)
+}
