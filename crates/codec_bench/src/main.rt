@@ -7,7 +7,7 @@ mod sample;
 mod turns;
 
 ghost use Rattle.std.specs.Prelude.{All, IfOk, OnOk};
-ghost use Rattle.codec_bench.specs.Sample.{IsSample};
+ghost use Rattle.codec_bench.specs.Sample.{IsSample, IsMore};
 
 use anyhow::{Context, Result, bail};
 use sample::{Sample, read_sample};
@@ -27,10 +27,11 @@ fn counts(rt: &HostRuntime) -> Result<(u32, u32)> {
     Ok((reads, writes))
 }
 
-/// Adds the message of a line.
+/// Adds the sample of a line.
 fn add(alloc: Global, samples: &mut Vec<Sample>, line: &str) -> Result<()>
     requires { All IsSample samples.old.items }
-    ensures { OnOk result (All IsSample samples.new.items) }
+    ensures more { OnOk result (IsMore line.now samples.old.items samples.new.items) }
+    ensures all { OnOk result (All IsSample samples.new.items) }
 {
     let sample = read_sample(alloc, line)?;
     samples.push(sample)?;

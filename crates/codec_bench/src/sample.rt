@@ -3,7 +3,7 @@
 ghost use Rattle.std.specs.Prelude.{◌≡◌, ◌↔◌, IsTrue, IfOk, IfErr};
 ghost use Rattle.hex.specs.Hex.{decode_of};
 ghost use Rattle.hex.specs.declared.error.FromHexError.TheVariants.{OutOfMemory};
-ghost use Rattle.codec_bench.specs.Sample.{HasFew, IsSampleOf, IsDueTo};
+ghost use Rattle.codec_bench.specs.Sample.{IsSampleOf, IsDueTo};
 
 use device_types::Octets;
 use echo_base::{Bad, Refusal};
@@ -30,9 +30,6 @@ pub enum SampleError {
     /// Its octets are not a message.
     #[error("refused: {0}")]
     Refused(Refusal),
-    /// The message has more than one E-RAB that is to be set up, 40 that were set up, or 2,048 octets of radio capability.
-    #[error("too large")]
-    TooLarge,
     /// There was no memory.
     #[error("out of memory")]
     OutOfMemory,
@@ -43,24 +40,6 @@ fn is_memory(error: &FromHexError) -> bool
     ensures { IsTrue result ↔ (error.now ≡ OutOfMemory) }
 {
     matches!(error, FromHexError::OutOfMemory)
-}
-
-/// Is it a message that surely can be written?
-fn has_few(pdu: &Pdu) -> bool
-    ensures { IsTrue result ↔ HasFew pdu.now }
-{
-    match pdu {
-        Pdu::InitialContextSetupRequest { bearers, .. } => bearers.items().len() <= 1,
-        Pdu::InitialContextSetupResponse { done, .. } => done.items().len() <= 40,
-        Pdu::UeCapabilityInfoIndication { radio, .. } => radio.items().len() <= 2048,
-        Pdu::InitialUeMessage { .. }
-        | Pdu::UplinkNasTransport { .. }
-        | Pdu::DownlinkNasTransport { .. }
-        | Pdu::InitialContextSetupFailure { .. }
-        | Pdu::UeContextReleaseRequest { .. }
-        | Pdu::UeContextReleaseCommand { .. }
-        | Pdu::UeContextReleaseComplete { .. } => true,
-    }
 }
 
 /// The octets of a line of hexadecimal digits.
@@ -87,13 +66,7 @@ pub fn read_sample(alloc: Global, line: &str) -> Result<Sample, SampleError>
 {
     let octets = decode(alloc, line)?;
     match read_pdu(alloc, octets.items()) {
-        Ok(pdu) => {
-            if has_few(&pdu) {
-                Ok(Sample { octets, pdu })
-            } else {
-                Err(SampleError::TooLarge)
-            }
-        }
+        Ok(pdu) => Ok(Sample { octets, pdu }),
         Err(Bad::Refused(refusal)) => Err(SampleError::Refused(refusal)),
         Err(Bad::OutOfMemory) => Err(SampleError::OutOfMemory),
     }
@@ -121,13 +94,11 @@ mod tests {
 
     #[test]
     fn lines_that_are_no_sample(rt: HostRuntime) -> Result<(), Fail> {
-        let large = capability(rt.alloc(), 2049)?;
         for (line, text) in [
             ("0", "not hexadecimal"),
             ("0g", "not hexadecimal"),
             ("", "refused: 1 Truncated at 0"),
             ("80", "refused: 8 BadChoice at 0"),
-            (large.as_str(), "too large"),
         ] {
             let Err(error) = read_sample(rt.alloc(), line) else {
                 panic!(rt; "{line}");
@@ -140,13 +111,13 @@ mod tests {
 
     #[test]
     fn keeps_octets_and_message(rt: HostRuntime) -> Result<(), Fail> {
-        let line = capability(rt.alloc(), 2048)?;
+        let line = capability(rt.alloc(), 16000)?;
         let sample = read_sample(rt.alloc(), line.as_str())?;
-        assert_eq!(rt; sample.octets.items().len(), 2075);
+        assert_eq!(rt; sample.octets.items().len(), 16027);
         let Pdu::UeCapabilityInfoIndication { mme, enb, radio } = &sample.pdu else {
             panic!(rt; "another kind");
         };
-        assert_eq!(rt; (*mme, *enb, radio.items().len()), (1, 1, 2048));
+        assert_eq!(rt; (*mme, *enb, radio.items().len()), (1, 1, 16000));
         Ok(())
     }
 }

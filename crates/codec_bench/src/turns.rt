@@ -23,7 +23,6 @@ fn read_again(alloc: Global, sample: &Sample) -> Result<Pdu, OutOfMemory>
 }
 
 /// Writes the message of a sample.
-#[tactic(auto, using(crate::proofs::Written::sample_is_right))]
 fn write_again(alloc: Global, sample: &Sample) -> Result<Octets, OutOfMemory>
     requires { IsSample sample.now }
     ensures { IfOk result (λ octets. octets ≡ written sample.now.pdu) }

@@ -5,6 +5,7 @@ pub mod Pieces
 pub mod Values
 pub mod Frame
 pub mod Places
+pub mod Cases
 pub mod Typed
 pub mod Kept
 pub mod Makes
@@ -13,6 +14,10 @@ pub mod Opens
 pub mod Runs
 pub mod Spelled
 pub mod Whole
+pub mod Ends
+pub mod ValueEnds
+pub mod Room
+pub mod Sizes
 pub mod Answering
-pub mod InRange
+pub mod Right
 pub mod Small

@@ -17,7 +17,7 @@ use Rattle.s1ap_ies.specs.Run.{IsSpelledBy}
 abbrev pub Fits : List Bool → Type 0
 Fits body = (0 < length body) × (length body ≤ 8 * 16383)
 
-length-length_octets : (n : ℕ) → length (length_octets n) % 8 ≡ 0
+pub length-length_octets : (n : ℕ) → length (length_octets n) % 8 ≡ 0
 unfolding length_octets
 length-length_octets n =
     elim (cases_lt n 128) [
@@ -26,7 +26,7 @@ length-length_octets n =
     ]
 
 -- the content of an open type begins at an octet
-open_offset : (at : ℕ) (content : Input) (run : List Bool) → Open at content run → content.offset ≡ 8 * (content.offset / 8)
+pub open_offset : (at : ℕ) (content : Input) (run : List Bool) → Open at content run → content.offset ≡ 8 * (content.offset / 8)
 open_offset at content run s =
     let pad = s.1 in
     let lens = s.5.1 in
@@ -36,7 +36,7 @@ open_offset at content run s =
     let c : content.offset ≡ at + length pad + length lens = s.5.5.0 in
     omega (arith, a, b, c)
 
-content_some : (body : List Bool) → 0 < length body → content_of body ≡ filled body
+pub content_some : (body : List Bool) → 0 < length body → content_of body ≡ filled body
 content_some body some = let ne : eqb (length body) 0 ≡ false = ne_eqb _ _ (λ z. absurd (omega (arith, z))) in rw ne refl
 
 open_back : (at : ℕ) (body : List Bool) → Fits body → (content : Input) × Open at content (open_run body at) × (content.left ≡ filled body)

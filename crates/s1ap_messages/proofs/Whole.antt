@@ -138,7 +138,7 @@ named_absent id (row ∷ rows) (None ∷ values) differ = named_absent id rows v
 named_absent id (row ∷ rows) (Some v ∷ values) differ = rw (other_way id row.id differ.0) (named_absent id rows values differ.1)
 
 -- an IE in front of others, of an id that no row has
-named_behind : (id : ℕ) (v : FieldValue) (ies : List Ie) (rows : List IeRow) → AllByRecursion (λ other. eqb id other ≡ false) (map (λ (row : IeRow). row.id) rows) → map (λ row. found row.id (Named id v ∷ ies)) rows ≡ map (λ row. found row.id ies) rows
+pub named_behind : (id : ℕ) (v : FieldValue) (ies : List Ie) (rows : List IeRow) → AllByRecursion (λ other. eqb id other ≡ false) (map (λ (row : IeRow). row.id) rows) → map (λ row. found row.id (Named id v ∷ ies)) rows ≡ map (λ row. found row.id ies) rows
 unfolding found
 named_behind id v ies [] differ = refl
 named_behind id v ies (row ∷ rows) differ = rw differ.0 (ap (λ (l : List Slot). found row.id ies ∷ l) (named_behind id v ies rows differ.1))

@@ -103,10 +103,6 @@ pdu_run kind values = header_run (header_of kind) ▸ open_run (ies_run kind val
 unfoldable pub written : Pdu → List ℕ
 written p = packed (pdu_run (kind_of p) (values_of p) 0)
 
--- the fields of a message are in their ranges
-abbrev pub AreInRange : Pdu → Type 0
-AreInRange p = AllByRecursion (λ v. IfSome v IsRightValue) (values_of p)
-
 -- what a field is: in its range, and short enough for an open type
 abbrev pub IsRightField : FieldValue → Type 0
 IsRightField v = IsRightValue v × IsShort (value_run v 0)

@@ -13,6 +13,11 @@ pub fn written_is_spelled()
     ensures { (p : Pdu) → IsRight p → HasOctets p → Spells (written p) p }
 {}
 
+/// A message that octets spell can be written: what is written for it is no longer than they are, in any of its open types.
+pub fn spelled_is_right()
+    ensures { (octets : List ℕ) (p : Pdu) → Spells octets p → IsRight p × HasOctets p }
+{}
+
 /// Octets are one message, or are refused for one reason at one place, and never both. No spelling of a message begins
 /// another: octets behind one are refused at the first of them.
 pub fn one_answer()

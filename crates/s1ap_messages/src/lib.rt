@@ -14,7 +14,7 @@ mod tests;
 mod value;
 mod writing;
 
-pub use laws::{one_answer, small_is_right, written_is_spelled};
+pub use laws::{one_answer, small_is_right, spelled_is_right, written_is_spelled};
 pub use pdu::{ErabsDone, ErabsToSetup, Pdu};
 pub use reading::{read_pdu, read_uplink};
 pub use writing::write_pdu;

@@ -7,7 +7,7 @@ ghost use Rattle.s1ap_messages.specs.Reading.{empty, place_of, ie_at, fields_at,
 ghost use Rattle.echo_base.specs.declared.refusal.Refusal.{Refusal};
 ghost use Rattle.s1ap_messages.specs.declared.pdu.Pdu.{Pdu};
 ghost use Rattle.s1ap_messages.specs.Grammar.{Spells, Refused, SpellsUplink, RefusedUplink};
-ghost use Rattle.s1ap_messages.specs.Run.{AreInRange};
+ghost use Rattle.s1ap_messages.specs.Run.{IsRight};
 ghost use Rattle.s1ap_messages.specs.Built.{message_at, uplink_at};
 ghost use Rattle.s1ap_messages.specs.Answer.{Answers, IsAnswer};
 
@@ -158,8 +158,8 @@ pub fn read_pdu(alloc: Global, bytes: &[u8]) -> Result<Pdu, Bad>
     ensures only { (p : Pdu) → Spells bytes.now p → IsAnswer (Ok p) result }
     // The refusal that is due is given, unless memory runs out.
     ensures refused { (e : Refusal) → Refused bytes.now e → IsAnswer (Err e) result }
-    // The fields of what is read are in their ranges.
-    ensures ranges { IfOk result AreInRange }
+    // What is read can be written again.
+    ensures right { IfOk result IsRight }
 {
     read_message(alloc, bytes)
 }
@@ -170,7 +170,7 @@ pub fn read_uplink(alloc: Global, bytes: &[u8]) -> Result<Pdu, Bad>
     ensures answers { Answers (SpellsUplink bytes.now) (RefusedUplink bytes.now) result }
     ensures only { (p : Pdu) → SpellsUplink bytes.now p → IsAnswer (Ok p) result }
     ensures refused { (e : Refusal) → RefusedUplink bytes.now e → IsAnswer (Err e) result }
-    ensures ranges { IfOk result AreInRange }
+    ensures right { IfOk result IsRight }
 {
     read_received(alloc, bytes)
 }

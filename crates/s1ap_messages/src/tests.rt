@@ -7,7 +7,6 @@ use aper_fields::EnumValue;
 use device_types::Octets;
 use echo_base::{Bad, OutOfMemory, Refusal};
 use s1ap_ies::{BitRates, Cause, Cgi, ErabDone, ErabToSetup, SecCaps, Stmsi, Tai, UeIds};
-use small::is_small;
 use std::alloc::{AllocError, Global};
 use std::process::Abort;
 use std::test::Fail;
@@ -16,7 +15,6 @@ mod contexts;
 mod orders;
 mod refused;
 mod refused_ies;
-mod small;
 mod uplink;
 mod worked;
 
@@ -114,22 +112,28 @@ fn refusal_of(alloc: Global, octets: &[u8]) -> Result<Option<Refusal>, OutOfMemo
     }
 }
 
-/// The octets are read as that message.
-fn reads(rt: &impl Abort, alloc: Global, text: &str, want: Fields<'_>) -> Result<(), Fail> {
+/// The octets are read as that message, and it is written as those that are wanted.
+fn becomes(
+    rt: &impl Abort,
+    alloc: Global,
+    text: &str,
+    fields: Fields<'_>,
+    want: &str,
+) -> Result<(), Fail> {
     let pdu = read_pdu(alloc, &octets_of(alloc, text)?)?;
-    assert_eq!(rt; fields_of(&pdu), want, "for {text}");
+    assert_eq!(rt; fields_of(&pdu), fields, "for {text}");
+    let written = write_pdu(alloc, &pdu)?;
+    assert_eq!(rt;
+        written.items(),
+        octets_of(alloc, want)?.as_slice(),
+        "for {text}"
+    );
     Ok(())
 }
 
 /// The octets are read as that message, and it is written as them.
-fn agrees(rt: &impl Abort, alloc: Global, text: &str, want: Fields<'_>) -> Result<(), Fail> {
-    let octets = octets_of(alloc, text)?;
-    let pdu = read_pdu(alloc, &octets)?;
-    assert_eq!(rt; fields_of(&pdu), want, "for {text}");
-    assert!(rt; is_small(&pdu), "for {text}");
-    let written = write_pdu(alloc, &pdu)?;
-    assert_eq!(rt; written.items(), octets.as_slice(), "for {text}");
-    Ok(())
+fn agrees(rt: &impl Abort, alloc: Global, text: &str, fields: Fields<'_>) -> Result<(), Fail> {
+    becomes(rt, alloc, text, fields, text)
 }
 
 /// The cases of a table: of each line what stands before its first space, and what stands behind it. A line whose first word

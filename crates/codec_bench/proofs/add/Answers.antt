@@ -1,5 +1,8 @@
-use Rattle.codec_bench.proofs.Written.{one_more}
+use Rattle.codec_bench.proofs.Written.{still_samples}
 use Rattle.codec_bench.proofs.add.Goals as goal
 
-pub returns : goal.returns
-returns c = rw c.in_ok-push.ensures.items (one_more _ _ c.requires c.in_ok-sample.ensures.ok.1)
+pub returns-clause-more : goal.returns-clause-more
+returns-clause-more c = (_, c.in_ok-sample.ensures.ok, c.in_ok-push.ensures.items)
+
+pub returns-clause-all : goal.returns-clause-all
+returns-clause-all c = still_samples _ _ _ c.requires (_, c.in_ok-sample.ensures.ok, c.in_ok-push.ensures.items)

@@ -1,7 +1,7 @@
 //! IEs in every order, with any criticality, and others among them.
 
-use super::{Bearer, Fields, fields_of, octets_of, reads};
-use crate::read_pdu;
+use super::{Bearer, Fields, agrees, becomes, fields_of, octets_of};
+use crate::{read_pdu, write_pdu};
 use aper_fields::EnumValue;
 use s1ap_ies::{BitRates, Cgi, ErabDone, SecCaps, Stmsi, Tai};
 use std::alloc::{AllocError, Global};
@@ -53,21 +53,35 @@ fn in_order(alloc: Global, number: usize) -> Result<Vec<u8>, AllocError> {
     Ok(octets)
 }
 
+/// The service request with its IEs in the order in which they are written.
+const WRITTEN: &str =
+    "000c4037000006000800020001001a000504c7000000004300060002f8390001006440080002f83900000010008640014000600006004000000001";
+
 #[test]
 fn every_order(rt: HostRuntime) -> Result<(), Fail> {
+    let want = octets_of(rt.alloc(), WRITTEN)?;
     for number in 0..720 {
         let octets = in_order(rt.alloc(), number)?;
         let pdu = read_pdu(rt.alloc(), &octets)?;
         assert_eq!(rt; fields_of(&pdu), REQUEST, "for order {number}");
+        let written = write_pdu(rt.alloc(), &pdu)?;
+        assert_eq!(rt; written.items(), want.as_slice(), "for order {number}");
     }
     Ok(())
 }
 
-/// Each message of the lines, of which some begin with `#`, is a context release complete with the ids 1 and 1.
+/// Each message of the lines, of which some begin with `#`, is a context release complete with the ids 1 and 1, and is
+/// written with both of them alone, in order, to be ignored where they are not understood.
 fn are_released(rt: &impl Abort, alloc: Global, lines: &str) -> Result<(), Fail> {
     for text in lines.lines() {
         if !text.starts_with('#') {
-            reads(rt, alloc, text, Fields::Released(1, 1))?;
+            becomes(
+                rt,
+                alloc,
+                text,
+                Fields::Released(1, 1),
+                "2017000f000002000040020001000840020001",
+            )?;
         }
     }
     Ok(())
@@ -84,33 +98,45 @@ const CRITICALITIES: &str = "\
 2017800f000002000080020001000880020001
 2017000f000002000080020001000800020001";
 
+/// An attach request as it is written.
+const ATTACH: &str =
+    "000c403e000005000800020001001a00161507417108298039000000001002e0e000040201d011004300060002f8390001006440080002f839000000100086400130";
+
+/// What it says.
+const ATTACH_REQUEST: Fields<'static> = Fields::Initial(
+    1,
+    b"\x07\x41\x71\x08\x29\x80\x39\x00\x00\x00\x00\x10\x02\xe0\xe0\x00\x04\x02\x01\xd0\x11",
+    Tai {
+        plmn: 0x02f839,
+        tac: 1,
+    },
+    Cgi {
+        plmn: 0x02f839,
+        cell: 1,
+    },
+    EnumValue {
+        extended: false,
+        index: 3,
+    },
+    None,
+);
+
 #[test]
 fn other_ies(rt: HostRuntime) -> Result<(), Fail> {
     are_released(&rt, rt.alloc(), OTHER_IES)?;
-    // the IE of the attach request behind its own
-    reads(
-        &rt,
-        rt.alloc(),
-        "000c4046000006000800020001001a00161507417108298039000000001002e0e000040201d011004300060002f8390001006440080002f839000000100086400130004b000400000000",
-        Fields::Initial(
-            1,
-            b"\x07\x41\x71\x08\x29\x80\x39\x00\x00\x00\x00\x10\x02\xe0\xe0\x00\x04\x02\x01\xd0\x11",
-            Tai {
-                plmn: 0x02f839,
-                tac: 1,
-            },
-            Cgi {
-                plmn: 0x02f839,
-                cell: 1,
-            },
-            EnumValue {
-                extended: false,
-                index: 3,
-            },
-            None,
-        ),
-    )
+    for text in [OTHER_BEHIND, EXTENDED] {
+        becomes(&rt, rt.alloc(), text, ATTACH_REQUEST, ATTACH)?;
+    }
+    Ok(())
 }
+
+/// The attach request with the IE 75 behind its own.
+const OTHER_BEHIND: &str =
+    "000c4046000006000800020001001a00161507417108298039000000001002e0e000040201d011004300060002f8390001006440080002f839000000100086400130004b000400000000";
+
+/// The attach request with iE-Extensions in its TAI, o 1: one entry with the id 99 hexadecimal, to be ignored, of one octet.
+const EXTENDED: &str =
+    "000c4045000005000800020001001a00161507417108298039000000001002e0e000040201d0110043000d4002f839000100000099400100006440080002f839000000100086400130";
 
 const OTHER_IES: &str = "\
 # the id 75 at the end, in front, without content, and three times
@@ -138,7 +164,7 @@ fn lists_of_two(rt: HostRuntime) -> Result<(), Fail> {
             teid: 3,
         },
     ];
-    reads(
+    agrees(
         &rt,
         rt.alloc(),
         "200900300000030000400200010008400200010033401d010032400a0a1fc0a80002000000020032400a0c1fc0a8000300000003",
@@ -177,7 +203,7 @@ fn lists_of_two(rt: HostRuntime) -> Result<(), Fail> {
         eia: 0xc000,
     };
     let key: &[u8] = &[0x11; 32];
-    reads(
+    agrees(
         &rt,
         rt.alloc(),
         text,

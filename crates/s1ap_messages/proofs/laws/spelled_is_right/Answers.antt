@@ -1,0 +1,5 @@
+use Rattle.s1ap_messages.proofs.Right.{message_right}
+use Rattle.s1ap_messages.proofs.laws.spelled_is_right.Goals as goal
+
+pub returns : goal.returns
+returns c = message_right
