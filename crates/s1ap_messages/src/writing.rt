@@ -1,6 +1,6 @@
 //! Writing messages.
 
-ghost use Rattle.std.specs.Prelude.{◌≡◌, ◌+◌, ◌*◌, ◌<◌, ◌≤◌, ◌^◌, OnOk, IfOk, IfSome, option_map, length};
+ghost use Rattle.std.specs.Prelude.{◌≡◌, ◌+◌, ◌*◌, ◌<◌, ◌≤◌, ◌^◌, [], OnOk, IfOk, IfSome, option_map, length};
 ghost use Rattle.std.specs.List.{AllByRecursion};
 ghost use Rattle.aper_fields.specs.Run.{then_written, content_of};
 ghost use Rattle.s1ap_ies.specs.Tables.{rows_of};
@@ -47,24 +47,30 @@ fn write_value(alloc: Global, w: &mut BitWriter, value: &LentValue) -> Result<()
     }
 }
 
-/// Writes an IE with the id and criticality of its row, where the message has it.
+/// Writes an IE with the id and criticality of its row, where the message has it. Its value is written into a body first, which
+/// is empty before it and behind it.
 #[tactic(auto, unfolding(crate::specs::Run::ie_run))]
 fn write_ie(
     alloc: Global,
     w: &mut BitWriter,
+    body: &mut BitWriter,
     row: &IeRow,
     value: &Option<LentValue>,
 ) -> Result<(), OutOfMemory>
+    requires empty { body.old ≡ [] }
     requires criticality { HasCriticality row.now }
     requires right { IfSome (option_map seen value.now) IsRightField }
-    ensures { OnOk result (w.new ≡ then_written w.old (ie_run row.now (option_map seen value.now))) }
+    ensures ok { OnOk result (w.new ≡ then_written w.old (ie_run row.now (option_map seen value.now))) }
+    ensures empty { OnOk result (body.new ≡ []) }
 {
     let Some(value) = value else {
         return Ok(());
     };
-    let mut body = BitWriter::new(alloc);
-    write_value(alloc, &mut body, value)?;
-    write_item(w, row.id, row.criticality, &body)
+    let start = body.mark();
+    write_value(alloc, body, value)?;
+    write_item(w, row.id, row.criticality, body)?;
+    body.back_to(start);
+    Ok(())
 }
 
 /// Writes the IEs of the rows of a table.
@@ -79,13 +85,14 @@ fn write_fields(
     requires right { AllByRecursion (λ v. IfSome v IsRightField) (all_seen values.now) }
     ensures { OnOk result (w.new ≡ then_written w.old (fields_run rows.now (all_seen values.now))) }
 {
+    let mut body = BitWriter::new(alloc);
     let mut rows = rows;
     let mut values = values;
     while let [row, later @ ..] = rows {
         let [value, others @ ..] = values else {
             return Ok(());
         };
-        write_ie(alloc, w, row, value)?;
+        write_ie(alloc, w, &mut body, row, value)?;
         rows = later;
         values = others;
     }
