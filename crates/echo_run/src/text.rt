@@ -10,7 +10,7 @@ use crate::first::FirstCase;
 use crate::request::request_of;
 use device_types::Octets;
 use echo_base::{Bad, Identity, Reason, Refusal};
-use s1ap_messages::{Pdu, read_pdu, write_pdu};
+use s1ap_messages::{Pdu, read_pdu, small_is_right, write_pdu};
 use std::alloc::{AllocError, Global};
 
 /// Puts a line and its end behind a text.
@@ -82,6 +82,8 @@ fn write_reject(alloc: Global, enb: u32) -> Result<Octets, AllocError>
     nas.push(0x07)?;
     nas.push(0x4e)?;
     nas.push(0x0a)?;
+    // a message with so short a NAS-PDU fits into its open types
+    small_is_right();
     write_pdu(alloc, &Pdu::DownlinkNasTransport { mme: 1, enb, nas })
 }
 
