@@ -1,7 +1,5 @@
 //! Messages worked out by hand from 3GPP TS 36.413 and ITU-T X.691, aligned PER, in hexadecimal.
 
-ghost use Rattle.std.specs.Prelude.{◌<◌};
-
 use crate::{Pdu, read_pdu, write_pdu};
 use aper_fields::EnumValue;
 use device_types::Octets;
@@ -82,27 +80,6 @@ fn fields_of(pdu: &Pdu) -> Fields<'_> {
     }
 }
 
-fn digit(character: u8) -> u8
-    ensures { result < 16 }
-{
-    match character {
-        b'0'..=b'9' => character - b'0',
-        b'a'..=b'f' => character - b'a' + 10,
-        _ => 0,
-    }
-}
-
-/// The octets of a text of hexadecimal digits.
-fn octets_of(alloc: Global, text: &str) -> Result<Vec<u8>, AllocError> {
-    let mut octets = Vec::new(alloc);
-    for pair in text.as_bytes().chunks_exact(2) {
-        if let [high, low] = pair {
-            octets.push(digit(*high) * 16 + digit(*low))?;
-        }
-    }
-    Ok(octets)
-}
-
 /// Why the octets are refused, if they are.
 fn refusal_of(alloc: Global, octets: &[u8]) -> Result<Option<Refusal>, OutOfMemory> {
     match read_pdu(alloc, octets) {
@@ -120,12 +97,12 @@ fn becomes(
     fields: Fields<'_>,
     want: &str,
 ) -> Result<(), Fail> {
-    let pdu = read_pdu(alloc, &octets_of(alloc, text)?)?;
+    let pdu = read_pdu(alloc, &hex::decode(alloc, text)?)?;
     assert_eq!(rt; fields_of(&pdu), fields, "for {text}");
     let written = write_pdu(alloc, &pdu)?;
     assert_eq!(rt;
         written.items(),
-        octets_of(alloc, want)?.as_slice(),
+        hex::decode(alloc, want)?.as_slice(),
         "for {text}"
     );
     Ok(())
@@ -153,7 +130,7 @@ fn cases(alloc: Global, table: &str) -> Result<Vec<(&str, &str)>, AllocError> {
 /// The octets of each case are refused as it says.
 fn refuses_each(rt: &impl Abort, alloc: Global, table: &str) -> Result<(), Fail> {
     for (text, want) in cases(alloc, table)? {
-        let refusal = refusal_of(alloc, &octets_of(alloc, text)?)?;
+        let refusal = refusal_of(alloc, &hex::decode(alloc, text)?)?;
         assert!(rt; refusal.is_some(), "{text} is read");
         if let Some(refusal) = refusal {
             let refusal = format!(in alloc; "{refusal}")?;

@@ -1,10 +1,10 @@
 //! IEs in every order, with any criticality, and others among them.
 
-use super::{Bearer, Fields, agrees, becomes, fields_of, octets_of};
+use super::{Bearer, Fields, agrees, becomes, fields_of};
 use crate::{read_pdu, write_pdu};
 use aper_fields::EnumValue;
 use s1ap_ies::{BitRates, Cgi, ErabDone, SecCaps, Stmsi, Tai};
-use std::alloc::{AllocError, Global};
+use std::alloc::Global;
 use std::process::Abort;
 use std::test::Fail;
 
@@ -38,7 +38,7 @@ const REQUEST: Fields<'static> = Fields::Initial(
 );
 
 /// The octets of the IEs in the order with that number, of 720: each is put at one of the places among those before it.
-fn in_order(alloc: Global, number: usize) -> Result<Vec<u8>, AllocError> {
+fn in_order(alloc: Global, number: usize) -> Result<Vec<u8>, Fail> {
     let mut order: Vec<&str> = Vec::new(alloc);
     let mut number = number;
     for ie in IES {
@@ -46,9 +46,9 @@ fn in_order(alloc: Global, number: usize) -> Result<Vec<u8>, AllocError> {
         order.insert(number % places, ie)?;
         number /= places;
     }
-    let mut octets = octets_of(alloc, "000c4037000006")?;
+    let mut octets = hex::decode(alloc, "000c4037000006")?;
     for ie in &order {
-        octets.extend_from_slice(&octets_of(alloc, ie)?)?;
+        octets.extend_from_slice(&hex::decode(alloc, ie)?)?;
     }
     Ok(octets)
 }
@@ -59,7 +59,7 @@ const WRITTEN: &str =
 
 #[test]
 fn every_order(rt: HostRuntime) -> Result<(), Fail> {
-    let want = octets_of(rt.alloc(), WRITTEN)?;
+    let want = hex::decode(rt.alloc(), WRITTEN)?;
     for number in 0..720 {
         let octets = in_order(rt.alloc(), number)?;
         let pdu = read_pdu(rt.alloc(), &octets)?;

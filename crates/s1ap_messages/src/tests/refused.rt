@@ -2,7 +2,7 @@
 //! `2017 00` the header, `0f` the length, `00 0002` the extension bit and the count of IEs, and from octet 7 on the IEs
 //! `0000 40 02 0001` and `0008 40 02 0001`, each an id, a criticality, a length and the content.
 
-use super::{octets_of, refusal_of, refuses_each};
+use super::{refusal_of, refuses_each};
 use echo_base::{Reason, Refusal};
 use std::test::Fail;
 
@@ -95,7 +95,7 @@ fn cut_messages(rt: HostRuntime) -> Result<(), Fail> {
         "0017001000000200630004000100010002400120",
     ];
     for text in texts {
-        let octets = octets_of(rt.alloc(), text)?;
+        let octets = hex::decode(rt.alloc(), text)?;
         for n in 0..octets.len() {
             let want = Refusal {
                 reason: Reason::Truncated,

@@ -1,6 +1,6 @@
 //! Which messages an MME receives; and the longest NAS-PDU.
 
-use super::{cases, octets_of, refusal_of};
+use super::{cases, refusal_of};
 use crate::{Pdu, read_pdu, read_uplink};
 use echo_base::Reason::TooLong;
 use echo_base::{Bad, OutOfMemory, Refusal};
@@ -10,7 +10,7 @@ use std::test::Fail;
 
 /// The kind of message that an MME reads, or why it is refused.
 fn answer(alloc: Global, text: &str) -> Result<String, Fail> {
-    match read_uplink(alloc, &octets_of(alloc, text)?) {
+    match read_uplink(alloc, &hex::decode(alloc, text)?) {
         Ok(pdu) => {
             let kind = pdu.kind();
             Ok(format!(in alloc; "{kind:?}")?)
@@ -66,7 +66,7 @@ const NOT_RECEIVED: &str = "
 
 /// The octets of the text, and behind them so many octets ab.
 fn with_octets(alloc: Global, text: &str, number: usize) -> Result<Vec<u8>, Fail> {
-    let mut octets = octets_of(alloc, text)?;
+    let mut octets = hex::decode(alloc, text)?;
     for _ in 0..number {
         octets.push(0xab)?;
     }
@@ -103,7 +103,7 @@ fn longest_nas(rt: HostRuntime) -> Result<(), Fail> {
         place: 23,
     });
     assert_eq!(rt;
-        refusal_of(rt.alloc(), &octets_of(rt.alloc(), text)?)?,
+        refusal_of(rt.alloc(), &hex::decode(rt.alloc(), text)?)?,
         want
     );
     Ok(())
