@@ -1,12 +1,42 @@
-//! The values of a device that the crates above share.
+//! The values of a device that the crates above share, with the conditions that several of them cite.
 #![tactic(auto)]
 
+mod book;
+mod cause;
+mod down;
+mod effect;
 mod event;
+mod finals;
+mod input;
+mod key;
+mod laws;
 mod list_of;
+mod look;
+mod message;
 mod nas_out;
+mod no_room;
+mod session;
+mod step;
 mod subscriber;
+#[cfg(test)]
+mod tests;
+mod try_copy;
 
-pub use event::{Event, Lane};
+pub use book::Book;
+pub use cause::CauseCode;
+pub use down::{Accept, Down, Downs};
+pub use effect::{Effect, Effects, GwCall, GwCalls, SubCall, SubCalls};
+pub use event::{Event, EventAnswer, Lane};
+pub use finals::{DeviceEnd, Finals};
+pub use input::{Answer, Input, Offer};
+pub use key::Key;
+pub use laws::one_more_entry;
 pub use list_of::{Areas, ListOf, Octets};
+pub use look::Look;
+pub use message::{Body, Message, Messages};
 pub use nas_out::NasOut;
+pub use no_room::NoRoom;
+pub use session::{Bearer, Link, Session, Stage};
+pub use step::{Entry, Reply, Step};
 pub use subscriber::{DeviceId, Subscriber};
+pub use try_copy::TryCopy;

@@ -1,6 +1,8 @@
 //! Lists of values.
-ghost use Rattle.std.specs.Prelude.{◌≡◌, ◌<◌, [], ◌∷◌, ◌++◌, All, IfOk, OnOk, OnErr};
+ghost use Rattle.std.specs.Prelude.{◌≡◌, [], ◌∷◌, ◌++◌, OnOk, OnErr};
+ghost use Rattle.device_types.specs.Octets.{AreOctets};
 
+use crate::try_copy::TryCopy;
 use std::alloc::{AllocError, Global};
 use std::marker::Model;
 
@@ -35,6 +37,14 @@ impl<T> ListOf<T> {
         let items: &[T] = &self.items;
         items
     }
+
+    /// The vector of the values, in order. It takes no memory.
+    pub fn into_items(self) -> Vec<T>
+        ensures { result.items ≡ self }
+    {
+        let ListOf { items } = self;
+        items
+    }
 }
 
 impl<T: Drop> ListOf<T> {
@@ -48,31 +58,32 @@ impl<T: Drop> ListOf<T> {
             Err(_) => Err(AllocError),
         }
     }
-}
 
-/// A list of octets.
-pub type Octets = ListOf<u8>;
-
-impl ListOf<u8> {
-    /// The octets in order. Each is below 256.
-    pub fn octets(&self) -> &[u8]
-        ensures value { result.now ≡ self.now }
-        ensures range { All (λ octet. octet < 256) self.now }
+    /// Adds the values of another list at the end, in their order. For want of memory the list stays as it was, and the
+    /// other one is dropped.
+    pub fn append(&mut self, mut other: ListOf<T>) -> Result<(), AllocError>
+        ensures ok { OnOk result (self.new ≡ self.old ++ other) }
+        ensures err { OnErr result (self.new ≡ self.old) }
     {
-        let octets: &[u8] = &self.items;
-        octets
+        self.items.append(&mut other.items)
     }
 }
 
-impl<T: Copy> ListOf<T> {
-    /// The same list, in memory of its own.
-    pub fn copy(&self) -> Result<ListOf<T>, AllocError>
-        ensures { IfOk result (λ list. list ≡ self.now) }
-    {
+/// Each value is copied exactly, so the list is.
+impl<T: TryCopy> Clone for ListOf<T> {
+    ghost use Rattle.std.specs.Prelude.{◌≡◌};
+
+    ghost is_clone = { λ list clone. clone ≡ list };
+
+    fn clone(&self) -> Result<ListOf<T>, AllocError> {
         Ok(ListOf {
-            items: Vec::from_slice(*self.items.allocator(), &self.items)?,
+            items: self.items.clone()?,
         })
     }
+}
+
+impl<T: TryCopy> TryCopy for ListOf<T> {
+    ghost same = { λ list clone equal. equal };
 }
 
 /// The list of the vector's values.
@@ -86,30 +97,19 @@ impl<T> From<Vec<T>> for ListOf<T> {
     }
 }
 
-/// A list of tracking area codes (3GPP TS 23.003, 19.4.2.3).
-pub type Areas = ListOf<u16>;
+/// A list of octets.
+pub type Octets = ListOf<u8>;
 
-#[cfg(test)]
-mod tests {
-    use super::*;
-    use std::test::Fail;
-
-    fn convert<T: From<Vec<u8>>>(items: Vec<u8>) -> T {
-        T::from(items)
-    }
-
-    #[test]
-    fn keeps_octets_in_order(rt: HostRuntime) -> Result<(), Fail> {
-        let mut octets = Octets::new(rt.alloc());
-        for item in [7, 0, 255] {
-            octets.push(item)?;
-        }
-        let copy = octets.copy()?;
-        octets.push(1)?;
-        assert_eq!(rt; octets.items(), [7, 0, 255, 1].as_slice());
-        assert_eq!(rt; copy.items(), [7, 0, 255].as_slice());
-        let made: Octets = convert(vec![in rt.alloc(); 3, 2]?);
-        assert_eq!(rt; made.octets(), [3, 2].as_slice());
-        Ok(())
+impl ListOf<u8> {
+    /// The octets in order. Each is below 256.
+    pub fn octets(&self) -> &[u8]
+        ensures value { result.now ≡ self.now }
+        ensures range { AreOctets self.now }
+    {
+        let octets: &[u8] = &self.items;
+        octets
     }
 }
+
+/// A list of tracking area codes (3GPP TS 23.003, 19.4.2.3).
+pub type Areas = ListOf<u16>;

@@ -1,9 +1,10 @@
 //! The NAS messages that are written.
 
 use crate::list_of::Octets;
+use crate::try_copy::TryCopy;
 
 /// An EPS mobility management message from the network (3GPP TS 24.301, 8.2), with its mandatory fields.
-#[derive(Debug, Drop)]
+#[derive(Clone, Debug, Drop)]
 pub enum NasOut {
     /// AUTHENTICATION REQUEST (8.2.7).
     AuthRequest {
@@ -55,4 +56,10 @@ pub enum NasOut {
     AreaAccept,
     /// DETACH ACCEPT (8.2.10.1).
     DetachAccept,
+}
+
+impl TryCopy for NasOut {
+    ghost use Rattle.std.proofs.Common.{rules};
+
+    ghost same = { Prim.search rules };
 }

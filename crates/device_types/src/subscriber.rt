@@ -1,13 +1,14 @@
 //! The subscribers of the core.
 
 use crate::list_of::{Areas, Octets};
+use crate::try_copy::TryCopy;
 
 /// A device: the number of its subscriber's row, from 1.
 #[derive(Clone, Copy, Debug, PartialEq, Eq)]
 pub struct DeviceId(pub u32);
 
 /// A row of the subscriber table.
-#[derive(Debug, Drop)]
+#[derive(Clone, Debug, Drop)]
 pub struct Subscriber {
     /// The number of the row, from 1, which is the MME-UE-S1AP-ID of its device too.
     pub number: u32,
@@ -37,4 +38,10 @@ pub struct Subscriber {
     pub ambr_ul: u64,
     /// The tracking areas where the device is not served, at most 16.
     pub forbidden: Areas,
+}
+
+impl TryCopy for Subscriber {
+    ghost use Rattle.std.proofs.Common.{rules};
+
+    ghost same = { Prim.search rules };
 }

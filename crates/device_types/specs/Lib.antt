@@ -1,0 +1,14 @@
+pub mod Answer
+pub mod Cause
+pub mod Down
+pub mod Event
+pub mod Journal
+pub mod Keys
+pub mod Line
+pub mod Look
+pub mod Message
+pub mod Nas
+pub mod Numbers
+pub mod Octets
+pub mod Session
+pub mod Subscriber

@@ -1,0 +1,36 @@
+-- The messages of a device: the ranges of their fields.
+use Rattle.std.specs.Prelude.{ℕ, ◌^◌, ◌<◌, ◌≤◌}
+use Rattle.device_types.specs.declared.message.Body.{Body}
+use Rattle.device_types.specs.declared.message.Body.TheVariants.{Attach, Service, Area, Detach, Response, Secured, SecurityRefused, AttachDone, ContextDone, ContextFailed, ReleaseAsked, Released, Capability}
+use Rattle.device_types.specs.declared.message.Message.{Message}
+use Rattle.device_types.specs.Cause.{IsCauseCode}
+use Rattle.device_types.specs.Octets.{AreOctets}
+
+-- a tracking area: a PLMN identity of three octets and a code of two (TS 36.413, 9.2.3.16)
+abbrev pub IsArea : ℕ → ℕ → Type 0
+IsArea plmn tac = (plmn < 2 ^ 24) × (tac < 2 ^ 16)
+
+-- a base station, from 1, and an eNB-UE-S1AP-ID (TS 36.413, 9.2.3.4)
+pub record IsPair (station enb : ℕ) : Type 0 where
+  pub station_least : 1 ≤ station
+  pub station_most : station < 2 ^ 16
+  pub enb_most : enb < 2 ^ 24
+
+abbrev pub IsBody : Body → Type 0
+IsBody (Attach plmn tac eea eia pti) = IsArea plmn tac × (eea < 256) × (eia < 256) × (pti < 256)
+IsBody Service = Unit {0}
+IsBody (Area first plmn tac) = IsArea plmn tac
+IsBody (Detach first off) = Unit {0}
+IsBody (Response res) = AreOctets res
+IsBody Secured = Unit {0}
+IsBody SecurityRefused = Unit {0}
+IsBody AttachDone = Unit {0}
+IsBody (ContextDone addr teid) = (addr < 2 ^ 32) × (teid < 2 ^ 32)
+IsBody ContextFailed = Unit {0}
+IsBody (ReleaseAsked cause) = IsCauseCode cause
+IsBody Released = Unit {0}
+IsBody (Capability octets) = AreOctets octets
+
+pub record IsMessage (message : Message) : Type 0 where
+  pub pair : IsPair message.station message.enb
+  pub body : IsBody message.body

@@ -1,0 +1,80 @@
+//! The messages to a device.
+
+use crate::cause::CauseCode;
+use crate::key::Key;
+use crate::list_of::ListOf;
+use crate::nas_out::NasOut;
+use crate::try_copy::TryCopy;
+
+/// Does the setup of a context carry an ATTACH ACCEPT (3GPP TS 24.301, 8.2.1)?
+#[derive(Clone, Copy, Debug, PartialEq, Eq)]
+pub enum Accept {
+    /// It does not.
+    No,
+    /// It does. The access point name in it is the subscriber's.
+    Yes {
+        /// The PLMN of the device's tracking area: its three octets as one number, below 2^24.
+        plmn: u32,
+        /// The code of that tracking area.
+        tac: u16,
+        /// The procedure transaction identity of the request (9.4).
+        pti: u8,
+        /// The IPv4 address of the device.
+        ip: u32,
+    },
+}
+
+/// A message to a device: to the base station `station`, where its eNB-UE-S1AP-ID is `enb`, below 2^24.
+#[derive(Clone, Debug, Drop)]
+pub enum Down {
+    /// DOWNLINK NAS TRANSPORT (3GPP TS 36.413, 9.1.7.2).
+    Nas {
+        /// The base station.
+        station: u16,
+        /// The device there.
+        enb: u32,
+        /// The NAS message.
+        nas: NasOut,
+    },
+    /// INITIAL CONTEXT SETUP REQUEST with one bearer (9.1.4.1).
+    Setup {
+        /// The base station.
+        station: u16,
+        /// The device there.
+        enb: u32,
+        /// The aggregate maximum bit rate down, at most 10,000,000,000 bit/s (9.2.1.20).
+        dl: u64,
+        /// The aggregate maximum bit rate up, at most 10,000,000,000 bit/s.
+        ul: u64,
+        /// The IPv4 address of the serving gateway.
+        sgw: u32,
+        /// The tunnel endpoint identifier of the serving gateway.
+        teid: u32,
+        /// The encryption algorithms that the device supports, a bit each, as in NAS (TS 24.301, 9.9.3.34).
+        eea: u8,
+        /// The integrity algorithms that the device supports, a bit each, as in NAS.
+        eia: u8,
+        /// The security key (9.2.1.41).
+        key: Key,
+        /// Does it carry an ATTACH ACCEPT?
+        accept: Accept,
+    },
+    /// UE CONTEXT RELEASE COMMAND (9.1.4.6).
+    Release {
+        /// The base station.
+        station: u16,
+        /// The device there.
+        enb: u32,
+        /// Why.
+        cause: CauseCode,
+    },
+}
+
+impl TryCopy for Down {
+    ghost use Rattle.std.proofs.Common.{rules};
+
+    ghost same = { Prim.search rules };
+}
+
+/// Messages to a device, in order.
+pub type Downs = ListOf<Down>;

@@ -1,0 +1,101 @@
+//! The messages of a device.
+
+use crate::cause::CauseCode;
+use crate::list_of::{ListOf, Octets};
+use crate::try_copy::TryCopy;
+
+/// What a message says. NAS messages are those of 3GPP TS 24.301, the others those of TS 36.413.
+#[derive(Clone, Debug, Drop)]
+pub enum Body {
+    /// ATTACH REQUEST (TS 24.301, 8.2.4).
+    Attach {
+        /// The PLMN of the tracking area where the device is: its three octets as one number, below 2^24.
+        plmn: u32,
+        /// The code of that tracking area.
+        tac: u16,
+        /// The encryption algorithms that the device supports, a bit each (9.9.3.34).
+        eea: u8,
+        /// The integrity algorithms that the device supports, a bit each.
+        eia: u8,
+        /// The procedure transaction identity of the ESM message in it (9.4).
+        pti: u8,
+    },
+    /// SERVICE REQUEST (8.2.25).
+    Service,
+    /// TRACKING AREA UPDATE REQUEST (8.2.29).
+    Area {
+        /// Did it come in an INITIAL UE MESSAGE?
+        first: bool,
+        /// The PLMN of the tracking area where the device is: its three octets as one number, below 2^24.
+        plmn: u32,
+        /// The code of that tracking area.
+        tac: u16,
+    },
+    /// DETACH REQUEST of the device (8.2.11.1).
+    Detach {
+        /// Did it come in an INITIAL UE MESSAGE?
+        first: bool,
+        /// Is the device switched off (9.9.3.7)? It then waits for no answer.
+        off: bool,
+    },
+    /// AUTHENTICATION RESPONSE (8.2.8).
+    Response {
+        /// RES, at most 255 octets (9.9.3.4).
+        res: Octets,
+    },
+    /// SECURITY MODE COMPLETE (8.2.21).
+    Secured,
+    /// SECURITY MODE REJECT (8.2.22).
+    SecurityRefused,
+    /// ATTACH COMPLETE (8.2.2).
+    AttachDone,
+    /// INITIAL CONTEXT SETUP RESPONSE with the device's bearer, E-RAB 5 (TS 36.413, 9.1.4.3).
+    ContextDone {
+        /// The base station's IPv4 address for the bearer.
+        addr: u32,
+        /// The base station's tunnel endpoint identifier for it.
+        teid: u32,
+    },
+    /// INITIAL CONTEXT SETUP FAILURE (9.1.4.4), or a response without that bearer.
+    ContextFailed,
+    /// UE CONTEXT RELEASE REQUEST (9.1.4.5).
+    ReleaseAsked {
+        /// Why.
+        cause: CauseCode,
+    },
+    /// UE CONTEXT RELEASE COMPLETE (9.1.4.7).
+    Released,
+    /// UE CAPABILITY INFO INDICATION (9.1.10).
+    Capability {
+        /// The radio capability (9.2.1.27).
+        octets: Octets,
+    },
+}
+
+impl TryCopy for Body {
+    ghost use Rattle.std.proofs.Common.{rules};
+
+    ghost same = { Prim.search rules };
+}
+
+/// A message of a device.
+#[derive(Clone, Debug, Drop)]
+pub struct Message {
+    /// Its number among the device's messages, from 1.
+    pub number: u64,
+    /// The base station that it came from, from 1.
+    pub station: u16,
+    /// The eNB-UE-S1AP-ID of the device there, below 2^24 (TS 36.413, 9.2.3.4).
+    pub enb: u32,
+    /// What it says.
+    pub body: Body,
+}
+
+impl TryCopy for Message {
+    ghost use Rattle.std.proofs.Common.{rules};
+
+    ghost same = { Prim.search rules };
+}
+
+/// Messages of a device, in order.
+pub type Messages = ListOf<Message>;
