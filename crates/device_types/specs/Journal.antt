@@ -65,9 +65,12 @@ message_entries journal = filter (λ e. is_message e.1.input) (enumerate_from 1 
 abbrev pub reply_to : ℕ → ℕ → Entry → Reply
 reply_to n position entry = record { number = n; version = position; downs = effects_on lane.Down entry.step.effects }
 
+abbrev pub reply_at : ℕ × (ℕ × Entry) → Reply
+reply_at e = reply_to e.0 e.1.0 e.1.1
+
 -- the reply to each message
 abbrev pub replies_of : List Entry → List Reply
-replies_of journal = map (λ e. reply_to e.0 e.1.0 e.1.1) (enumerate_from 1 (message_entries journal))
+replies_of journal = map reply_at (enumerate_from 1 (message_entries journal))
 
 -- the reply to message n, from 1
 abbrev pub reply_of : List Entry → ℕ → Option Reply
