@@ -26,8 +26,8 @@ pub fn one_more_entry(_journal: &[Entry], _entry: &Entry)
     ensures awaited { awaited_call (_journal.now ++ _entry.now ∷ []) ≡ awaited_behind _journal.now _entry.now.step.effects }
     ensures look { (window n : ℕ) → look_of window (_journal.now ++ _entry.now ∷ []) n
         ≡ look_behind window (taken_count _journal.now + (if is_message _entry.now.input then 1 else 0))
-            (awaited_behind _journal.now _entry.now.step.effects) n }
+        (awaited_behind _journal.now _entry.now.step.effects) n }
     ensures answer_look { (l : Lane) (k : ℕ) → answer_look_of (_journal.now ++ _entry.now ∷ []) l k
         ≡ answer_look_behind (pushed_count l _journal.now + length (effects_on l _entry.now.step.effects))
-            (awaited_behind _journal.now _entry.now.step.effects) l k }
+        (awaited_behind _journal.now _entry.now.step.effects) l k }
 {}
