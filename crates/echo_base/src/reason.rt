@@ -64,7 +64,7 @@ impl fmt::Display for Identity {
 pub enum Reason {
     /// The octets end within a field.
     Truncated,
-    /// A length in fragments, of 16,384 or more (ITU-T X.691, 11.9).
+    /// A length below 128 that is written in two octets (ITU-T X.691, 11.9).
     LongLength,
     /// A padding bit that is not 0.
     NonZeroPadding,
@@ -72,7 +72,7 @@ pub enum Reason {
     NotMinimal,
     /// A value that its constraint excludes.
     OutOfRange,
-    /// More than the limit.
+    /// A length in fragments, of 16,384 or more (ITU-T X.691, 11.9), or more than the limit.
     TooLong,
     /// The extension bit of a SEQUENCE is set.
     SequenceExtension,
@@ -80,13 +80,13 @@ pub enum Reason {
     BadChoice,
     /// A procedure that is not supported, with its code (3GPP TS 36.413).
     OtherProcedure(u8),
-    /// An information element with another criticality than its own.
+    /// The two bits of a criticality are 11, which is none of reject, ignore and notify (3GPP TS 36.413, 10.3.2).
     BadCriticality,
-    /// A mandatory information element is missing, with its id.
+    /// A mandatory information element is missing, or stands as another one in a list, with its id.
     MissingIe(u16),
     /// An information element comes twice, with its id.
     RepeatedIe(u16),
-    /// Octets follow the message.
+    /// Octets follow the value of a message, of an information element, or of another container.
     TrailingBytes,
     /// A message that an MME sends, and does not receive.
     WrongDirection,
