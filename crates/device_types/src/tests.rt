@@ -33,6 +33,13 @@ Session { stage: Connected, link: On { station: 1, enb: 2 }, plmn: 3, tac: 4, ee
 key: Key { octets: ListOf { items: [9] } }, dl: 10, ul: 11, sgw: 12, teid: 13, ip: 14, side_addr: 15, side_teid: 16, bearer: Active, \
 registered: true, off: true, cause: CauseCode { group: 1, extended: false, index: 1 }, radio: 17 }
 Reply { number: 1, version: 2, downs: ListOf { items: [Gateway(Create)] } }
+Step { session: Session { stage: Detached, link: Off, plmn: 0, tac: 0, eea: 0, eia: 0, pti: 0, res: ListOf { items: [] }, key: Key { octets: ListOf { items: [] } }, \
+dl: 0, ul: 0, sgw: 0, teid: 0, ip: 0, side_addr: 0, side_teid: 0, bearer: None, registered: false, off: false, \
+cause: CauseCode { group: 0, extended: false, index: 0 }, radio: 0 }, effects: ListOf { items: [Gateway(Create)] } }
+DeviceEnd { messages: 1, steps: 2, downs: ListOf { items: [Release { station: 1, enb: 2, cause: CauseCode { group: 2, extended: false, index: 1 } }] }, \
+gateway: ListOf { items: [Modify(1, 2)] }, subscriber: ListOf { items: [Purge] }, session: Session { stage: Detached, link: Off, plmn: 0, tac: 0, eea: 0, eia: 0, pti: 0, res: ListOf { items: [] }, key: Key { octets: ListOf { items: [] } }, \
+dl: 0, ul: 0, sgw: 0, teid: 0, ip: 0, side_addr: 0, side_teid: 0, bearer: None, registered: false, off: false, \
+cause: CauseCode { group: 0, extended: false, index: 0 }, radio: 0 } }
 ";
 
 /// Adds a line with the copy of a value.
@@ -174,21 +181,58 @@ fn put_inputs(alloc: Global, text: &mut String) -> Result<(), Fail> {
     put_copy(text, &Answer::Created(1, 2, 3))
 }
 
+fn release() -> Down {
+    Down::Release {
+        station: 1,
+        enb: 2,
+        cause: cause(2, false, 1),
+    }
+}
+
 /// The copies of what goes out.
 fn put_effects(alloc: Global, text: &mut String) -> Result<(), Fail> {
     let nas = NasOut::SecurityCommand { eea: 224, eia: 192 };
     let (station, enb) = (1, 2);
     put_copy(text, &Down::Nas { station, enb, nas })?;
     put_copy(text, &setup(alloc)?)?;
-    let cause = cause(2, false, 1);
-    let release = Down::Release {
-        station,
-        enb,
-        cause,
-    };
-    put_copy(text, &release)?;
+    put_copy(text, &release())?;
     put_copy(text, &GwCall::Modify(1, 2))?;
     put_copy(text, &SubCall::Purge)
+}
+
+/// The copies of what is kept of steps.
+fn put_steps(alloc: Global, text: &mut String) -> Result<(), Fail> {
+    put_copy(text, &Session::opening(alloc))?;
+    put_copy(text, &connected(alloc)?)?;
+    let mut effects = Effects::new(alloc);
+    effects.push(Effect::Gateway(GwCall::Create))?;
+    let reply = Reply {
+        number: 1,
+        version: 2,
+        downs: effects.copy()?,
+    };
+    put_copy(text, &reply)?;
+    let session = Session::opening(alloc);
+    put_copy(text, &Step { session, effects })
+}
+
+/// The copy of what became of a device.
+fn put_end(alloc: Global, text: &mut String) -> Result<(), Fail> {
+    let mut downs = Downs::new(alloc);
+    downs.push(release())?;
+    let mut gateway = GwCalls::new(alloc);
+    gateway.push(GwCall::Modify(1, 2))?;
+    let mut subscriber = SubCalls::new(alloc);
+    subscriber.push(SubCall::Purge)?;
+    let end = DeviceEnd {
+        messages: 1,
+        steps: 2,
+        downs,
+        gateway,
+        subscriber,
+        session: Session::opening(alloc),
+    };
+    put_copy(text, &end)
 }
 
 #[test]
@@ -198,16 +242,8 @@ fn copies_are_equal(rt: HostRuntime) -> Result<(), Fail> {
     put_parts(alloc, &mut text)?;
     put_inputs(alloc, &mut text)?;
     put_effects(alloc, &mut text)?;
-    put_copy(&mut text, &Session::opening(alloc))?;
-    put_copy(&mut text, &connected(alloc)?)?;
-    let mut downs = Effects::new(alloc);
-    downs.push(Effect::Gateway(GwCall::Create))?;
-    let reply = Reply {
-        number: 1,
-        version: 2,
-        downs,
-    };
-    put_copy(&mut text, &reply)?;
+    put_steps(alloc, &mut text)?;
+    put_end(alloc, &mut text)?;
     assert_eq!(rt; text.as_str(), COPIES);
     Ok(())
 }
