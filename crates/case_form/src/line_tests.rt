@@ -1,8 +1,8 @@
 //! The lines of a schedule and of a trace, in every form and out of it.
 
-use crate::CaseBad;
-use crate::tests::{ROW, joined, refusal_of};
-use echo_base::Reason;
+use crate::tests::{ROW, answer, joined};
+use std::alloc::Global;
+use std::process::Abort;
 use std::test::Fail;
 
 /// Events that are in form where there is one row, a line each.
@@ -121,54 +121,35 @@ const BAD_TRACE_LINES: &str = "\
 x\n\
 ";
 
-#[test]
-fn refuses_lines_that_are_no_event(rt: HostRuntime) -> Result<(), Fail> {
-    let one = joined(rt.alloc(), "[subscribers]\n", ROW)?;
-    let front = joined(rt.alloc(), &one, "\n[schedule]\n")?;
-    for event in GOOD_EVENTS.lines() {
-        let text = joined(rt.alloc(), &front, event)?;
+/// What reading the front and each of the lines gives.
+fn each_gives(
+    rt: &impl Abort,
+    alloc: Global,
+    front: &str,
+    lines: &str,
+    want: &str,
+) -> Result<(), Fail> {
+    for line in lines.lines() {
+        let text = joined(alloc, front, line)?;
         assert_eq!(rt;
-            refusal_of(rt.alloc(), text.as_bytes()),
-            None,
-            "at {event:?}"
-        );
-    }
-    let wanted = CaseBad::Refused {
-        reason: Reason::BadLine,
-        line: 4,
-    };
-    for event in BAD_EVENTS.lines() {
-        let text = joined(rt.alloc(), &front, event)?;
-        assert_eq!(rt;
-            refusal_of(rt.alloc(), text.as_bytes()),
-            Some(wanted),
-            "at {event:?}"
+            answer(alloc, text.as_bytes())?.as_str(),
+            want,
+            "at {line:?}"
         );
     }
     Ok(())
 }
 
 #[test]
+fn refuses_lines_that_are_no_event(rt: HostRuntime) -> Result<(), Fail> {
+    let one = joined(rt.alloc(), "[subscribers]\n", ROW)?;
+    let front = joined(rt.alloc(), &one, "\n[schedule]\n")?;
+    each_gives(&rt, rt.alloc(), &front, GOOD_EVENTS, "good")?;
+    each_gives(&rt, rt.alloc(), &front, BAD_EVENTS, "BadLine 4")
+}
+
+#[test]
 fn refuses_lines_that_are_not_of_a_trace(rt: HostRuntime) -> Result<(), Fail> {
-    for line in GOOD_TRACE_LINES.lines() {
-        let text = joined(rt.alloc(), "[trace]\n", line)?;
-        assert_eq!(rt;
-            refusal_of(rt.alloc(), text.as_bytes()),
-            None,
-            "at {line:?}"
-        );
-    }
-    let wanted = CaseBad::Refused {
-        reason: Reason::BadLine,
-        line: 2,
-    };
-    for line in BAD_TRACE_LINES.lines() {
-        let text = joined(rt.alloc(), "[trace]\n", line)?;
-        assert_eq!(rt;
-            refusal_of(rt.alloc(), text.as_bytes()),
-            Some(wanted),
-            "at {line:?}"
-        );
-    }
-    Ok(())
+    each_gives(&rt, rt.alloc(), "[trace]\n", GOOD_TRACE_LINES, "good")?;
+    each_gives(&rt, rt.alloc(), "[trace]\n", BAD_TRACE_LINES, "BadLine 2")
 }

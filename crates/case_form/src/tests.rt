@@ -1,9 +1,8 @@
 //! Case texts. What they say, or why they are refused, is worked out by hand.
 
 use crate::{Case, CaseBad, read_case};
-use device_types::{DeviceId, Event, Lane};
-use echo_base::{Column, Reason};
 use std::alloc::{AllocError, Global};
+use std::process::Abort;
 use std::test::Fail;
 
 /// A row of the subscriber table.
@@ -14,12 +13,66 @@ pub(crate) const ROW: &str =
 const OTHERS: &str =
     r#""rand":"000102030405060708090a0b0c0d0e0f","autn":"101112131415161718191a1b1c1d1e1f","res":"a0a1a2a3a4a5a6a7","key":"1111111111111111111111111111111111111111111111111111111111111111","apn":"internet","ip":"0a2d0001","sgw":"c0a80001","teid":1,"ambr_dl":0,"ambr_ul":0,"forbidden":[]}"#;
 
-/// Why a text is refused, and for which line.
-pub(crate) fn refusal_of(alloc: Global, text: &[u8]) -> Option<CaseBad> {
+/// Texts, with `|` for LF, `^` for CR and `@` for a row, and behind `=` what reading them gives.
+const TEXTS: &str = "\
+=good
+|=good
+^||#=good
+# [no]|#^|=good
+[subscribers]=good
+[subscribers]|[trace]|[schedule]=good
+[trace]^|=good
+[schedule]|=good
+[trace]|1 00^=good
+[schedule]|[trace]|=BadSection 2
+[trace]||[subscribers]=BadSection 3
+[trace]|[trace]|=BadSection 2
+[Trace]|=BadSection 1
+# x||[trace] |=BadSection 3
+[trace]^=BadSection 1
+[trace]^^|=BadSection 1
+[subscribers]|[1]=BadSection 2
+1 00|[trace]|=BadSection 1
+ # x|=BadSection 1
+^=BadSection 1
+[trace]|1 00|x|[trace]|=BadLine 3
+[subscribers]||{|x|=BadJson 3
+[subscribers]|{}|=MissingColumn(Imsi) 2
+[subscribers]|@|#|@=RepeatedImsi 4
+[schedule]|send 1 1|=BadLine 2";
+
+/// A text of a front, so many zeros and an end, and what reading it gives.
+const LONG_LINES: &str = "\
+[trace]|1 =8190=^|=good
+[trace]|1 =8190==good
+[trace]|1 =8190=^=LineTooLong 2
+[trace]|1 =8191=|=LineTooLong 2
+|#=8191=^|=good
+|#=8192=|=LineTooLong 2
+|[=8192=|=LineTooLong 2
+|=8193=|=LineTooLong 2";
+
+/// What reading a text gives, as the tables write it.
+pub(crate) fn answer(alloc: Global, text: &[u8]) -> Result<String, AllocError> {
     match read_case(alloc, text) {
-        Ok(_) => None,
-        Err(bad) => Some(bad),
+        Ok(_) => String::from_str(alloc, "good"),
+        Err(CaseBad::Refused { reason, line }) => format!(in alloc; "{reason:?} {line}"),
+        Err(CaseBad::OutOfMemory) => Err(AllocError),
     }
+}
+
+/// The text that a table writes.
+fn text_of(alloc: Global, written: &str) -> Result<String, AllocError> {
+    let mut text = String::new(alloc);
+    for c in written.chars() {
+        match c {
+            '|' => text.push('\n')?,
+            '^' => text.push('\r')?,
+            '@' => text.push_str(ROW)?,
+            _ => text.push(c)?,
+        }
+    }
+    Ok(text)
 }
 
 /// A line behind the texts before it.
@@ -52,19 +105,17 @@ fn many_rows(alloc: Global, count: u32) -> Result<String, AllocError> {
 
 #[test]
 fn reads_a_case(rt: HostRuntime) -> Result<(), Fail> {
-    let front = joined(rt.alloc(), "# A case.\r\n\r\n[subscribers]\n", ROW)?;
-    let text = joined(
-        rt.alloc(),
-        &front,
-        "\r\n#\n[trace]\n1 0g\n\n65535 é\r\n[schedule]\nsend 1 7\ntake 2 1 7\nanswer 3 1 subscriber 8\nread 4\nwrite 5\nstop 16\nreply 1 9\npush 1 down 10\neffect 1 gateway 11\n# end\nsettle 1 subscriber 4294967295",
+    let alloc = rt.alloc();
+    let text = text_of(
+        alloc,
+        "# A case.^||[subscribers]|@^|#|[trace]|1 0g||65535 é^|[schedule]|send 1 7|take 2 1 7|answer 3 1 subscriber 8|read 4|write 5|stop 16|reply 1 9|push 1 down 10|effect 1 gateway 11|# end|settle 1 subscriber 4294967295",
     )?;
     let Case {
         table,
         trace,
         schedule,
-    } = read_case(rt.alloc(), text.as_bytes())?;
+    } = read_case(alloc, text.as_bytes())?;
     assert_eq!(rt; table.len(), 1);
-    assert_eq!(rt; table.by_imsi(208930000000001), Some(DeviceId(1)));
     assert_eq!(rt; trace.len(), 2);
     assert_eq!(rt; trace[0].line, 7);
     assert_eq!(rt; trace[0].station, 1);
@@ -72,166 +123,79 @@ fn reads_a_case(rt: HostRuntime) -> Result<(), Fail> {
     assert_eq!(rt; trace[1].line, 9);
     assert_eq!(rt; trace[1].station, 65535);
     assert_eq!(rt; trace[1].text.items(), "é".as_bytes());
-    let d = DeviceId(1);
+    let events = format!(in alloc; "{schedule:?}")?;
     assert_eq!(rt;
-        schedule.as_slice(),
-        [
-            Event::Send { d, n: 7 },
-            Event::Take { r: 2, d, n: 7 },
-            Event::Answer {
-                r: 3,
-                d,
-                lane: Lane::Subscriber,
-                k: 8
-            },
-            Event::Read { r: 4 },
-            Event::Write { r: 5 },
-            Event::Stop { r: 16 },
-            Event::Reply { d, n: 9 },
-            Event::Push {
-                d,
-                lane: Lane::Down,
-                k: 10
-            },
-            Event::Effect {
-                d,
-                lane: Lane::Gateway,
-                k: 11
-            },
-            Event::Settle {
-                d,
-                lane: Lane::Subscriber,
-                k: 4294967295
-            },
-        ]
-        .as_slice()
+        events.as_str(),
+        "[Send { d: DeviceId(1), n: 7 }, Take { r: 2, d: DeviceId(1), n: 7 }, Answer { r: 3, d: DeviceId(1), lane: Subscriber, k: 8 }, Read { r: 4 }, Write { r: 5 }, Stop { r: 16 }, Reply { d: DeviceId(1), n: 9 }, Push { d: DeviceId(1), lane: Down, k: 10 }, Effect { d: DeviceId(1), lane: Gateway, k: 11 }, Settle { d: DeviceId(1), lane: Subscriber, k: 4294967295 }]"
     );
     Ok(())
 }
 
 #[test]
-fn passes_over_what_says_nothing(rt: HostRuntime) -> Result<(), Fail> {
-    for text in [
-        "",
-        "\n",
-        "\r\n\n#",
-        "# [no]\n#\r\n",
-        "[subscribers]",
-        "[subscribers]\n[trace]\n[schedule]",
-        "[trace]\r\n",
-        "[schedule]\n",
-        "[trace]\n1 00\r",
-    ] {
+fn reads_texts(rt: HostRuntime) -> Result<(), Fail> {
+    let alloc = rt.alloc();
+    for line in TEXTS.lines() {
+        let (written, want) = line.split_once('=').ok_or("no answer")?;
+        let text = text_of(alloc, written)?;
         assert_eq!(rt;
-            refusal_of(rt.alloc(), text.as_bytes()),
-            None,
-            "at {text:?}"
+            answer(alloc, text.as_bytes())?.as_str(),
+            want,
+            "for {written}"
         );
     }
-    Ok(())
-}
-
-#[test]
-fn refuses_the_first_bad_line(rt: HostRuntime) -> Result<(), Fail> {
-    for (text, reason, line) in [
-        ("[schedule]\n[trace]\n", Reason::BadSection, 2),
-        ("[trace]\n\n[subscribers]", Reason::BadSection, 3),
-        ("[trace]\n[trace]\n", Reason::BadSection, 2),
-        ("[Trace]\n", Reason::BadSection, 1),
-        ("# x\n\n[trace] \n", Reason::BadSection, 3),
-        ("[trace]\r", Reason::BadSection, 1),
-        ("[trace]\r\r\n", Reason::BadSection, 1),
-        ("[subscribers]\n[1]", Reason::BadSection, 2),
-        ("1 00\n[trace]\n", Reason::BadSection, 1),
-        (" # x\n", Reason::BadSection, 1),
-        ("\r", Reason::BadSection, 1),
-        ("[trace]\n1 00\nx\n[trace]\n", Reason::BadLine, 3),
-        ("[subscribers]\n\n{\nx\n", Reason::BadJson, 3),
-        (
-            "[subscribers]\n{}\n",
-            Reason::MissingColumn(Column::Imsi),
-            2,
-        ),
-        ("[schedule]\nsend 1 1\n", Reason::BadLine, 2),
-    ] {
-        let wanted = CaseBad::Refused { reason, line };
-        assert_eq!(rt;
-            refusal_of(rt.alloc(), text.as_bytes()),
-            Some(wanted),
-            "at {text:?}"
-        );
-    }
-    Ok(())
-}
-
-#[test]
-fn refuses_rows_for_those_before_them(rt: HostRuntime) -> Result<(), Fail> {
-    let one = joined(rt.alloc(), "[subscribers]\n", ROW)?;
-    let twice = joined(rt.alloc(), &joined(rt.alloc(), &one, "\n#\n")?, ROW)?;
-    let wanted = CaseBad::Refused {
-        reason: Reason::RepeatedImsi,
-        line: 4,
-    };
-    assert_eq!(rt; refusal_of(rt.alloc(), twice.as_bytes()), Some(wanted));
-    let most = many_rows(rt.alloc(), 4096)?;
-    assert_eq!(rt; read_case(rt.alloc(), most.as_bytes())?.table.len(), 4096);
-    let more = many_rows(rt.alloc(), 4097)?;
-    let full = CaseBad::Refused {
-        reason: Reason::TableFull,
-        line: 4098,
-    };
-    assert_eq!(rt; refusal_of(rt.alloc(), more.as_bytes()), Some(full));
     Ok(())
 }
 
 #[test]
 fn counts_the_octets_of_a_line(rt: HostRuntime) -> Result<(), Fail> {
-    let long = CaseBad::Refused {
-        reason: Reason::LineTooLong,
-        line: 2,
-    };
-    for (front, count, end, wanted) in [
-        ("[trace]\n1 ", 8190, "\r\n", None),
-        ("[trace]\n1 ", 8190, "", None),
-        ("[trace]\n1 ", 8190, "\r", Some(long)),
-        ("[trace]\n1 ", 8191, "\n", Some(long)),
-        ("\n#", 8191, "\r\n", None),
-        ("\n#", 8192, "\n", Some(long)),
-        ("\n[", 8192, "\n", Some(long)),
-        ("\n", 8193, "\n", Some(long)),
-    ] {
-        let line = repeated(rt.alloc(), front, "0", count)?;
-        let text = joined(rt.alloc(), &line, end)?;
+    let alloc = rt.alloc();
+    for line in LONG_LINES.lines() {
+        let (front, rest) = line.split_once('=').ok_or("no count")?;
+        let (count, rest) = rest.split_once('=').ok_or("no end")?;
+        let (end, want) = rest.split_once('=').ok_or("no answer")?;
+        let front = text_of(alloc, front)?;
+        let end = text_of(alloc, end)?;
+        let count: u32 = count.parse().unwrap_or(0);
+        let long = repeated(alloc, &front, "0", count)?;
+        let text = joined(alloc, &long, &end)?;
         assert_eq!(rt;
-            refusal_of(rt.alloc(), text.as_bytes()),
-            wanted,
-            "{front:?} and {count}"
+            answer(alloc, text.as_bytes())?.as_str(),
+            want,
+            "for {line}"
         );
     }
     Ok(())
 }
 
 #[test]
-fn counts_the_lines_of_a_section(rt: HostRuntime) -> Result<(), Fail> {
-    for (front, line) in [("[trace]\n#\n", "1 00\n"), ("\n[schedule]\n", "read 1\n")] {
-        let most = repeated(rt.alloc(), front, line, 100_000)?;
-        assert_eq!(rt;
-            refusal_of(rt.alloc(), most.as_bytes()),
-            None,
-            "at {line:?}"
-        );
-        let wanted = CaseBad::Refused {
-            reason: Reason::TooManyLines,
-            line: 100_004,
-        };
-        for last in ["#\n1 00\n", "\nread 1", "\r\nx"] {
-            let text = joined(rt.alloc(), &most, last)?;
-            assert_eq!(rt;
-                refusal_of(rt.alloc(), text.as_bytes()),
-                Some(wanted),
-                "{line:?} {last:?}"
-            );
-        }
-    }
+fn counts_the_rows(rt: HostRuntime) -> Result<(), Fail> {
+    let alloc = rt.alloc();
+    let most = many_rows(alloc, 4096)?;
+    assert_eq!(rt; read_case(alloc, most.as_bytes())?.table.len(), 4096);
+    let more = many_rows(alloc, 4097)?;
+    assert_eq!(rt; answer(alloc, more.as_bytes())?.as_str(), "TableFull 4098");
     Ok(())
+}
+
+/// A section with 100,000 lines of it takes no other one.
+fn is_full_of(rt: &impl Abort, alloc: Global, front: &str, line: &str) -> Result<(), Fail> {
+    let most = repeated(alloc, front, line, 100_000)?;
+    assert_eq!(rt;
+        answer(alloc, most.as_bytes())?.as_str(),
+        "good",
+        "for {line}"
+    );
+    let more = joined(alloc, &most, "#\nx")?;
+    assert_eq!(rt;
+        answer(alloc, more.as_bytes())?.as_str(),
+        "TooManyLines 100004",
+        "for {line}"
+    );
+    Ok(())
+}
+
+#[test]
+fn counts_the_lines_of_a_section(rt: HostRuntime) -> Result<(), Fail> {
+    is_full_of(&rt, rt.alloc(), "[trace]\n#\n", "1 00\n")?;
+    is_full_of(&rt, rt.alloc(), "\n[schedule]\n", "read 1\n")
 }
