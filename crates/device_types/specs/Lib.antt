@@ -1,5 +1,10 @@
+pub mod Acts
+pub mod Alone
 pub mod Answer
+pub mod AreaUpdate
+pub mod Attach
 pub mod Cause
+pub mod Detach
 pub mod Down
 pub mod Event
 pub mod Journal
@@ -10,5 +15,9 @@ pub mod Message
 pub mod Nas
 pub mod Numbers
 pub mod Octets
+pub mod PeerAnswer
+pub mod Rule
+pub mod Service
 pub mod Session
+pub mod StepTable
 pub mod Subscriber

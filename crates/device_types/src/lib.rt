@@ -16,6 +16,7 @@ mod message;
 mod nas_out;
 mod no_room;
 mod session;
+mod state;
 mod step;
 mod subscriber;
 #[cfg(test)]
