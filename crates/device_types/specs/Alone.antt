@@ -1,6 +1,8 @@
 -- Alone: the one machine of a device that never fails, over the messages of the device, with each call answered at once.
-use Rattle.std.specs.Prelude.{◌≡◌, ◌≤◌, ℕ, zero, suc, ◌*◌, List, [], ◌∷◌, ◌++◌, length, take, Option, Some, None, option_map, slice_get}
+use Rattle.std.specs.Prelude.{◌≡◌, ◌≤◌, ℕ, zero, suc, ◌*◌, Bool, true, false, List, [], ◌∷◌, ◌++◌, length, take, Option, Some, None, option_map, slice_get}
+use Rattle.std.specs.List.{flat_map, count_by}
 use Rattle.device_types.specs.declared.event.Lane.{Lane}
+use Rattle.device_types.specs.declared.input.Answer.TheVariants as answers
 use Rattle.device_types.specs.declared.input.Input.{Input}
 use Rattle.device_types.specs.declared.input.Input.TheVariants as inputs
 use Rattle.device_types.specs.declared.message.Message.{Message}
@@ -39,6 +41,23 @@ alone_to row messages (suc v) = with_next (alone_to row messages v) (next_entry 
 -- all entries: a message leads to at most three
 unfoldable pub alone_of : Subscriber → List Message → List Entry
 alone_of row messages = alone_to row messages (3 * length messages)
+
+-- is this the answer to a call that creates?
+abbrev pub is_created : Input → Bool
+is_created (inputs.Answer lane k (answers.Created sgw teid ip)) = true
+is_created _ = false
+
+-- how many calls that create were answered
+abbrev pub created_count : List Entry → ℕ
+created_count journal = count_by (λ entry. is_created entry.input) journal
+
+-- the messages that were taken, in order
+abbrev pub messages_in : Input → List Message
+messages_in (inputs.Message message) = message ∷ []
+messages_in (inputs.Answer lane k answer) = []
+
+abbrev pub messages_of : List Entry → List Message
+messages_of journal = flat_map (λ entry. messages_in entry.input) journal
 
 -- each entry is the one that comes next behind those before it, and behind the last none comes
 abbrev pub IsAlone : Subscriber → List Message → List Entry → Type 0
