@@ -21,11 +21,11 @@ use Rattle.device_types.specs.Look.{look_behind, look_of, answer_look_behind, an
 length_more : {X : Type 0} (xs : List X) (x : X) → length (xs ++ x ∷ []) ≡ length xs + 1
 length_more xs x = length-append xs (x ∷ [])
 
-last_more : {X : Type 0} (xs : List X) (x : X) → slice_get (xs ++ x ∷ []) (length xs) ≡ Some x
+pub last_more : {X : Type 0} (xs : List X) (x : X) → slice_get (xs ++ x ∷ []) (length xs) ≡ Some x
 last_more [] x = refl
 last_more (y ∷ ys) x = last_more ys x
 
-get_before : {X : Type 0} (xs ys : List X) (i : ℕ) → i < length xs → slice_get (xs ++ ys) i ≡ slice_get xs i
+pub get_before : {X : Type 0} (xs ys : List X) (i : ℕ) → i < length xs → slice_get (xs ++ ys) i ≡ slice_get xs i
 get_before [] ys i h = absurd (omega arith)
 get_before (x ∷ xs) ys zero h = refl
 get_before (x ∷ xs) ys (suc i) h = get_before xs ys i (omega arith)

@@ -1,1 +1,13 @@
+pub mod Alone
+pub mod Apart
+pub mod Calls
+pub mod Connecting
+pub mod Courses
+pub mod Few
+pub mod Joined
 pub mod Journals
+pub mod Keeping
+pub mod Members
+pub mod Peers
+pub mod Prefixes
+pub mod Worked

@@ -1,7 +1,15 @@
+pub mod Acts
+pub mod Alone
 pub mod Answer
+pub mod AreaUpdate
+pub mod Attach
+pub mod Awaited
 pub mod Cause
+pub mod Detach
 pub mod Down
+pub mod Effect
 pub mod Event
+pub mod Input
 pub mod Journal
 pub mod Keys
 pub mod Line
@@ -10,5 +18,10 @@ pub mod Message
 pub mod Nas
 pub mod Numbers
 pub mod Octets
+pub mod PeerAnswer
+pub mod Ready
+pub mod Rule
+pub mod Service
 pub mod Session
+pub mod StepTable
 pub mod Subscriber

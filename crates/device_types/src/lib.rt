@@ -1,6 +1,7 @@
 //! The values of a device that the crates above share, with the conditions that several of them cite.
 #![tactic(auto)]
 
+mod alone_laws;
 mod book;
 mod cause;
 mod down;
@@ -16,12 +17,15 @@ mod message;
 mod nas_out;
 mod no_room;
 mod session;
+mod state;
 mod step;
+mod step_laws;
 mod subscriber;
 #[cfg(test)]
 mod tests;
 mod try_copy;
 
+pub use alone_laws::{alone_is_ready, alone_is_sound, alone_is_the_only, alone_takes_each};
 pub use book::Book;
 pub use cause::CauseCode;
 pub use down::{Accept, Down, Downs};
@@ -38,5 +42,9 @@ pub use nas_out::NasOut;
 pub use no_room::NoRoom;
 pub use session::{Bearer, Link, Session, Stage};
 pub use step::{Entry, Reply, Step};
+pub use step_laws::{
+    answers_in_range, one_row_fits, step_awaits_one, step_can_be_written, step_keeps_connection,
+    step_keeps_ranges, step_makes_few, step_of_row,
+};
 pub use subscriber::{DeviceId, Subscriber};
 pub use try_copy::TryCopy;

@@ -30,6 +30,11 @@ impl<T> ListOf<T> {
         }
     }
 
+    /// The allocator that holds the list.
+    pub fn alloc(&self) -> Global {
+        *self.items.allocator()
+    }
+
     /// The values in order.
     pub fn items(&self) -> &[T]
         ensures { result.now ≡ self.now }

@@ -151,16 +151,12 @@ impl Session {
             radio: 0,
         }
     }
-}
 
-/// The session is copied exactly. By hand, since each field of a derived clone may fail, and only two take memory.
-impl Clone for Session {
-    ghost use Rattle.std.specs.Prelude.{◌≡◌};
-
-    ghost is_clone = { λ session clone. clone ≡ session };
-
-    fn clone(&self) -> Result<Session, AllocError> {
-        Ok(Session {
+    /// The same session, with the expected response and the key of another authentication vector. It takes no memory.
+    pub fn with_vector(&self, res: Octets, key: Key) -> Session
+        ensures { result ≡ record self.now { res = res; key = key } }
+    {
+        Session {
             stage: self.stage,
             link: self.link,
             plmn: self.plmn,
@@ -168,8 +164,8 @@ impl Clone for Session {
             eea: self.eea,
             eia: self.eia,
             pti: self.pti,
-            res: self.res.copy()?,
-            key: self.key.copy()?,
+            res,
+            key,
             dl: self.dl,
             ul: self.ul,
             sgw: self.sgw,
@@ -182,7 +178,18 @@ impl Clone for Session {
             off: self.off,
             cause: self.cause,
             radio: self.radio,
-        })
+        }
+    }
+}
+
+/// The session is copied exactly. By hand, since each field of a derived clone may fail, and only two take memory.
+impl Clone for Session {
+    ghost use Rattle.std.specs.Prelude.{◌≡◌};
+
+    ghost is_clone = { λ session clone. clone ≡ session };
+
+    fn clone(&self) -> Result<Session, AllocError> {
+        Ok(self.with_vector(self.res.copy()?, self.key.copy()?))
     }
 }
 

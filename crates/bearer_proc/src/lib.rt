@@ -1,0 +1,193 @@
+//! What the procedures of a device share: its S1 connection, its bearers, and what is sent to it.
+#![tactic(auto)]
+
+ghost use Rattle.std.specs.Prelude.{◌≡◌, [], ◌∷◌, IfOk};
+ghost use Rattle.device_types.specs.Acts.{made, behind, nas_to, told, setup, release, releases, left_behind, moves_connection, drops_ue, frees_bearers};
+
+use device_types::{
+    Accept, Bearer, CauseCode, Down, Effect, Effects, GwCall, Link, NasOut, Session, Stage, Step,
+    TryCopy,
+};
+use std::alloc::AllocError;
+
+/// The group of the causes of NAS (3GPP TS 36.413, 9.2.1.3).
+const NAS: u8 = 2;
+
+/// The cause "normal release" of NAS.
+pub const NORMAL_RELEASE: CauseCode = CauseCode {
+    group: NAS,
+    extended: false,
+    index: 0,
+};
+
+/// The cause "authentication failure" of NAS.
+pub const AUTHENTICATION_FAILURE: CauseCode = CauseCode {
+    group: NAS,
+    extended: false,
+    index: 1,
+};
+
+/// The cause "detach" of NAS.
+pub const DETACH: CauseCode = CauseCode {
+    group: NAS,
+    extended: false,
+    index: 2,
+};
+
+/// The cause "unspecified" of NAS.
+pub const UNSPECIFIED: CauseCode = CauseCode {
+    group: NAS,
+    extended: false,
+    index: 3,
+};
+
+/// A NAS message to a device, by the S1 connection to this base station, where its eNB-UE-S1AP-ID is `enb`.
+pub fn nas_to(station: u16, enb: u32, nas: NasOut) -> Effect
+    ensures { result ≡ nas_to station enb nas }
+{
+    Effect::Down(Down::Nas { station, enb, nas })
+}
+
+/// A NAS message on the session's S1 connection.
+pub fn nas_message(session: &Session, nas: NasOut) -> Effect
+    ensures { result ≡ told nas session.now }
+{
+    nas_to(session.link.station(), session.link.enb(), nas)
+}
+
+/// The setup of the device's context with its bearer, on the session's S1 connection.
+pub fn context_setup(session: &Session, accept: Accept) -> Result<Effect, AllocError>
+    ensures { IfOk result (λ effect. effect ≡ setup accept session.now) }
+{
+    Ok(Effect::Down(Down::Setup {
+        station: session.link.station(),
+        enb: session.link.enb(),
+        dl: session.dl,
+        ul: session.ul,
+        sgw: session.sgw,
+        teid: session.teid,
+        eea: session.eea,
+        eia: session.eia,
+        key: session.key.copy()?,
+        accept,
+    }))
+}
+
+/// The release of the device's context, on the session's S1 connection and for the session's cause.
+pub fn context_release(session: &Session) -> Effect
+    ensures { result ≡ release session.now }
+{
+    Effect::Down(Down::Release {
+        station: session.link.station(),
+        enb: session.link.enb(),
+        cause: session.cause,
+    })
+}
+
+/// The session, with no effect. It takes no memory.
+pub fn without_effect(session: Session) -> Step
+    ensures { result ≡ made session [] }
+{
+    let effects = Effects::new(session.alloc());
+    Step { session, effects }
+}
+
+/// The session, with this one effect.
+pub fn with_effect(session: Session, effect: Effect) -> Result<Step, AllocError>
+    ensures { IfOk result (λ step. step ≡ made session (effect ∷ [])) }
+{
+    let mut effects = Effects::new(session.alloc());
+    effects.push(effect)?;
+    Ok(Step { session, effects })
+}
+
+/// These effects, and then the step.
+pub fn behind(mut effects: Effects, step: Step) -> Result<Step, AllocError>
+    ensures { IfOk result (λ all. all ≡ behind effects step) }
+{
+    let Step {
+        session,
+        effects: more,
+    } = step;
+    effects.append(more)?;
+    Ok(Step { session, effects })
+}
+
+/// The device's context is released (TS 23.401, 5.3.5, step 4).
+pub fn release_context(mut session: Session) -> Result<Step, AllocError>
+    ensures { IfOk result (λ step. step ≡ releases session) }
+{
+    let effect = context_release(&session);
+    session.stage = Stage::Releasing;
+    with_effect(session, effect)
+}
+
+/// Moves the S1 connection: the device is on this one now, and another one that it had is released. For want of memory the session
+/// is dropped.
+#[tactic(auto, unfolding(device_types::specs::Acts::moves_connection))]
+pub fn move_link(s: Session, station: u16, enb: u32) -> Result<Step, AllocError>
+    ensures { IfOk result (λ step. step ≡ moves_connection station enb s) }
+{
+    let effects = left_behind(&s, station, enb)?;
+    let mut session = s;
+    session.link = Link::On { station, enb };
+    Ok(Step { session, effects })
+}
+
+/// What releases another S1 connection of the device.
+fn left_behind(session: &Session, station: u16, enb: u32) -> Result<Effects, AllocError>
+    ensures { IfOk result (λ effects. effects ≡ left_behind session.now.link station enb) }
+{
+    let mut effects = Effects::new(session.alloc());
+    if let Link::On {
+        station: was_station,
+        enb: was_enb,
+    } = session.link
+    {
+        if was_station == station && was_enb == enb {
+            return Ok(effects);
+        }
+        effects.push(Effect::Down(Down::Release {
+            station: was_station,
+            enb: was_enb,
+            cause: NORMAL_RELEASE,
+        }))?;
+    }
+    Ok(effects)
+}
+
+/// Drops the UE: it is not registered. Its session at the gateway is deleted first, where it has one, and then its context is
+/// released. For want of memory the session is dropped.
+#[tactic(auto, unfolding(device_types::specs::Acts::drops_ue))]
+pub fn drop_device(s: Session, cause: CauseCode) -> Result<Step, AllocError>
+    ensures { IfOk result (λ step. step ≡ drops_ue cause s) }
+{
+    let mut session = s;
+    session.cause = cause;
+    session.registered = false;
+    match session.bearer {
+        Bearer::None => release_context(session),
+        Bearer::Made | Bearer::Active => {
+            session.off = true;
+            session.stage = Stage::AwaitDelete;
+            with_effect(session, Effect::Gateway(GwCall::Delete))
+        }
+    }
+}
+
+/// Frees the radio bearers: the gateway lets go of the base station first, where it has one, and then the device's context is
+/// released (TS 23.401, 5.3.5). For want of memory the session is dropped.
+#[tactic(auto, unfolding(device_types::specs::Acts::frees_bearers))]
+pub fn free_link(s: Session, cause: CauseCode) -> Result<Step, AllocError>
+    ensures { IfOk result (λ step. step ≡ frees_bearers cause s) }
+{
+    let mut session = s;
+    session.cause = cause;
+    match session.bearer {
+        Bearer::None | Bearer::Made => release_context(session),
+        Bearer::Active => {
+            session.stage = Stage::AwaitRelease;
+            with_effect(session, Effect::Gateway(GwCall::Release))
+        }
+    }
+}

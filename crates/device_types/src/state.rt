@@ -1,0 +1,141 @@
+//! What the step table asks of a session, a message and a subscriber.
+ghost use Rattle.std.specs.Prelude.{◌≡◌};
+ghost use Rattle.device_types.specs.Acts.{station_of, enb_of};
+ghost use Rattle.device_types.specs.Rule.{number, at, settled, held, gone, attaching, is_attaching, served, here, forbidden};
+
+use crate::message::Message;
+use crate::session::{Link, Session, Stage};
+use crate::subscriber::Subscriber;
+use std::alloc::Global;
+
+impl Stage {
+    /// The number of the stage, from 0, in the order in which they are listed.
+    pub fn number(self) -> u8
+        ensures { result ≡ number self }
+    {
+        self as u8
+    }
+
+    /// Does the device attach, and is it waited for?
+    fn is_attaching(self) -> bool
+        ensures { result ≡ is_attaching self }
+    {
+        match self {
+            Stage::Authenticating
+            | Stage::Securing
+            | Stage::Accepting
+            | Stage::AcceptingContext
+            | Stage::AcceptingDone => true,
+            _ => false,
+        }
+    }
+}
+
+impl Link {
+    /// The base station of the connection; 0 where there is none.
+    pub fn station(self) -> u16
+        ensures { result ≡ station_of self }
+    {
+        match self {
+            Link::Off => 0,
+            Link::On { station, .. } => station,
+        }
+    }
+
+    /// The device's eNB-UE-S1AP-ID there; 0 where there is no connection.
+    pub fn enb(self) -> u32
+        ensures { result ≡ enb_of self }
+    {
+        match self {
+            Link::Off => 0,
+            Link::On { enb, .. } => enb,
+        }
+    }
+}
+
+impl Session {
+    /// The allocator that holds the session.
+    pub fn alloc(&self) -> Global {
+        self.res.alloc()
+    }
+
+    /// Is the device in this stage?
+    pub fn is_at(&self, stage: Stage) -> bool
+        ensures { result ≡ at stage self.now }
+    {
+        self.stage.number() == stage.number()
+    }
+
+    /// Is no answer to a call awaited?
+    pub fn is_settled(&self) -> bool
+        ensures { result ≡ settled self.now }
+    {
+        match self.stage {
+            Stage::AwaitVectors
+            | Stage::AwaitLocation
+            | Stage::AwaitCreate
+            | Stage::AwaitModify
+            | Stage::AwaitRelease
+            | Stage::AwaitDelete => false,
+            _ => true,
+        }
+    }
+
+    /// Is the device registered, and does it stay so?
+    pub fn is_held(&self) -> bool
+        ensures { result ≡ held self.now }
+    {
+        match self.stage {
+            Stage::Idle | Stage::Connecting | Stage::Connected => true,
+            Stage::Releasing => self.registered,
+            _ => false,
+        }
+    }
+
+    /// Is the device detached, or on the way to it?
+    pub fn is_gone(&self) -> bool
+        ensures { result ≡ gone self.now }
+    {
+        match self.stage {
+            Stage::Detached => true,
+            Stage::Releasing => !self.registered,
+            _ => false,
+        }
+    }
+
+    /// Does the device attach, and is it waited for?
+    pub fn is_attaching(&self) -> bool
+        ensures { result ≡ attaching self.now }
+    {
+        self.stage.is_attaching()
+    }
+
+    /// Does the device attach, and is it waited for, or has it its connection or gets it?
+    pub fn is_served(&self) -> bool
+        ensures { result ≡ served self.now }
+    {
+        match self.stage {
+            Stage::Connecting | Stage::Connected => true,
+            stage => stage.is_attaching(),
+        }
+    }
+
+    /// Did the message come on the session's S1 connection?
+    pub fn is_here(&self, message: &Message) -> bool
+        ensures { result ≡ here self.now message.now }
+    {
+        match self.link {
+            Link::Off => false,
+            Link::On { station, enb } => station == message.station && enb == message.enb,
+        }
+    }
+}
+
+impl Subscriber {
+    /// Is the device not served in this tracking area?
+    pub fn is_forbidden(&self, tac: u16) -> bool
+        ensures { result ≡ forbidden self.now tac }
+    {
+        self.forbidden.items().iter().any(|area| *area == tac)
+    }
+}

@@ -1,0 +1,158 @@
+//! The service request, and the release of the S1 connection (3GPP TS 23.401, 5.3.4.1 and 5.3.5).
+#![tactic(auto)]
+
+ghost use Rattle.std.specs.Prelude.{◌≡◌, ◌^◌, ◌-◌, min, length, IfOk};
+ghost use Rattle.device_types.specs.Rule.{fitting};
+ghost use Rattle.device_types.specs.Service.{service_message, service_answer};
+ghost use Rattle.device_types.specs.StepTable.{service_rules};
+ghost use Rattle.device_types.specs.declared.message.Body.TheVariants as bodies;
+
+use bearer_proc::{
+    UNSPECIFIED, context_setup, free_link, move_link, nas_to, release_context, with_effect,
+    without_effect,
+};
+use device_types::{
+    Accept, Answer, Bearer, Body, Effect, GwCall, Input, Link, Message, NasOut, Octets, Session,
+    Stage, Step, Subscriber, TryCopy,
+};
+use std::alloc::AllocError;
+
+/// The step of the service request and of the release: Some exactly where one of their rows fits, and then the step of that row.
+pub fn service_step(
+    _row: &Subscriber,
+    session: &Session,
+    input: &Input,
+) -> Result<Option<Step>, AllocError>
+    ensures { IfOk result (λ step. step ≡ fitting (service_rules session.now input.now) session.now) }
+{
+    match input {
+        Input::Message(message) => on_message(session, message),
+        Input::Answer { answer, .. } => on_answer(session, answer),
+    }
+}
+
+fn on_message(session: &Session, message: &Message) -> Result<Option<Step>, AllocError>
+    ensures { IfOk result (λ step. step ≡ fitting (service_message session.now message.now message.now.body) session.now) }
+{
+    match &message.body {
+        Body::Service => request(session, message),
+        Body::ContextDone { addr, teid } => context_done(session, message, *addr, *teid),
+        Body::ContextFailed => {
+            if session.is_here(message) && session.is_at(Stage::Connecting) {
+                return Ok(Some(free_link(session.copy()?, UNSPECIFIED)?));
+            }
+            Ok(None)
+        }
+        Body::ReleaseAsked { cause } => {
+            if session.is_here(message)
+                && (session.is_at(Stage::Connecting) || session.is_at(Stage::Connected))
+            {
+                return Ok(Some(free_link(session.copy()?, *cause)?));
+            }
+            Ok(None)
+        }
+        Body::Released => released(session, message),
+        Body::Capability { octets } => capability(session, message, octets),
+        _ => Ok(None),
+    }
+}
+
+/// The request, on any S1 connection.
+fn request(session: &Session, message: &Message) -> Result<Option<Step>, AllocError>
+    ensures { IfOk result (λ step. step ≡ fitting (service_message session.now message.now bodies.Service) session.now) }
+{
+    if session.is_held() {
+        let Step {
+            mut session,
+            mut effects,
+        } = move_link(session.copy()?, message.station, message.enb)?;
+        effects.push(context_setup(&session, Accept::No)?)?;
+        session.stage = Stage::Connecting;
+        return Ok(Some(Step { session, effects }));
+    }
+    if session.is_settled() {
+        let reject = NasOut::ServiceReject { cause: 10 };
+        let effect = nas_to(message.station, message.enb, reject);
+        return Ok(Some(with_effect(session.copy()?, effect)?));
+    }
+    Ok(None)
+}
+
+/// The base station has set up the context.
+fn context_done(
+    session: &Session,
+    message: &Message,
+    addr: u32,
+    teid: u32,
+) -> Result<Option<Step>, AllocError>
+    ensures { IfOk result (λ step. step ≡ fitting (service_message session.now message.now (bodies.ContextDone addr teid)) session.now) }
+{
+    if !(session.is_here(message) && session.is_at(Stage::Connecting)) {
+        return Ok(None);
+    }
+    let mut session = session.copy()?;
+    session.side_addr = addr;
+    session.side_teid = teid;
+    session.stage = Stage::AwaitModify;
+    Ok(Some(with_effect(session, Effect::Gateway(GwCall::Modify(addr, teid)))?))
+}
+
+/// The base station has released the context.
+fn released(session: &Session, message: &Message) -> Result<Option<Step>, AllocError>
+    ensures { IfOk result (λ step. step ≡ fitting (service_message session.now message.now bodies.Released) session.now) }
+{
+    if !(session.is_here(message) && session.is_at(Stage::Releasing)) {
+        return Ok(None);
+    }
+    let mut session = session.copy()?;
+    session.link = Link::Off;
+    session.stage = if session.registered {
+        Stage::Idle
+    } else {
+        Stage::Detached
+    };
+    Ok(Some(without_effect(session)))
+}
+
+/// The base station tells the device's radio capability.
+fn capability(
+    session: &Session,
+    message: &Message,
+    octets: &Octets,
+) -> Result<Option<Step>, AllocError>
+    ensures { IfOk result (λ step. step ≡ fitting (service_message session.now message.now (bodies.Capability octets.now)) session.now) }
+{
+    if !(session.is_here(message) && session.is_settled()) {
+        return Ok(None);
+    }
+    let mut session = session.copy()?;
+    session.radio = at_most_u32(octets.items().len());
+    Ok(Some(without_effect(session)))
+}
+
+/// The number, or the greatest `u32` if it is greater.
+fn at_most_u32(n: usize) -> u32
+    ensures { result ≡ min n (2 ^ 32 - 1) }
+{
+    if n < u32::MAX as usize {
+        n as u32
+    } else {
+        u32::MAX
+    }
+}
+
+fn on_answer(session: &Session, answer: &Answer) -> Result<Option<Step>, AllocError>
+    ensures { IfOk result (λ step. step ≡ fitting (service_answer session.now answer.now) session.now) }
+{
+    match answer {
+        Answer::Freed => {
+            if !session.is_at(Stage::AwaitRelease) {
+                return Ok(None);
+            }
+            let mut session = session.copy()?;
+            session.bearer = Bearer::Made;
+            Ok(Some(release_context(session)?))
+        }
+        _ => Ok(None),
+    }
+}
