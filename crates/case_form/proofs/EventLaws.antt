@@ -10,8 +10,9 @@ use Rattle.device_types.specs.declared.event.Event.TheVariants as event
 use Rattle.device_types.specs.declared.subscriber.DeviceId.{DeviceId}
 use Rattle.case_form.specs.declared.event.Verb.{Verb}
 use Rattle.case_form.specs.declared.event.Verb.TheVariants.{Send, Take, Answer, Read, Write, Stop, Reply, Push, Effect, Settle}
-use Rattle.case_form.specs.Event.{verb_of, lane_of, call_lane, verb_in, lane_in, call_lane_in, device_in, replica_in, count_in, message_in, effect_in, event_in, event_of, lane_word, event_words, IsCallLane, IsInForm}
-use Rattle.case_form.specs.Number.{IsWithin}
+use Rattle.case_form.specs.Event.{verb_of, lane_of, call_lane, verb_in, lane_in, call_lane_in, device_in, replica_in, count_in, message_in, effect_in, event_in, event_of, lane_word, event_words}
+use Rattle.device_types.specs.Event.{IsCallLane, IsInForm}
+use Rattle.device_types.specs.Numbers.{IsWithin}
 use Rattle.case_form.specs.Words.{Reader, ◌>>=◌, done, number_in, words_of}
 use Rattle.case_form.proofs.ExactLaws.{IsExact, and_then_some, done_some, Next, Ends, next_exact, done_exact, value_exact, number_exact, in_table_found, whole_found, whole_only}
 

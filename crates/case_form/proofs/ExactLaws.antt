@@ -12,7 +12,8 @@ use Rattle.std.proofs.lemmas.Fmt.{decimal_digit, decimal-digits_value, digits_de
 use Rattle.std.proofs.lemmas.List.{append-nil, nil_from_length}
 use Rattle.std.proofs.lemmas.Option.{cond_some, same_Some, some_pair_parts}
 use Rattle.std.proofs.lemmas.Slice.Eq.{bytes_eq-Decides}
-use Rattle.case_form.specs.Number.{is_numeral, number_of, IsWithin}
+use Rattle.device_types.specs.Numbers.{IsWithin}
+use Rattle.case_form.specs.Number.{is_numeral, number_of}
 use Rattle.case_form.specs.Words.{Read, Reader, and_then, ◌>>=◌, done, word_in, number_in, all_read, whole, words_of}
 use Rattle.case_form.proofs.NumberLaws.{digits, numeral_parts}
 

@@ -18,8 +18,9 @@ use Rattle.case_form.specs.declared.case.TraceLine.{TraceLine}
 use Rattle.case_form.specs.declared.section.Section.{Section}
 use Rattle.case_form.specs.declared.section.Section.TheVariants.{Subscribers, Trace, Schedule}
 use Rattle.case_form.specs.Case.{most_octets, most_lines, row_reason, form_reason}
-use Rattle.case_form.specs.Event.{event_of, IsInForm}
-use Rattle.case_form.specs.Number.{IsWithin}
+use Rattle.device_types.specs.Event.{IsInForm}
+use Rattle.device_types.specs.Numbers.{IsWithin}
+use Rattle.case_form.specs.Event.{event_of}
 use Rattle.case_form.specs.Section.{is_passed_over, is_heading, heading_of}
 use Rattle.case_form.specs.State.{Seen, unread, next, next_heading_reason, own_reason, reason_in, rows_after, trace_after, schedule_after, own_after, after}
 use Rattle.case_form.specs.Trace.{sent_of}
@@ -28,7 +29,7 @@ use Rattle.case_form.proofs.StateLaws.{by_line, chain_none, some_of}
 use Rattle.case_form.proofs.TraceLaws.{sent_found}
 
 abbrev pub IsStation : TraceLine → Type 0
-IsStation line = 1 ≤ line.station
+IsStation line = IsWithin 65535 line.station
 
 pub record IsProper (seen : Seen) : Type 0 where
   pub rows_most : length seen.rows ≤ most_rows
@@ -101,7 +102,7 @@ All-more_option P xs (Some x) all here = All-push P xs x all (here x refl)
 
 stationed : (number : ℕ) (line : List ℕ) (sent : Option (ℕ × List ℕ)) → sent_of line ≡ sent → (t : TraceLine) → option_map (λ (sent : ℕ × List ℕ). record { line = number; station = sent.0; text = sent.1 }) sent ≡ Some t → IsStation t
 stationed number line None is t e = absurd cc
-stationed number line (Some sent) is t e = subst IsStation (same_Some _ t e) (sent_found line sent is).0.0
+stationed number line (Some sent) is t e = subst IsStation (same_Some _ t e) (sent_found line sent is).0
 
 trace_stays : (seen : Seen) (line : List ℕ) → IsProper seen → form_reason (length seen.trace) (is_some (sent_of line)) ≡ None → IsProper (record seen { trace = trace_after seen.number seen.trace line })
 unfolding trace_after

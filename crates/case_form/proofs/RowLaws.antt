@@ -1,5 +1,5 @@
 -- Reading a row and adding it.
-use Rattle.std.proofs.Common.{◌≡◌, ℕ, ◌+◌, List, [], ◌∷◌, ◌++◌, length, Option, Some, None, Ok, Err, refl, sym, ap, ◌∙◌}
+use Rattle.std.proofs.Common.{◌≡◌, ℕ, ◌+◌, true, List, [], ◌∷◌, ◌++◌, length, Option, Some, None, Ok, Err, refl, sym, ap, ◌∙◌}
 use Rattle.std.specs.Option.{option_map_or}
 use Rattle.echo_base.specs.declared.reason.Reason.{Reason}
 use Rattle.echo_base.specs.declared.refusal.Bad.{Bad}
@@ -34,8 +34,8 @@ row_taken rows new line number row d count read answer is =
     let reads : row_of (length rows + 1) line ≡ Ok row = ap (λ n. row_of n line) (sym count) ∙ read in
     rw reads (added rows row d answer, is)
 
-pub row_refused : (rows : List Subscriber) (line : List ℕ) (number : ℕ) (row : Subscriber) (bad : Bad) (P : Type 0) → number ≡ length rows + 1 → row_of number line ≡ Ok row → MatchRow {A = DeviceId} (Err bad) (add_answer rows row) → Takes (Err bad) (row_reason rows (row_of (length rows + 1) line)) P
+pub row_refused : (rows : List Subscriber) (line : List ℕ) (number : ℕ) (row : Subscriber) (bad : Bad) (P : Type 0) → number ≡ length rows + 1 → row_of number line ≡ Ok row → MatchRow {A = DeviceId} (Err bad) (add_answer rows row) → Takes (Err bad) (row_reason rows (row_of (length rows + 1) line)) true P
 row_refused rows line number row (Refused refusal) P count read answer =
     let reads : row_of (length rows + 1) line ≡ Ok row = ap (λ n. row_of n line) (sym count) ∙ read in
     rw reads (refused rows row refusal.reason answer.0)
-row_refused rows line number row OutOfMemory P count read answer = tt
+row_refused rows line number row OutOfMemory P count read answer = refl

@@ -4,7 +4,7 @@ use Rattle.std.specs.Prelude.{if◌then◌else◌}
 use Rattle.std.specs.Fmt.{decimal}
 use Rattle.std.proofs.lemmas.Bool.Decides.{nat_tests}
 use Rattle.std.proofs.lemmas.Option.{same_Some}
-use Rattle.case_form.specs.Number.{IsWithin}
+use Rattle.device_types.specs.Numbers.{IsWithin}
 use Rattle.case_form.specs.Trace.{text_in, sent_in, sent_of, IsSent}
 use Rattle.case_form.specs.Words.{number_in}
 use Rattle.case_form.proofs.ExactLaws.{IsExact, Next, Ends, next_exact, done_exact, value_exact, number_exact, whole_found, whole_only}

@@ -1,5 +1,5 @@
 -- Case texts: the reason for which a line is refused, the first line that is, and what a text says where none is.
-use Rattle.std.specs.Prelude.{◌≡◌, ℕ, ◌+◌, ◌-◌, ◌^◌, ◌==◌, min, nat_lt, nat_le, Bool, false, ◌||◌, List, [], ◌∷◌, ◌++◌, length, filter, slice_get, Option, Some, None, Result, Ok, Err, is_some, option_map, if◌then◌else◌}
+use Rattle.std.specs.Prelude.{◌≡◌, ℕ, ◌+◌, ◌-◌, ◌^◌, ◌<◌, ◌≤◌, ◌==◌, min, nat_lt, nat_le, Bool, false, ◌||◌, List, [], ◌∷◌, ◌++◌, length, filter, slice_get, Option, Some, None, Result, Ok, Err, is_some, option_map, if◌then◌else◌}
 use Rattle.std.specs.Option.{option_map_or}
 use Rattle.std.specs.Result.{result_ok}
 use Rattle.std.specs.List.{list_any, filter_map}
@@ -132,6 +132,15 @@ pub record IsCase (octets : List ℕ) (case : Case) : Type 0 where
   pub table : case.table ≡ rows_of (lines_of octets)
   pub trace : case.trace.items ≡ trace_of (lines_of octets)
   pub schedule : case.schedule.items ≡ schedule_of (lines_of octets)
+
+-- a line of the text is counted in a section
+abbrev pub HasCounted : List ℕ → Type 0
+HasCounted octets = (section : Section) × (0 < length (counted section (lines_of octets)))
+
+-- a refused line has a number from 1
+abbrev pub IsNumbered : CaseBad → Type 0
+IsNumbered (answer.Refused reason line) = 1 ≤ line
+IsNumbered answer.OutOfMemory = Unit {0}
 
 -- a case comes where no line is bad, and a refusal is that of the first bad line
 abbrev pub MatchFirstBad : Result Case CaseBad → Option (ℕ × Reason) → Type 0

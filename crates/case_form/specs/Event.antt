@@ -7,9 +7,9 @@ use Rattle.device_types.specs.declared.event.Lane.TheVariants as lane
 use Rattle.device_types.specs.declared.event.Event.{Event}
 use Rattle.device_types.specs.declared.event.Event.TheVariants as event
 use Rattle.device_types.specs.declared.subscriber.DeviceId.{DeviceId}
+use Rattle.device_types.specs.Event.{IsInForm}
 use Rattle.case_form.specs.declared.event.Verb.{Verb}
 use Rattle.case_form.specs.declared.event.Verb.TheVariants.{Send, Take, Answer, Read, Write, Stop, Reply, Push, Effect, Settle}
-use Rattle.case_form.specs.Number.{IsWithin}
 use Rattle.case_form.specs.Words.{Reader, ◌>>=◌, done, word_in, number_in, whole, words_of}
 
 -- the verbs
@@ -145,25 +145,6 @@ event_words (event.Reply d n) = codes "reply" ∷ decimal d.0 ∷ decimal n ∷ 
 event_words (event.Push d lane k) = codes "push" ∷ decimal d.0 ∷ lane_word lane ∷ decimal k ∷ []
 event_words (event.Effect d lane k) = codes "effect" ∷ decimal d.0 ∷ lane_word lane ∷ decimal k ∷ []
 event_words (event.Settle d lane k) = codes "settle" ∷ decimal d.0 ∷ lane_word lane ∷ decimal k ∷ []
-
--- a lane of calls
-abbrev pub IsCallLane : Lane → Type 0
-IsCallLane lane.Down = ⊥
-IsCallLane lane.Gateway = Unit {0}
-IsCallLane lane.Subscriber = Unit {0}
-
--- the numbers of an event are in their limits, where there are so many rows, and an answer is that to a call
-abbrev pub IsInForm : ℕ → Event → Type 0
-IsInForm rows (event.Send d n) = IsWithin rows d.0 × IsWithin 4294967295 n
-IsInForm rows (event.Take r d n) = IsWithin 16 r × IsWithin rows d.0 × IsWithin 4294967295 n
-IsInForm rows (event.Answer r d lane k) = IsWithin 16 r × IsWithin rows d.0 × IsCallLane lane × IsWithin 4294967295 k
-IsInForm rows (event.Read r) = IsWithin 16 r
-IsInForm rows (event.Write r) = IsWithin 16 r
-IsInForm rows (event.Stop r) = IsWithin 16 r
-IsInForm rows (event.Reply d n) = IsWithin rows d.0 × IsWithin 4294967295 n
-IsInForm rows (event.Push d lane k) = IsWithin rows d.0 × IsWithin 4294967295 k
-IsInForm rows (event.Effect d lane k) = IsWithin rows d.0 × IsWithin 4294967295 k
-IsInForm rows (event.Settle d lane k) = IsWithin rows d.0 × IsWithin 4294967295 k
 
 -- a line has the words of an event in form
 abbrev pub IsEvent : ℕ → Event → List ℕ → Type 0

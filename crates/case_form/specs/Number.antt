@@ -1,5 +1,5 @@
 -- Numbers in decimal.
-use Rattle.std.specs.Prelude.{ℕ, ◌≤◌, ◌==◌, nat_le, Bool, not, ◌&&◌, ◌||◌, List, length, slice_index, Option, Some, None, if◌then◌else◌}
+use Rattle.std.specs.Prelude.{ℕ, ◌==◌, nat_le, Bool, not, ◌&&◌, ◌||◌, List, length, slice_index, Option, Some, None, if◌then◌else◌}
 use Rattle.std.specs.List.{list_all}
 use Rattle.std.specs.Char.{is_ascii_digit}
 use Rattle.std.specs.Str.Parse.{digits_value}
@@ -11,7 +11,3 @@ is_numeral word = not (length word == 0 || slice_index word 0 == 48) && list_all
 -- the number from 1 to the most that a word is in decimal, with no sign and no leading zero
 unfoldable pub number_of : ℕ → List ℕ → Option ℕ
 number_of most word = if is_numeral word && nat_le (digits_value 10 word) most then Some (digits_value 10 word) else None
-
--- from 1 to the most
-abbrev pub IsWithin : ℕ → ℕ → Type 0
-IsWithin most n = (1 ≤ n) × (n ≤ most)

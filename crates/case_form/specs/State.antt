@@ -1,5 +1,5 @@
 -- What reading keeps of the lines that it has read.
-use Rattle.std.specs.Prelude.{◌≡◌, ℕ, ◌+◌, ◌-◌, ◌^◌, min, nat_lt, nat_le, Bool, false, List, [], ◌++◌, length, Option, Some, None, Result, Ok, Err, is_some, option_map, if◌then◌else◌}
+use Rattle.std.specs.Prelude.{◌≡◌, ℕ, ◌+◌, ◌-◌, ◌^◌, min, nat_lt, nat_le, Bool, true, false, List, [], ◌++◌, length, Option, Some, None, Result, Ok, Err, is_some, option_map, if◌then◌else◌}
 use Rattle.std.specs.Option.{option_to_list}
 use Rattle.std.specs.Result.{result_ok}
 use Rattle.echo_base.specs.declared.reason.Reason.{Reason}
@@ -84,14 +84,18 @@ after seen line =
     else if is_heading line then record seen { section = heading_of line }
     else own_after seen.section seen line
 
--- P, and no reason to refuse, or the reason, or no memory
-abbrev pub Takes : Result (Unit {0}) Bad → Option Reason → Type 0 → Type 0
-Takes (Ok v) reason P = (reason ≡ None) × P
-Takes (Err (bad.Refused refusal)) reason P = reason ≡ Some refusal.reason
-Takes (Err bad.OutOfMemory) reason P = Unit {0}
+-- the line is counted in the section that was seen
+unfoldable pub counts_in : Option Section → List ℕ → Bool
+counts_in section line = if is_passed_over line then false else if is_heading line then false else is_some section
+
+-- P, and no reason to refuse, or the reason, or no memory, which is taken only where takes_memory says so
+abbrev pub Takes : Result (Unit {0}) Bad → Option Reason → Bool → Type 0 → Type 0
+Takes (Ok v) reason takes_memory P = (reason ≡ None) × P
+Takes (Err (bad.Refused refusal)) reason takes_memory P = reason ≡ Some refusal.reason
+Takes (Err bad.OutOfMemory) reason takes_memory P = takes_memory ≡ true
 
 -- the same of a line of that number
-abbrev pub TakesLine : Result (Unit {0}) CaseBad → Option Reason → ℕ → Type 0 → Type 0
-TakesLine (Ok v) reason number P = (reason ≡ None) × P
-TakesLine (Err (case.Refused why line)) reason number P = (reason ≡ Some why) × (line ≡ number)
-TakesLine (Err case.OutOfMemory) reason number P = Unit {0}
+abbrev pub TakesLine : Result (Unit {0}) CaseBad → Option Reason → Bool → ℕ → Type 0 → Type 0
+TakesLine (Ok v) reason takes_memory number P = (reason ≡ None) × P
+TakesLine (Err (case.Refused why line)) reason takes_memory number P = (reason ≡ Some why) × (line ≡ number)
+TakesLine (Err case.OutOfMemory) reason takes_memory number P = takes_memory ≡ true

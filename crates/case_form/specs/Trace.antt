@@ -1,7 +1,7 @@
 -- The lines of a trace: a base station, and a PDU as hexadecimal text.
 use Rattle.std.specs.Prelude.{◌≡◌, ℕ, ◌<◌, ◌==◌, List, [], ◌∷◌, length, Option, Some, None, if◌then◌else◌}
 use Rattle.std.specs.Fmt.{decimal}
-use Rattle.case_form.specs.Number.{IsWithin}
+use Rattle.device_types.specs.Numbers.{IsWithin}
 use Rattle.case_form.specs.Words.{Reader, ◌>>=◌, done, word_in, number_in, whole, words_of}
 
 -- the next word, which is not empty

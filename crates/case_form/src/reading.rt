@@ -1,12 +1,16 @@
 //! Reading a case text, line by line.
 
-ghost use Rattle.std.specs.Prelude.{◌≡◌, ◌+◌, ◌≤◌, length, is_some, All, IfOk};
+ghost use Rattle.std.specs.Prelude.{◌≡◌, ◌+◌, ◌≤◌, length, is_some, true, false, All, Err, IfOk, IfErr};
 ghost use Rattle.echo_base.specs.declared.refusal.Bad.TheVariants.{Refused};
+ghost use Rattle.device_types.specs.Event.{IsInForm};
+ghost use Rattle.device_types.specs.Numbers.{IsWithin};
 ghost use Rattle.subs_table.specs.Row.{row_of};
-ghost use Rattle.case_form.specs.Case.{row_reason, form_reason, most_lines, first_bad, MatchFirstBad, IsCase};
-ghost use Rattle.case_form.specs.Event.{event_of, IsInForm};
+ghost use Rattle.subs_table.specs.Table.{IsTable};
+ghost use Rattle.case_form.specs.declared.case.CaseBad.TheVariants.{OutOfMemory};
+ghost use Rattle.case_form.specs.Case.{row_reason, form_reason, most_lines, first_bad, MatchFirstBad, IsCase, IsNumbered, HasCounted};
+ghost use Rattle.case_form.specs.Event.{event_of};
 ghost use Rattle.case_form.specs.Section.{heading_of};
-ghost use Rattle.case_form.specs.State.{Takes, TakesLine, seen_of, unread, next, next_heading_reason, reason_in, rows_after, trace_after, schedule_after, after};
+ghost use Rattle.case_form.specs.State.{Takes, TakesLine, counts_in, seen_of, unread, next, next_heading_reason, reason_in, rows_after, trace_after, schedule_after, after};
 ghost use Rattle.case_form.specs.Trace.{sent_of};
 
 use crate::case::{Case, CaseBad, TraceLine};
@@ -34,7 +38,7 @@ fn refused(reason: Reason) -> Bad
 
 /// Goes on to the section of a heading, which has to come later than the section before.
 fn take_heading(section: &mut Option<Section>, line: &[u8]) -> Result<(), Bad>
-    ensures { Takes result (next_heading_reason section.old (heading_of line.now))
+    ensures { Takes result (next_heading_reason section.old (heading_of line.now)) false
         (section.new ≡ heading_of line.now) }
 {
     let Some(heading) = heading_of(line) else {
@@ -50,7 +54,7 @@ fn take_heading(section: &mut Option<Section>, line: &[u8]) -> Result<(), Bad>
 /// Adds the row of a line to the table.
 #[tactic(auto, unfolding(crate::specs::State::rows_after))]
 fn take_row(alloc: Global, table: &mut SubsTable, line: &[u8]) -> Result<(), Bad>
-    ensures { Takes result (row_reason table.old (row_of (length table.old + 1) line.now))
+    ensures { Takes result (row_reason table.old (row_of (length table.old + 1) line.now)) true
         (table.new ≡ rows_after table.old line.now) }
 {
     let row = read_row(alloc, line, table.len() + 1)?;
@@ -66,7 +70,7 @@ fn take_trace_line(
     number: u32,
     line: &[u8],
 ) -> Result<(), Bad>
-    ensures { Takes result (form_reason (length trace.old.items) (is_some (sent_of line.now)))
+    ensures { Takes result (form_reason (length trace.old.items) (is_some (sent_of line.now))) true
         (trace.new.items ≡ trace_after number trace.old.items line.now) }
 {
     if trace.len() >= MOST_LINES {
@@ -87,7 +91,7 @@ fn take_trace_line(
 /// Adds the event of a line to the schedule, where there are so many rows.
 #[tactic(auto, unfolding(crate::specs::State::schedule_after))]
 fn take_event(schedule: &mut Vec<Event>, rows: u32, line: &[u8]) -> Result<(), Bad>
-    ensures { Takes result (form_reason (length schedule.old.items) (is_some (event_of rows line.now)))
+    ensures { Takes result (form_reason (length schedule.old.items) (is_some (event_of rows line.now))) true
         (schedule.new.items ≡ schedule_after rows schedule.old.items line.now) }
 {
     if schedule.len() >= MOST_LINES {
@@ -129,9 +133,9 @@ fn begin(alloc: Global) -> Reading
 }
 
 /// Takes a line, of the number that is set.
-#[tactic(auto, unfolding(crate::specs::State::reason_in, crate::specs::State::after))]
+#[tactic(auto, unfolding(crate::specs::State::reason_in, crate::specs::State::counts_in, crate::specs::State::after))]
 fn take(reading: &mut Reading, line: &[u8]) -> Result<(), Bad>
-    ensures { Takes result (reason_in (seen_of reading.old) line.now)
+    ensures { Takes result (reason_in (seen_of reading.old) line.now) (counts_in reading.old.section line.now)
         (seen_of reading.new ≡ after (seen_of reading.old) line.now) }
 {
     if line.len() > MOST_OCTETS {
@@ -159,7 +163,8 @@ fn take(reading: &mut Reading, line: &[u8]) -> Result<(), Bad>
 /// Takes the next line.
 fn take_next(reading: &mut Reading, line: &[u8]) -> Result<(), CaseBad>
     ensures { let seen = next (seen_of reading.old) in
-        TakesLine result (reason_in seen line.now) seen.number (seen_of reading.new ≡ after seen line.now) }
+        TakesLine result (reason_in seen line.now) (counts_in seen.section line.now) seen.number
+        (seen_of reading.new ≡ after seen line.now) }
 {
     let number = reading.number.saturating_add(1);
     reading.number = number;
@@ -186,14 +191,17 @@ fn take_next(reading: &mut Reading, line: &[u8]) -> Result<(), CaseBad>
 /// A line is refused as LineTooLong where it has more than 8,192 octets; as BadSection where it is another heading, where
 /// that heading or a later one stands before it, or where it is no heading and none stands before it; as TooManyLines
 /// where 100,000 lines of its trace or schedule stand before it; for what reading or adding its row refuses; or as BadLine
-/// where it has another form. Line numbers begin with 1; those above 4,294,967,295 count as that number.
+/// where it has another form. Line numbers begin with 1; those above 4,294,967,295 count as that number. Only lines of a
+/// section take memory.
 #[tactic(auto, unfolding(crate::specs::Case::first_bad))]
 pub fn read_case(alloc: Global, bytes: &[u8]) -> Result<Case, CaseBad>
-    // Nothing is said of when memory is wanted.
     ensures first_bad { MatchFirstBad result (first_bad bytes.now) }
     ensures case { IfOk result (IsCase bytes.now) }
+    ensures numbers { IfErr result IsNumbered }
+    ensures memory { result ≡ Err OutOfMemory → HasCounted bytes.now }
 
-    ensures stations { IfOk result (λ case. All (λ line. 1 ≤ line.station) case.trace.items) }
+    ensures table { IfOk result (λ case. IsTable case.table) }
+    ensures stations { IfOk result (λ case. All (λ line. IsWithin 65535 line.station) case.trace.items) }
     ensures events { IfOk result (λ case. All (IsInForm (length case.table)) case.schedule.items) }
     ensures trace_most { IfOk result (λ case. length case.trace.items ≤ most_lines) }
     ensures schedule_most { IfOk result (λ case. length case.schedule.items ≤ most_lines) }
@@ -203,5 +211,6 @@ pub fn read_case(alloc: Global, bytes: &[u8]) -> Result<Case, CaseBad>
         take_next(&mut reading, line)?;
     }
     let Reading { case, .. } = reading;
+    let _rows = case.table.rows();
     Ok(case)
 }

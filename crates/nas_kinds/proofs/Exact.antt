@@ -1,5 +1,5 @@
 -- Each reading of a message is exact.
-use Rattle.std.proofs.Common.{◌⊎◌, ◌≡◌, ℕ, cond, eqb, List, [], ◌∷◌, Option, Some, None, Result, Ok, Err, refl, sym, ap, ◌∙◌, subst, inl, inr, arith}
+use Rattle.std.proofs.Common.{◌⊎◌, ◌≡◌, ◌↔◌, ℕ, cond, eqb, List, [], ◌∷◌, Option, Some, None, Result, Ok, Err, refl, sym, ap, ◌∙◌, subst, inl, inr, arith}
 use Rattle.std.proofs.lemmas.Bool.{cases_Bool, eqb-true, eqb-false}
 use Rattle.echo_base.specs.declared.reason.Reason.{Reason}
 use Rattle.echo_base.specs.declared.reason.Reason.TheVariants as reasons
@@ -13,8 +13,8 @@ use Rattle.nas_kinds.specs.declared.nas_in.NasIn.{NasIn}
 use Rattle.nas_kinds.specs.Field.{octet_in, counted_in, long_counted_in}
 use Rattle.nas_kinds.specs.Identity.{IsIdentity}
 use Rattle.nas_kinds.specs.Kinds.{identity_in, capability_in, container_in, message_type, kind_in, fields_in, message_in, IsHeader, header_in, security_in, behind_in, nas_in, NasSpells, NasRefuses}
-use Rattle.nas_kinds.specs.Memory.{GivesIn, Reads, IsUnlessNoMemory}
-use Rattle.nas_kinds.specs.Reading.{Read, identity_of, algorithms_of, pti_of, kind_of, header_of, identity_at, capability_at, container_at, attach_request_at, attach_complete_at, detach_request_at, area_request_at, auth_response_at, security_reject_at, kind_at, fields_at, message_at, header_at, security_at, protected_at, service_at, behind_at, nas_at}
+use Rattle.nas_kinds.specs.Memory.{GivesIn, IsAnswer, Reads, IsUnlessNoMemory}
+use Rattle.nas_kinds.specs.Reading.{Read, identity_of, algorithms_of, pti_of, kind_of, header_of, identity_at, capability_at, container_at, attach_request_at, attach_complete_at, detach_request_at, area_request_at, auth_response_at, security_reject_at, kind_at, fields_at, message_at, header_at, security_at, protected_at, service_at, behind_at, nas_at, message_of, nas_of}
 use Rattle.nas_kinds.proofs.Fields.{IsExactly, Decides, ok_err, ok_is, err_is, none_some, some_is, just_exactly, behind, meaning_exactly, octet_exactly, octets_exactly, counted_exactly, long_counted_exactly}
 use Rattle.nas_kinds.proofs.Identities.{if_some, identity_decides}
 
@@ -193,3 +193,32 @@ either_by octets (Err reason) h = inr (reason, nas_exactly.wrong octets reason h
 
 pub either : (octets : List ℕ) → ((message : NasIn) × NasSpells octets message) ⊎ ((reason : Reason) × NasRefuses octets reason)
 either octets = either_by octets (nas_at octets) refl
+
+-- ---- the reading of whole messages
+
+-- memory that ran out, or what was read
+pub gives_answer : (result : Result NasIn Bad) (octets rest : List ℕ) → GivesIn result rest (nas_at octets) → IsAnswer result (nas_of octets)
+unfolding nas_of
+gives_answer (Ok message) octets rest h = rw h refl
+gives_answer (Err (Refused e)) octets rest h = (rw h.0 refl, h.1)
+gives_answer (Err OutOfMemory) octets rest h = (h.0, rw h.2 refl)
+
+message_read : (read : Read NasIn) (message : NasIn) → message_of read ≡ Ok message → (rest : List ℕ) × (read ≡ Ok (message, rest))
+message_read (Ok x) message h = (x.1, ap (λ (m : NasIn). let read : Read NasIn = Ok (m, x.1) in read) (ok_is x.0 message h))
+message_read (Err reason) message h = absurd cc
+
+reason_read : (read : Read NasIn) (reason : Reason) → message_of read ≡ Err reason → read ≡ Err reason
+reason_read (Ok x) reason h = absurd cc
+reason_read (Err other) reason h = cc
+
+pub message_exact : (octets : List ℕ) (message : NasIn) → (nas_of octets ≡ Ok message) ↔ NasSpells octets message
+unfolding nas_of
+message_exact octets message = (
+  λ h. (let read = message_read (nas_at octets) message h in (read.0, nas_exactly.found octets message read.0 read.1)),
+  λ s. ap message_of (nas_exactly.only octets message s.0 s.1),
+)
+
+pub reason_exact : (octets : List ℕ) (reason : Reason) → (nas_of octets ≡ Err reason) ↔ NasRefuses octets reason
+unfolding nas_of
+reason_exact octets reason =
+    (λ h. nas_exactly.wrong octets reason (reason_read (nas_at octets) reason h), λ r. ap message_of (nas_exactly.refused octets reason r))

@@ -3,7 +3,8 @@ use Rattle.std.proofs.Common.{◌≤◌, length, arith}
 use Rattle.std.proofs.lemmas.List.{length-append}
 use Rattle.device_types.specs.declared.nas_out.NasOut.{NasOut}
 use Rattle.device_types.specs.declared.nas_out.NasOut.TheVariants.{AuthRequest, AuthReject, SecurityCommand, AttachAccept, AttachReject, ServiceReject, AreaReject, AreaAccept, DetachAccept}
-use Rattle.nas_kinds.specs.Written.{IsNasOut, nas_written}
+use Rattle.device_types.specs.Nas.{IsNasOut}
+use Rattle.nas_kinds.specs.Written.{nas_written}
 
 -- an ATTACH ACCEPT with an access point name of 30 octets is the longest
 pub length_written : (message : NasOut) → IsNasOut message → length (nas_written message) ≤ 56

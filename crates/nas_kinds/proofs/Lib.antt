@@ -3,3 +3,4 @@ pub mod Fields
 pub mod Identities
 pub mod Exact
 pub mod Lengths
+pub mod Types

@@ -1,5 +1,5 @@
 -- The messages of a device (TS 24.301, 8.2): their first octets, and their mandatory fields in order.
-use Rattle.std.specs.Prelude.{◌≡◌, ℕ, ◌/◌, ◌%◌, ◌≤◌, ◌==◌, List, ◌∷◌}
+use Rattle.std.specs.Prelude.{◌≡◌, ℕ, ◌/◌, ◌%◌, ◌≤◌, ◌==◌, List, ◌∷◌, Some, slice_get}
 use Rattle.echo_base.specs.declared.reason.Reason.{Reason}
 use Rattle.echo_base.specs.declared.reason.Reason.TheVariants as reasons
 use Rattle.echo_base.specs.declared.reason.Identity.{Identity}
@@ -37,6 +37,17 @@ message_type kinds.AreaRequest = 0x48
 message_type kinds.AuthResponse = 0x53
 message_type kinds.SecurityComplete = 0x5e
 message_type kinds.SecurityReject = 0x5f
+
+-- the message type of a message; a SERVICE REQUEST has none, and its first octet (9.2, 9.3.1) stands for it
+abbrev pub type_of : NasIn → ℕ
+type_of (AttachRequest identity eea eia pti) = message_type kinds.AttachRequest
+type_of AttachComplete = message_type kinds.AttachComplete
+type_of (DetachRequest off identity) = message_type kinds.DetachRequest
+type_of (AreaRequest identity) = message_type kinds.AreaRequest
+type_of (AuthResponse res) = message_type kinds.AuthResponse
+type_of SecurityComplete = message_type kinds.SecurityComplete
+type_of (SecurityReject cause) = message_type kinds.SecurityReject
+type_of ServiceRequest = 0xc7
 
 -- an octet that is none of these is refused as NasKind
 unfoldable pub kind_in : Field Kind
@@ -98,6 +109,17 @@ security_in = do
   code ← octets_in 4
   number ← octet_in
   meaning (λ octet nothing. IsHeader octet Plain) (λ octet. reasons.NasDiscriminator) octet_in
+
+-- where the message type stands: behind the first octet, or behind what is in front of it in a protected message; that of a
+-- SERVICE REQUEST is its first octet
+abbrev pub type_place : Header → ℕ
+type_place Plain = 1
+type_place Protected = 7
+type_place Service = 0
+
+-- the message type stands in its place behind a header
+abbrev pub HasType : List ℕ → ℕ → Header → Type 0
+HasType octets type header = (first : ℕ) × (slice_get octets 0 ≡ Some first) × IsHeader first header × (slice_get octets (type_place header) ≡ Some type)
 
 -- what is behind the first octet
 unfoldable pub behind_in : Header → Field NasIn

@@ -1,5 +1,6 @@
 -- What a reader of messages gave, where memory may run out.
 use Rattle.std.specs.Prelude.{◌≡◌, ℕ, List, Result, Ok, Err}
+use Rattle.echo_base.specs.declared.reason.Reason.{Reason}
 use Rattle.echo_base.specs.declared.refusal.Bad.{Bad}
 use Rattle.echo_base.specs.declared.refusal.Bad.TheVariants.{Refused, OutOfMemory}
 use Rattle.nas_kinds.specs.declared.nas_in.NasIn.{NasIn}
@@ -12,6 +13,12 @@ abbrev pub GivesIn : Result NasIn Bad → List ℕ → Read NasIn → Type 0
 GivesIn (Ok message) new read = read ≡ Ok (message, new)
 GivesIn (Err (Refused e)) new read = (read ≡ Err e.reason) × (e.place ≡ 0)
 GivesIn (Err OutOfMemory) new read = (res : List ℕ) × (rest : List ℕ) × (read ≡ Ok (AuthResponse res, rest))
+
+-- the message, or the reason, with place 0; memory runs out only for a response
+abbrev pub IsAnswer : Result NasIn Bad → Result NasIn Reason → Type 0
+IsAnswer (Ok message) wanted = wanted ≡ Ok message
+IsAnswer (Err (Refused e)) wanted = (wanted ≡ Err e.reason) × (e.place ≡ 0)
+IsAnswer (Err OutOfMemory) wanted = (res : List ℕ) × (wanted ≡ Ok (AuthResponse res))
 
 -- a message that the octets spell, or the reason that is due, with no place; memory runs out only for a response
 abbrev pub Reads : List ℕ → Result NasIn Bad → Type 0

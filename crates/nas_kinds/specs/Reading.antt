@@ -226,3 +226,11 @@ behind_at Service = service_at
 
 unfoldable pub nas_at : Reader NasIn
 nas_at = header_at >>= behind_at
+
+abbrev pub message_of : Read NasIn → Result NasIn Reason
+message_of (Ok x) = Ok x.0
+message_of (Err reason) = Err reason
+
+-- the message that octets begin with, or the reason for which they are refused
+unfoldable pub nas_of : List ℕ → Result NasIn Reason
+nas_of octets = message_of (nas_at octets)

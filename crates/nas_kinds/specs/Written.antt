@@ -1,20 +1,8 @@
 -- The messages of the network (TS 24.301, 8.2), octet for octet.
-use Rattle.std.specs.Prelude.{◌≡◌, ℕ, ◌^◌, ◌<◌, ◌≤◌, List, [], ◌∷◌, ◌++◌, length}
+use Rattle.std.specs.Prelude.{ℕ, List, [], ◌∷◌, ◌++◌, length}
 use Rattle.std.specs.Int.{w16, w32, to_be_bytes, bytes_high_first}
 use Rattle.device_types.specs.declared.nas_out.NasOut.{NasOut}
 use Rattle.device_types.specs.declared.nas_out.NasOut.TheVariants.{AuthRequest, AuthReject, SecurityCommand, AttachAccept, AttachReject, ServiceReject, AreaReject, AreaAccept, DetachAccept}
-
--- what a message has to meet: RAND and AUTN of 16 octets, a PLMN identity of three, an access point name of 1 to 30
-abbrev pub IsNasOut : NasOut → Type 0
-IsNasOut (AuthRequest rand autn) = (length rand ≡ 16) × (length autn ≡ 16)
-IsNasOut AuthReject = Unit {0}
-IsNasOut (SecurityCommand eea eia) = Unit {0}
-IsNasOut (AttachAccept plmn tac pti apn ip) = (plmn < 2 ^ 24) × (1 ≤ length apn) × (length apn ≤ 30)
-IsNasOut (AttachReject cause) = Unit {0}
-IsNasOut (ServiceReject cause) = Unit {0}
-IsNasOut (AreaReject cause) = Unit {0}
-IsNasOut AreaAccept = Unit {0}
-IsNasOut DetachAccept = Unit {0}
 
 -- octets behind their count in one octet (TS 24.007, 11.2.1.1: LV), and in two (LV-E)
 abbrev pub counted : List ℕ → List ℕ

@@ -14,7 +14,7 @@ mod writing;
 #[cfg(test)]
 mod writing_tests;
 
-pub use laws::one_answer;
+pub use laws::{one_answer, readings_are_exact, types_stand_in_place};
 pub use nas_in::NasIn;
 pub use reading::read_nas;
 pub use writing::write_nas;

@@ -1,5 +1,8 @@
 //! The NAS messages that are read.
 
+ghost use Rattle.std.specs.Prelude.{◌≡◌};
+ghost use Rattle.nas_kinds.specs.Kinds.{type_of};
+
 use device_types::Octets;
 use echo_base::Identity;
 
@@ -28,7 +31,7 @@ pub enum NasIn {
     },
     /// TRACKING AREA UPDATE REQUEST (8.2.29).
     AreaRequest {
-        /// The old GUTI (9.9.3.12).
+        /// The EPS mobile identity (9.9.3.12): the old GUTI, or an IMSI.
         identity: Identity,
     },
     /// AUTHENTICATION RESPONSE (8.2.8).
@@ -45,4 +48,22 @@ pub enum NasIn {
     },
     /// SERVICE REQUEST (8.2.25).
     ServiceRequest,
+}
+
+impl NasIn {
+    /// The octet of the message type (9.8). A SERVICE REQUEST has none: of it, the first octet.
+    pub fn message_type(&self) -> u8
+        ensures { result ≡ type_of self.now }
+    {
+        match self {
+            NasIn::AttachRequest { .. } => 0x41,
+            NasIn::AttachComplete => 0x43,
+            NasIn::DetachRequest { .. } => 0x45,
+            NasIn::AreaRequest { .. } => 0x48,
+            NasIn::AuthResponse { .. } => 0x53,
+            NasIn::SecurityComplete => 0x5e,
+            NasIn::SecurityReject { .. } => 0x5f,
+            NasIn::ServiceRequest => 0xc7,
+        }
+    }
 }

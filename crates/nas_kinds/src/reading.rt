@@ -1,11 +1,11 @@
 //! Reading whole messages.
 
-ghost use Rattle.std.specs.Prelude.{◌≡◌, ℕ, List, Err};
+ghost use Rattle.std.specs.Prelude.{◌≡◌, Err};
 ghost use Rattle.echo_base.specs.declared.reason.Reason.{Reason};
 ghost use Rattle.echo_base.specs.declared.refusal.Bad.TheVariants.{Refused};
 ghost use Rattle.nas_kinds.specs.declared.nas_in.NasIn.{NasIn};
-ghost use Rattle.nas_kinds.specs.Reading.{Gives, identity_at, capability_at, container_at, attach_request_at, attach_complete_at, detach_request_at, area_request_at, security_reject_at, auth_response_at, kind_at, fields_at, message_at, security_at, behind_at, header_at, service_at, nas_at};
-ghost use Rattle.nas_kinds.specs.Memory.{GivesIn, Reads, IsUnlessNoMemory};
+ghost use Rattle.nas_kinds.specs.Reading.{Gives, identity_at, capability_at, container_at, attach_request_at, attach_complete_at, detach_request_at, area_request_at, security_reject_at, auth_response_at, kind_at, fields_at, message_at, security_at, behind_at, header_at, service_at, nas_at, nas_of};
+ghost use Rattle.nas_kinds.specs.Memory.{GivesIn, IsAnswer, Reads, IsUnlessNoMemory};
 ghost use Rattle.nas_kinds.specs.Kinds.{NasSpells, NasRefuses};
 
 use crate::identity::identity_of;
@@ -220,7 +220,7 @@ fn read_whole(alloc: Global, r: &mut NasReader) -> Result<NasIn, Bad>
 /// that is none of the table's; NasIdentity for an identity that is neither an IMSI of 15 digits nor a GUTI. Only RES takes
 /// memory.
 pub fn read_nas(alloc: Global, octets: &[u8]) -> Result<NasIn, Bad>
-    ensures reading { (rest : List ℕ) × GivesIn result rest (nas_at octets.now) }
+    ensures reading { IsAnswer result (nas_of octets.now) }
     ensures read { Reads octets.now result }
     ensures only { (message : NasIn) → NasSpells octets.now message → IsUnlessNoMemory result message }
     ensures refused { (reason : Reason) → NasRefuses octets.now reason

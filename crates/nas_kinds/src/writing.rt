@@ -2,7 +2,8 @@
 
 ghost use Rattle.std.specs.Prelude.{◌≡◌, ◌^◌, ◌<◌, ◌≤◌, ◌∷◌, ◌++◌, length, IfOk, OnOk};
 ghost use Rattle.std.specs.Int.{w32, to_be_bytes};
-ghost use Rattle.nas_kinds.specs.Written.{IsNasOut, counted, long_counted, area, activate_request, nas_written};
+ghost use Rattle.device_types.specs.Nas.{IsNasOut};
+ghost use Rattle.nas_kinds.specs.Written.{counted, long_counted, area, activate_request, nas_written};
 ghost use Rattle.device_types.specs.declared.nas_out.NasOut.TheVariants.{AuthRequest, AttachAccept};
 
 use device_types::{NasOut, Octets};

@@ -1,6 +1,6 @@
 //! Messages and their octets, worked out by hand from 3GPP TS 24.301.
 
-ghost use Rattle.nas_kinds.specs.Written.{IsNasOut};
+ghost use Rattle.device_types.specs.Nas.{IsNasOut};
 
 use crate::write_nas;
 use device_types::{NasOut, Octets};

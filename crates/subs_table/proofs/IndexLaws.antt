@@ -14,7 +14,7 @@ use Rattle.std.proofs.lemmas.Map.Keys.{IsDistinct-push}
 use Rattle.device_types.specs.declared.subscriber.Subscriber.{Subscriber}
 use Rattle.device_types.specs.declared.subscriber.DeviceId.{DeviceId}
 use Rattle.echo_base.specs.declared.reason.Reason.TheVariants.{RepeatedImsi, RepeatedTmsi, TableFull}
-use Rattle.subs_table.specs.Range.{IsInRange}
+use Rattle.device_types.specs.Subscriber.{IsSubscriber}
 use Rattle.subs_table.specs.Table.{IsTable, number_of, imsi_of, tmsi_of, device_of, device_by, has_key, add_refusal, most_rows}
 use Rattle.subs_table.specs.Index.{IsIndex, IsIndexed}
 use Rattle.subs_table.proofs.DeviceLaws.{at_first, at_other, nowhere, has_device}
@@ -36,14 +36,14 @@ none_from_test : {A : Type 0} (o : Option A) → is_some o ≡ false → o ≡ N
 none_from_test None e = refl
 none_from_test (Some x) e = cc
 
-is_at_is : (a b : ℕ) → is_at (nat_cmp a) b ≡ eqb a b
+pub is_at_is : (a b : ℕ) → is_at (nat_cmp a) b ≡ eqb a b
 is_at_is a b = grind (arith, nat_tests)
 
 -- ---- no rows
 
 no_table : IsTable []
 unfolding IsDistinct
-no_table = record { numbers = refl; most = omega arith; imsis = tt; tmsis = tt; ranges = All-nil IsInRange }
+no_table = record { numbers = refl; most = omega arith; imsis = tt; tmsis = tt; ranges = All-nil IsSubscriber }
 
 no_index : (key : Subscriber → ℕ) (m : BTreeMap ℕ DeviceId) → m.entries ≡ [] → IsIndex key [] m
 unfolding device_by
@@ -92,13 +92,13 @@ more_keys : (key : Subscriber → ℕ) (rows : List Subscriber) (row : Subscribe
 more_keys key rows row distinct new =
     rw (map-append key rows (row ∷ [])) (IsDistinct-push nat_eq_equiv (map key rows) (key row) distinct (not_among key rows (key row) new))
 
-more_rows : (rows : List Subscriber) (row : Subscriber) → IsTable rows → row.number ≡ length rows + 1 → IsInRange row → IsNew rows row → IsTable (rows ++ row ∷ [])
+more_rows : (rows : List Subscriber) (row : Subscriber) → IsTable rows → row.number ≡ length rows + 1 → IsSubscriber row → IsNew rows row → IsTable (rows ++ row ∷ [])
 more_rows rows row table number ranges new = record {
   numbers = more_numbers 1 rows row table.numbers (omega (arith, number));
   most = omega (arith, length-append rows (row ∷ []), new.room);
   imsis = more_keys imsi_of rows row table.imsis new.imsi;
   tmsis = more_keys tmsi_of rows row table.tmsis new.tmsi;
-  ranges = All-push IsInRange rows row table.ranges ranges;
+  ranges = All-push IsSubscriber rows row table.ranges ranges;
 }
 
 device_push : (key : Subscriber → ℕ) (rows : List Subscriber) (row : Subscriber) (k : ℕ) → device_by key (rows ++ row ∷ []) k ≡ option_or (device_by key rows k) (cond (eqb (key row) k) (Some (device_of row)) None)
@@ -158,7 +158,7 @@ back_indexed rows same row m n m' back n' indexed kept accepted insert remove un
       by_tmsi = same_index tmsi_of rows n n' indexed.by_tmsi unchanged;
     })
 
-pub more_indexed : (rows all : List Subscriber) (row : Subscriber) (m n m' n' : BTreeMap ℕ DeviceId) → IsIndexed rows m n → all ≡ rows ++ row ∷ [] → row.number ≡ length rows + 1 → IsInRange row → add_refusal rows row ≡ None
+pub more_indexed : (rows all : List Subscriber) (row : Subscriber) (m n m' n' : BTreeMap ℕ DeviceId) → IsIndexed rows m n → all ≡ rows ++ row ∷ [] → row.number ≡ length rows + 1 → IsSubscriber row → add_refusal rows row ≡ None
     → Updates nat_cmp m m' row.imsi (Some (device_of row)) → Updates nat_cmp n n' row.tmsi (Some (device_of row)) → IsIndexed all m' n'
 more_indexed rows all row m n m' n' indexed pushed number ranges accepted imsis tmsis =
     let new = is_new rows row accepted in

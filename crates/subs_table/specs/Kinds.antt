@@ -1,11 +1,12 @@
 -- What a column of the subscriber table may hold: the kinds of JSON values (RFC 8259), and the value that each stands for.
-use Rattle.std.specs.Prelude.{ℕ, ◌==◌, ◌&&◌, ◌||◌, nat_le, Bool, List, [], ◌∷◌, length, Option, Some, None, option_and_then, option_map, if◌then◌else◌}
+use Rattle.std.specs.Prelude.{ℕ, ◌==◌, ◌&&◌, nat_le, Bool, List, [], ◌∷◌, length, Option, Some, None, option_and_then, option_map, if◌then◌else◌}
 use Rattle.std.specs.Result.{result_ok}
 use Rattle.std.specs.List.{list_all}
-use Rattle.std.specs.Char.{is_ascii_digit, is_ascii_lowercase}
+use Rattle.std.specs.Char.{is_ascii_digit}
 use Rattle.std.specs.Str.Parse.{digits_value}
 use Rattle.std.specs.Int.{w32, from_be_bytes}
 use Rattle.hex.specs.Hex.{decode_of}
+use Rattle.device_types.specs.Subscriber.{is_letter_or_digit}
 use Rattle.serde_json.specs.Data.{Data, Items, no_items, item}
 use Rattle.serde_json.specs.Find.{as_str, as_number, as_u64, as_array}
 
@@ -49,10 +50,6 @@ hexadecimal low high d = option_and_then (octets_within low high) (as_str d)
 -- a text of eight hexadecimal digits, for the IPv4 address of those four octets, the first of them highest
 unfoldable pub address : Kind ℕ
 address d = option_map (from_be_bytes w32) (hexadecimal 4 4 d)
-
--- a to z and 0 to 9
-abbrev pub is_letter_or_digit : ℕ → Bool
-is_letter_or_digit c = is_ascii_lowercase c || is_ascii_digit c
 
 -- a text of low to high lower-case letters and digits
 unfoldable pub name : ℕ → ℕ → Kind (List ℕ)

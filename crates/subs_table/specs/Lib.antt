@@ -1,5 +1,5 @@
 pub mod Index
 pub mod Kinds
-pub mod Range
+pub mod Order
 pub mod Row
 pub mod Table

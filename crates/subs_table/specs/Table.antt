@@ -6,7 +6,7 @@ use Rattle.device_types.specs.declared.subscriber.Subscriber.{Subscriber}
 use Rattle.device_types.specs.declared.subscriber.DeviceId.{DeviceId}
 use Rattle.echo_base.specs.declared.reason.Reason.{Reason}
 use Rattle.echo_base.specs.declared.reason.Reason.TheVariants.{RepeatedImsi, RepeatedTmsi, TableFull}
-use Rattle.subs_table.specs.Range.{IsInRange}
+use Rattle.device_types.specs.Subscriber.{IsSubscriber}
 
 -- as many rows as a table may have
 abbrev pub most_rows : ℕ
@@ -27,7 +27,7 @@ pub record IsTable (rows : List Subscriber) : Type 0 where
   pub most : length rows ≤ most_rows
   pub imsis : IsDistinct nat_eq (map imsi_of rows)
   pub tmsis : IsDistinct nat_eq (map tmsi_of rows)
-  pub ranges : All IsInRange rows
+  pub ranges : All IsSubscriber rows
 
 -- the device of a row
 abbrev pub device_of : Subscriber → DeviceId

@@ -7,7 +7,9 @@ ghost use Rattle.echo_base.specs.declared.reason.Reason.TheVariants.{BadColumn};
 ghost use Rattle.hex.specs.declared.error.FromHexError.TheVariants.{OutOfMemory};
 ghost use Rattle.serde_json.specs.View.{view, items_view};
 ghost use Rattle.serde_json.specs.Find.{get, as_str};
-ghost use Rattle.subs_table.specs.Kinds.{is_letter_or_digit, whole, number_of, decimal, octets_of, octets_within, hexadecimal, address, name, wholes_of, wholes};
+ghost use Rattle.device_types.specs.Octets.{AreOctets};
+ghost use Rattle.device_types.specs.Subscriber.{is_letter_or_digit};
+ghost use Rattle.subs_table.specs.Kinds.{whole, number_of, decimal, octets_of, octets_within, hexadecimal, address, name, wholes_of, wholes};
 ghost use Rattle.subs_table.specs.Row.{Gives, MatchRow, columns, all_columns, key_of, column_at};
 
 use device_types::{Areas, Octets};
@@ -214,6 +216,7 @@ pub(crate) fn read_octets(
     ensures read { MatchRow result (column_at column (hexadecimal low high) (view row.now)) }
     ensures least { IfOk result (λ octets. low ≤ length octets) }
     ensures most { IfOk result (λ octets. length octets ≤ high) }
+    ensures octets { IfOk result AreOctets }
 {
     let Some(text) = text(row, column) else {
         return Err(bad(column).into());
@@ -224,7 +227,9 @@ pub(crate) fn read_octets(
     if octets.len() < low || high < octets.len() {
         return Err(bad(column).into());
     }
-    Ok(Octets::from(octets))
+    let octets = Octets::from(octets);
+    let _count = octets.octets().len();
+    Ok(octets)
 }
 
 /// The number of a text of eight hexadecimal digits, the first of them highest.

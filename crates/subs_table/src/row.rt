@@ -1,7 +1,7 @@
 //! The lines of the subscriber table.
 ghost use Rattle.std.specs.Prelude.{◌≡◌, IfOk};
 ghost use Rattle.serde_json.specs.View.{view};
-ghost use Rattle.subs_table.specs.Range.{IsInRange};
+ghost use Rattle.device_types.specs.Subscriber.{IsSubscriber};
 ghost use Rattle.subs_table.specs.Row.{MatchRow, MatchObject, object_of, subscriber_at, row_of};
 
 use crate::columns::{
@@ -37,7 +37,7 @@ fn read_object(alloc: Global, line: &[u8]) -> Result<Value, Bad>
 #[tactic(auto, unfolding(crate::specs::Row::subscriber_at))]
 fn read_columns(alloc: Global, row: &Value, number: u32) -> Result<Subscriber, Bad>
     ensures row { MatchRow result (subscriber_at number (view row.now)) }
-    ensures range { IfOk result IsInRange }
+    ensures range { IfOk result IsSubscriber }
     ensures numbered { IfOk result (λ row. row.number ≡ number) }
 {
     need_columns(row)?;
@@ -78,7 +78,7 @@ fn read_columns(alloc: Global, row: &Value, number: u32) -> Result<Subscriber, B
 #[tactic(auto, unfolding(crate::specs::Row::row_of))]
 pub fn read_row(alloc: Global, line: &[u8], number: u32) -> Result<Subscriber, Bad>
     ensures row { MatchRow result (row_of number line.now) }
-    ensures range { IfOk result IsInRange }
+    ensures range { IfOk result IsSubscriber }
     ensures numbered { IfOk result (λ row. row.number ≡ number) }
 {
     let row = read_object(alloc, line)?;

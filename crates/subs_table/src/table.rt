@@ -1,14 +1,16 @@
 //! The subscriber table.
-ghost use Rattle.std.specs.Prelude.{◌≡◌, ◌≢◌, ◌≤◌, ◌+◌, ◌-◌, ◌↔◌, [], ◌∷◌, ◌++◌, length, All, Some, None, IfSome, OnOk, OnErr, slice_get};
+ghost use Rattle.std.specs.Prelude.{◌≡◌, ◌≢◌, ◌≤◌, ◌+◌, ◌-◌, ◌↔◌, [], ◌∷◌, ◌++◌, length, map, All, Some, None, IfSome, IfOk, OnOk, OnErr, slice_get};
 ghost use Rattle.device_types.specs.declared.subscriber.DeviceId.{DeviceId};
-ghost use Rattle.subs_table.specs.Range.{IsInRange};
+ghost use Rattle.device_types.specs.Subscriber.{IsSubscriber};
+ghost use Rattle.std.specs.List.Sorted.{IsStrictlyIncreasing, IsPermutation};
+ghost use Rattle.subs_table.specs.Order.{devices_by_imsi, imsi_at};
 ghost use Rattle.subs_table.specs.Row.{MatchRow};
-ghost use Rattle.subs_table.specs.Table.{IsTable, imsi_of, tmsi_of, RowHas, device_by, add_refusal, add_answer};
+ghost use Rattle.subs_table.specs.Table.{IsTable, imsi_of, tmsi_of, device_of, RowHas, device_by, add_refusal, add_answer};
 
 use crate::columns::refused;
 use device_types::{DeviceId, Subscriber};
 use echo_base::{Bad, Reason};
-use std::alloc::Global;
+use std::alloc::{AllocError, Global};
 use std::collections::BTreeMap;
 use std::marker::Model;
 
@@ -72,7 +74,7 @@ impl SubsTable {
     #[tactic(auto, unfolding(crate::specs::Table::add_answer))]
     pub fn add(&mut self, row: Subscriber) -> Result<DeviceId, Bad>
         requires number { row.number ≡ length self.old + 1 }
-        requires ranges { IsInRange row }
+        requires ranges { IsSubscriber row }
         ensures answer { MatchRow result (add_answer self.old row) }
         ensures added { OnOk result (self.new ≡ self.old ++ row ∷ []) }
         ensures err { OnErr result (self.new ≡ self.old) }
@@ -100,13 +102,32 @@ impl SubsTable {
         self.rows.len() as u32
     }
 
+    /// The rows in the order of their numbers.
+    pub fn rows(&self) -> &[Subscriber]
+        ensures rows { result.now ≡ self.now }
+        ensures table { IsTable self.now }
+    {
+        let rows: &[Subscriber] = &self.rows;
+        rows
+    }
+
+    /// The devices in the order of their IMSIs, which takes time linear in the rows.
+    pub fn in_imsi_order(&self, alloc: Global) -> Result<Vec<DeviceId>, AllocError>
+        ensures devices { IfOk result (λ devices. devices.items ≡ devices_by_imsi self.now) }
+        ensures increasing { IfOk result (λ devices. IsStrictlyIncreasing (map (imsi_at self.now) devices.items)) }
+        ensures each_once { IfOk result (λ devices. IsPermutation (map device_of self.now) devices.items) }
+        ensures within { IfOk result (λ devices. All (λ d. (1 ≤ d.0) × (d.0 ≤ length self.now)) devices.items) }
+    {
+        self.imsis.values().copied().collect(alloc)
+    }
+
     /// The row of a device.
     pub fn row(&self, d: DeviceId) -> &Subscriber
         requires least { 1 ≤ d.0 }
         requires most { d.0 ≤ length self.now }
         ensures row { slice_get self.now (d.0 - 1) ≡ Some result.now }
         ensures number { result.now.number ≡ d.0 }
-        ensures range { IsInRange result.now }
+        ensures range { IsSubscriber result.now }
         ensures table { IsTable self.now }
     {
         &self.rows[d.0 as usize - 1]

@@ -1,6 +1,6 @@
 //! The table, with rows that are read from lines.
 ghost use Rattle.std.specs.Prelude.{◌≡◌, IfOk};
-ghost use Rattle.subs_table.specs.Range.{IsInRange};
+ghost use Rattle.device_types.specs.Subscriber.{IsSubscriber};
 
 use crate::tests::line_with;
 use crate::{SubsTable, read_row};
@@ -12,7 +12,7 @@ use std::test::Fail;
 
 /// The good row with that number, IMSI and M-TMSI.
 fn row_with(alloc: Global, number: u32, imsi: u64, tmsi: u32) -> Result<Subscriber, Fail>
-    ensures range { IfOk result IsInRange }
+    ensures range { IfOk result IsSubscriber }
     ensures numbered { IfOk result (λ row. row.number ≡ number) }
 {
     let imsi = format!(in alloc; "\"{imsi:015}\"")?;
@@ -58,6 +58,11 @@ fn finds_what_was_added(rt: HostRuntime) -> Result<(), Fail> {
     assert_eq!(rt; table.row(DeviceId(3)).imsi, 1);
     assert_eq!(rt; table.by_imsi(208930000000002), Some(DeviceId(2)));
     assert_eq!(rt; table.by_imsi(2), None);
+    assert_eq!(rt; table.rows().len(), 3);
+    assert_eq!(rt;
+        table.in_imsi_order(rt.alloc())?.as_slice(),
+        [DeviceId(3), DeviceId(1), DeviceId(2)].as_slice()
+    );
     assert_eq!(rt; table.by_tmsi(0), Some(DeviceId(3)));
     assert_eq!(rt; table.by_tmsi(2), None);
     Ok(())
