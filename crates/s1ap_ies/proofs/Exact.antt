@@ -13,7 +13,8 @@ use Rattle.echo_base.specs.declared.refusal.Bad.TheVariants.{Refused, OutOfMemor
 use Rattle.aper_fields.specs.Reading.{Input, Read}
 use Rattle.s1ap_ies.specs.Memory.{GivesIn, ReadsIn}
 use Rattle.s1ap_ies.specs.Reading as reading
-use Rattle.s1ap_ies.specs.Reading.{Reader, zero_bit_at, preamble_at, criticality_at, entry_at, entries_at, extensions_at, tai_at, cgi_at, stmsi_at, bit_rates_at, algorithms_at, sec_caps_at, choice_at, cause_roots, cause_at, id_pair_at, mme_alone_at, ue_ids_at, erab_id_at, address_at, erab_done_at, present_at, arp_at, qos_at, nas_at, erab_to_setup_at, item_at}
+use Rattle.device_types.specs.Cause.{cause_roots}
+use Rattle.s1ap_ies.specs.Reading.{Reader, zero_bit_at, preamble_at, criticality_at, entry_at, entries_at, extensions_at, tai_at, cgi_at, stmsi_at, bit_rates_at, algorithms_at, sec_caps_at, choice_at, cause_at, id_pair_at, mme_alone_at, ue_ids_at, erab_id_at, address_at, erab_done_at, present_at, arp_at, qos_at, nas_at, erab_to_setup_at, item_at}
 use Rattle.s1ap_ies.specs.Grammar.{zero_bit_in, preamble_in, criticality_in, entry_in, entries_in, extensions_in, tai_in, cgi_in, stmsi_in, bit_rates_in, algorithms_in, sec_caps_in, choice_in, cause_in, id_pair_in, mme_alone_in, ue_ids_in, erab_id_in, address_in, erab_done_in, present_in, arp_in, qos_in, nas_in, erab_to_setup_in, item_in}
 
 -- one behind another

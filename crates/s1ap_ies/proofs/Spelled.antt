@@ -17,7 +17,7 @@ use Rattle.s1ap_ies.specs.declared.ue_ids.UeIds.{UeIds}
 use Rattle.s1ap_ies.specs.declared.ue_ids.UeIds.TheVariants.{Pair, Mme}
 use Rattle.s1ap_ies.specs.declared.erab_done.ErabDone.{ErabDone}
 use Rattle.s1ap_ies.specs.declared.erab_to_setup.ErabToSetup.{ErabToSetup}
-use Rattle.s1ap_ies.specs.Reading.{cause_roots}
+use Rattle.device_types.specs.Cause.{cause_roots}
 use Rattle.s1ap_ies.specs.Run.{IsTai, IsCgi, IsStmsi, IsBitRates, IsSecCaps, IsCause, IsUeIds, IsErabDone, IsSpelledBy, cause_value, preamble_run, algorithms_run, choice_run, tai_run, cgi_run, stmsi_run, bit_rates_run, sec_caps_run, cause_run, ue_ids_run, erab_id_run, address_run, erab_done_run, IsNas, IsErabToSetup, present_run, qos_run, nas_run, erab_to_setup_run}
 use Rattle.s1ap_ies.specs.Grammar.{zero_bit_in, preamble_in, extensions_in, tai_in, cgi_in, stmsi_in, bit_rates_in, algorithms_in, sec_caps_in, choice_in, cause_in, id_pair_in, mme_alone_in, ue_ids_in, erab_id_in, address_in, erab_done_in, present_in, arp_in, qos_in, nas_in, erab_to_setup_in}
 

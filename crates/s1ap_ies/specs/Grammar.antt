@@ -15,7 +15,7 @@ use Rattle.s1ap_ies.specs.declared.ue_ids.UeIds.TheVariants.{Pair, Mme}
 use Rattle.s1ap_ies.specs.declared.erab_done.ErabDone.{ErabDone}
 use Rattle.s1ap_ies.specs.declared.bearer.Qos.{Qos}
 use Rattle.s1ap_ies.specs.declared.erab_to_setup.ErabToSetup.{ErabToSetup}
-use Rattle.s1ap_ies.specs.Reading.{cause_roots}
+use Rattle.device_types.specs.Cause.{cause_roots}
 
 -- ---- what SEQUENCEs share
 

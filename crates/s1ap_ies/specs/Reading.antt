@@ -4,6 +4,7 @@ use Rattle.echo_base.specs.declared.reason.Reason.{Reason}
 use Rattle.echo_base.specs.declared.reason.Reason.TheVariants as reasons
 use Rattle.aper_fields.specs.Reading as pieces
 use Rattle.aper_fields.specs.Reading.{Input, Read, refuse, fixed_bits_at, number_at, enumerated_at, octet_string_at, open_at}
+use Rattle.device_types.specs.Cause.{cause_roots}
 use Rattle.s1ap_ies.specs.declared.tai.Tai.{Tai}
 use Rattle.s1ap_ies.specs.declared.cgi.Cgi.{Cgi}
 use Rattle.s1ap_ies.specs.declared.stmsi.Stmsi.{Stmsi}
@@ -119,10 +120,6 @@ unfoldable pub choice_at : ℕ → ℕ → Reader ℕ
 choice_at roots n = do
   extension ← zero_bit_at reasons.BadChoice
   passing_at (λ index. nat_lt index roots) reasons.BadChoice (fixed_bits_at n)
-
--- how many roots the causes of a group have: radio network, transport, NAS, protocol, miscellaneous
-unfoldable pub cause_roots : ℕ → ℕ
-cause_roots group = if group == 0 then 36 else (if group == 1 then 2 else (if group == 2 then 4 else (if group == 3 then 7 else 6)))
 
 unfoldable pub cause_at : Reader Cause
 cause_at = do

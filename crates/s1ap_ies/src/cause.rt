@@ -4,7 +4,8 @@ ghost use Rattle.std.specs.Prelude.{◌≡◌, OnOk, OnErr, ◌≤◌, ◌<◌};
 ghost use Rattle.aper_fields.specs.Reading.{Gives};
 ghost use Rattle.aper_fields.specs.Format.{ReadsExactly};
 ghost use Rattle.aper_fields.specs.Run.{then_written};
-ghost use Rattle.s1ap_ies.specs.Reading.{cause_roots, cause_at};
+ghost use Rattle.device_types.specs.Cause.{cause_roots};
+ghost use Rattle.s1ap_ies.specs.Reading.{cause_at};
 ghost use Rattle.s1ap_ies.specs.Grammar.{cause_in};
 ghost use Rattle.s1ap_ies.specs.Kept.{Keeps};
 ghost use Rattle.s1ap_ies.specs.Run.{IsCause, cause_run};
@@ -25,7 +26,7 @@ pub struct Cause {
 }
 
 /// How many roots the causes of a group have.
-#[tactic(auto, unfolding(crate::specs::Reading::cause_roots))]
+#[tactic(auto, unfolding(device_types::specs::Cause::cause_roots))]
 pub fn roots_of(group: u64) -> u32
     ensures roots { result ≡ cause_roots group }
     ensures some { 1 ≤ result }

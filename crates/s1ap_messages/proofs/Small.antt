@@ -9,7 +9,7 @@ use Rattle.s1ap_ies.specs.declared.tables.IeRow.{IeRow}
 use Rattle.s1ap_ies.specs.declared.tables.MessageKind.{MessageKind}
 use Rattle.s1ap_ies.specs.declared.ue_ids.UeIds.{UeIds}
 use Rattle.s1ap_ies.specs.declared.ue_ids.UeIds.TheVariants.{Pair, Mme}
-use Rattle.s1ap_ies.specs.Reading.{cause_roots}
+use Rattle.device_types.specs.Cause.{cause_roots}
 use Rattle.s1ap_ies.specs.Tables.{rows_of}
 use Rattle.s1ap_ies.specs.Run.{IsErabToSetup, IsErabDone, cause_value, preamble_run, algorithms_run, choice_run, tai_run, cgi_run, stmsi_run, bit_rates_run, sec_caps_run, cause_run, ue_ids_run, erab_done_run, erab_to_setup_run, item_run}
 use Rattle.s1ap_messages.specs.declared.pdu.Pdu.{Pdu}
