@@ -1,7 +1,6 @@
 -- Alone, entry by entry: what comes next is decided by the stage; it ends; each message is taken.
-use Rattle.std.proofs.Common.{◌≡◌, ℕ, zero, suc, ◌≤◌, ◌<◌, ◌+◌, ◌*◌, ◌-◌, ◌⊎◌, inl, inr, ⊎_elim, Bool, true, false, cond, List, [], ◌∷◌, ◌++◌, length, take, Option, Some, None, lit≤, lit<, refl, sym, ap, ◌∙◌, subst, arith, rules, add-zero, add-suc}
+use Rattle.std.proofs.Common.{◌≡◌, ℕ, zero, suc, ◌≤◌, ◌<◌, ◌+◌, ◌*◌, ◌-◌, ◌⊎◌, inl, inr, ⊎_elim, true, false, cond, List, [], ◌∷◌, ◌++◌, length, Option, Some, None, lit≤, lit<, refl, sym, ap, ◌∙◌, subst, arith, rules, add-zero, add-suc}
 use Rattle.std.specs.Prelude.{filter, option_map, position, slice_get}
-use Rattle.std.specs.List.{count_by}
 use Rattle.std.proofs.Math.Seq.{take-length}
 use Rattle.std.proofs.lemmas.Grind.{common_steps}
 use Rattle.std.proofs.lemmas.Option.{slice_get_past, slice_get_within}
@@ -22,8 +21,8 @@ use Rattle.device_types.specs.declared.step.Entry.{Entry}
 use Rattle.device_types.specs.declared.subscriber.Subscriber.{Subscriber}
 use Rattle.device_types.specs.Alone.{input_at, next_input, entry_of, next_entry, with_next, alone_to, alone_of, is_created, created_count}
 use Rattle.device_types.specs.Awaited.{awaited_in, awaited_by, lane_of}
-use Rattle.device_types.specs.Journal.{session_of, effects_on, effects_of, pushed_count, is_message, taken_count, is_awaited, is_on, awaited_behind, awaited_call}
-use Rattle.device_types.specs.PeerAnswer.{create_count, is_create, answer_to, answer_of}
+use Rattle.device_types.specs.Journal.{session_of, effects_on, effects_of, pushed_count, is_message, taken_count, is_awaited, awaited_behind, awaited_call}
+use Rattle.device_types.specs.PeerAnswer.{create_count, answer_to, answer_of}
 use Rattle.device_types.specs.Rule.{is_settled}
 use Rattle.device_types.specs.StepTable.{step_table, step_of}
 use Rattle.device_types.proofs.Calls.{is_peer, AreCalls, CallsAsStage, settled_calls}

@@ -1,5 +1,5 @@
 -- The awaited call of a step is that of the stage which it enters, and a step has no two.
-use Rattle.std.proofs.Common.{◌≡◌, ℕ, ◌≤◌, ◌==◌, ◌⊎◌, inl, inr, ⊎_elim, Bool, true, false, not, cond, ◌&&◌, ◌+◌, sym, ◌∙◌, arith, rules, List, [], ◌∷◌, ◌++◌, length, Some, None, lit≤, refl, ap}
+use Rattle.std.proofs.Common.{◌≡◌, ℕ, ◌≤◌, ◌==◌, ◌⊎◌, inl, inr, ⊎_elim, Bool, true, false, not, cond, ◌&&◌, ◌+◌, arith, List, [], ◌∷◌, ◌++◌, length, Some, None, lit≤, refl, ap}
 use Rattle.std.specs.Prelude.{unwrap_or, filter}
 use Rattle.std.specs.List.{count_by}
 use Rattle.std.proofs.lemmas.List.Elements.{filter-append}

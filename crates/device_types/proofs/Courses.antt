@@ -1,11 +1,11 @@
 -- What holds of each entry of Alone: its input is ready, its session and its effects are in their ranges; and of its messages.
-use Rattle.std.proofs.Common.{◌≡◌, ℕ, zero, suc, ◌≤◌, ◌<◌, ◌+◌, ◌*◌, ◌==◌, ◌&&◌, ⊎_elim, Bool, true, false, cond, List, [], ◌∷◌, ◌++◌, length, take, get_or, replicate, Option, Some, None, All, lit≤, lit<, refl, sym, ap, ◌∙◌, subst, arith, rules, append-nil, add-one}
+use Rattle.std.proofs.Common.{◌≡◌, ℕ, zero, suc, ◌≤◌, ◌<◌, ◌+◌, ◌*◌, ⊎_elim, true, false, List, [], ◌∷◌, ◌++◌, length, take, get_or, replicate, Option, Some, None, All, lit≤, lit<, refl, sym, ap, ◌∙◌, subst, arith, append-nil, add-one}
 use Rattle.std.specs.Prelude.{map, option_map, slice_get}
-use Rattle.std.specs.List.{range_with_len, flat_map}
+use Rattle.std.specs.List.{range_with_len}
 use Rattle.std.proofs.Math.Seq.{take-suc}
-use Rattle.std.proofs.lemmas.Bool.{cases_lt, eq-eqb, lt-leb, le-ltb}
+use Rattle.std.proofs.lemmas.Bool.{eq-eqb, lt-leb, le-ltb}
 use Rattle.std.proofs.lemmas.Grind.{flat_map-append}
-use Rattle.std.proofs.lemmas.List.{take_all, length-map}
+use Rattle.std.proofs.lemmas.List.{take_all}
 use Rattle.std.proofs.lemmas.List.Elements.{All-nil, All-replicate}
 use Rattle.std.proofs.lemmas.List.FromFn.{get_or-range_with_len, length-range_with_len}
 use Rattle.std.proofs.lemmas.List.Sums.{count_by-le-length, length-filter}
@@ -20,16 +20,15 @@ use Rattle.device_types.specs.declared.message.Message.{Message}
 use Rattle.device_types.specs.declared.session.Session.{Session}
 use Rattle.device_types.specs.declared.step.Entry.{Entry}
 use Rattle.device_types.specs.declared.subscriber.Subscriber.{Subscriber}
-use Rattle.device_types.specs.Alone.{input_at, next_input, entry_of, next_entry, with_next, alone_to, alone_of, is_created, created_count, messages_in, messages_of}
-use Rattle.device_types.specs.Answer.{IsAnswer}
+use Rattle.device_types.specs.Alone.{input_at, next_input, entry_of, with_next, alone_to, alone_of, is_created, created_count, messages_in, messages_of}
 use Rattle.device_types.specs.Awaited.{awaited_by, lane_of}
-use Rattle.device_types.specs.Cause.{IsCauseCode, IsStoredCause, cause_roots}
+use Rattle.device_types.specs.Cause.{IsCauseCode, cause_roots}
 use Rattle.device_types.specs.Effect.{IsWritable, IsSent, IsConnected}
 use Rattle.device_types.specs.Input.{IsInput}
-use Rattle.device_types.specs.Journal.{session_of, is_message, taken_count, effects_of, pushed_count, is_on, awaited_call}
+use Rattle.device_types.specs.Journal.{session_of, taken_count, effects_of, pushed_count, is_on, awaited_call}
 use Rattle.device_types.specs.Keys.{IsKey}
 use Rattle.device_types.specs.Line.{number_of, IsNumbered}
-use Rattle.device_types.specs.Look.{look_behind, look_of, same_lane, answer_look_behind, answer_look_of}
+use Rattle.device_types.specs.Look.{look_behind, same_lane, answer_look_behind}
 use Rattle.device_types.specs.Message.{IsMessage}
 use Rattle.device_types.specs.PeerAnswer.{answer_to, answer_of}
 use Rattle.device_types.specs.Ready.{IsReady}

@@ -1,5 +1,5 @@
 -- A session in its ranges stays there, and each effect of a step can be written.
-use Rattle.std.proofs.Common.{◌==◌, ◌&&◌, ℕ, ◌<◌, ◌≤◌, ◌^◌, ◌-◌, Bool, true, false, cond, List, [], ◌∷◌, ◌++◌, Some, All, min, length, lit≤, lit<, arith}
+use Rattle.std.proofs.Common.{◌==◌, ◌&&◌, ℕ, ◌<◌, ◌≤◌, ◌^◌, ◌-◌, Bool, true, false, cond, List, [], ◌∷◌, ◌++◌, Some, All, min, length, lit<, arith}
 use Rattle.std.specs.Prelude.{unwrap_or}
 use Rattle.std.proofs.lemmas.List.Elements.{All-nil, All-cons, All-append}
 use Rattle.device_types.specs.declared.cause.CauseCode.{CauseCode}
@@ -26,8 +26,8 @@ use Rattle.device_types.specs.declared.session.Session.{Session}
 use Rattle.device_types.specs.declared.session.Stage.{Stage}
 use Rattle.device_types.specs.declared.step.Step.{Step}
 use Rattle.device_types.specs.declared.subscriber.Subscriber.{Subscriber}
-use Rattle.device_types.specs.Acts.{Act, made, follow, run, sets, enters, tells, tells_unless, tells_to, sets_up, releases, calls, asks, moves_connection, left_behind, drops_ue, drops_at, frees_bearers, frees_at, nas_cause, normal_release, authentication_failure, detach, unspecified, station_of, enb_of}
-use Rattle.device_types.specs.Answer.{IsAnswer, IsVector}
+use Rattle.device_types.specs.Acts.{Act, made, follow, run, sets, enters, tells, tells_unless, tells_to, sets_up, releases, moves_connection, left_behind, drops_ue, drops_at, frees_bearers, frees_at, nas_cause, normal_release, authentication_failure, detach, unspecified, station_of, enb_of}
+use Rattle.device_types.specs.Answer.{IsAnswer}
 use Rattle.device_types.specs.AreaUpdate.{area_message}
 use Rattle.device_types.specs.Attach.{attach_message, attach_answer}
 use Rattle.device_types.specs.Cause.{IsCauseCode, IsStoredCause, cause_roots}
@@ -36,7 +36,7 @@ use Rattle.device_types.specs.Down.{IsDown, IsReceiver, AreRates, IsTunnel, AreA
 use Rattle.device_types.specs.Effect.{IsWritable}
 use Rattle.device_types.specs.Input.{IsInput}
 use Rattle.device_types.specs.Keys.{IsKey, full}
-use Rattle.device_types.specs.Message.{IsArea, IsPair, IsBody, IsMessage}
+use Rattle.device_types.specs.Message.{IsArea, IsPair, IsBody}
 use Rattle.device_types.specs.Nas.{IsNasOut, HasNasFields}
 use Rattle.device_types.specs.Octets.{AreOctets}
 use Rattle.device_types.specs.Rule.{Rule, fitting}

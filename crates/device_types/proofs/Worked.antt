@@ -1,5 +1,5 @@
 -- Worked runs of the machine alone, computed: the cheapest test of the step table.
-use Rattle.std.proofs.Common.{◌≡◌, ℕ, true, false, List, [], ◌∷◌, length, map, replicate, refl}
+use Rattle.std.proofs.Common.{◌≡◌, ℕ, true, false, List, [], ◌∷◌, length, refl}
 use Rattle.device_types.specs.declared.cause.CauseCode.{CauseCode}
 use Rattle.device_types.specs.declared.down.Down.TheVariants.{Nas, Release}
 use Rattle.device_types.specs.declared.effect.Effect.TheVariants as effects
@@ -14,7 +14,7 @@ use Rattle.device_types.specs.declared.session.Stage.TheVariants as stages
 use Rattle.device_types.specs.declared.subscriber.Subscriber.{Subscriber}
 use Rattle.device_types.specs.Acts.{moves_connection, drops_ue, frees_bearers}
 use Rattle.device_types.specs.Alone.{alone_of}
-use Rattle.device_types.specs.Journal.{session_of, effects_of, awaited_call}
+use Rattle.device_types.specs.Journal.{session_of, effects_of}
 use Rattle.device_types.specs.StepTable.{step_table, step_of}
 
 row : Subscriber

@@ -1,5 +1,4 @@
 -- What a step makes: which of it can be written, and where it goes. Where a device has a connection.
-use Rattle.std.specs.Prelude.{ℕ, ◌≤◌}
 use Rattle.device_types.specs.declared.down.Down.{Down}
 use Rattle.device_types.specs.declared.down.Down.TheVariants.{Nas, Setup, Release}
 use Rattle.device_types.specs.declared.effect.Effect.{Effect}

@@ -1,6 +1,5 @@
 -- The session of a device: that of one never seen, and the ranges of its fields.
-use Rattle.std.specs.Prelude.{ℕ, ◌^◌, ◌<◌, ◌≤◌, false, List, [], length, replicate}
-use Rattle.device_types.specs.declared.cause.CauseCode.{CauseCode}
+use Rattle.std.specs.Prelude.{◌^◌, ◌<◌, ◌≤◌, false, [], length, replicate}
 use Rattle.device_types.specs.declared.session.Link.{Link}
 use Rattle.device_types.specs.declared.session.Link.TheVariants.{Off, On}
 use Rattle.device_types.specs.declared.session.Bearer.TheVariants as bearer

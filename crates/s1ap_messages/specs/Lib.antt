@@ -1,10 +1,11 @@
-pub mod Many
-pub mod Values
-pub mod Messages
+pub mod Answer
+pub mod Built
 pub mod Grammar
 pub mod Lent
-pub mod Run
+pub mod Many
+pub mod Messages
+pub mod Names
 pub mod Reading
-pub mod Built
-pub mod Answer
+pub mod Run
 pub mod Small
+pub mod Values

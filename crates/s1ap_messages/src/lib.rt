@@ -15,6 +15,6 @@ mod value;
 mod writing;
 
 pub use laws::{one_answer, small_is_right, spelled_is_right, written_is_spelled};
-pub use pdu::{ErabsDone, ErabsToSetup, Pdu};
+pub use pdu::{ErabsDone, ErabsToSetup, Pdu, message_name};
 pub use reading::{read_pdu, read_uplink};
 pub use writing::write_pdu;

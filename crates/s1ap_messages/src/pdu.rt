@@ -2,6 +2,7 @@
 
 ghost use Rattle.std.specs.Prelude.{◌≡◌, ◌∷◌, [], Some, None};
 ghost use Rattle.s1ap_messages.specs.Messages.{is_downlink};
+ghost use Rattle.s1ap_messages.specs.Names.{name_of};
 
 use crate::value::{IeValue, LentValue};
 use aper_fields::EnumValue;
@@ -206,4 +207,22 @@ pub fn is_downlink(kind: MessageKind) -> bool
             | MessageKind::InitialContextSetupRequest
             | MessageKind::UeContextReleaseCommand
     )
+}
+
+/// The name of a message, as 3GPP TS 36.413, 9.3.3 spells it.
+pub fn message_name(kind: MessageKind) -> &'static str
+    ensures { result.now ≡ name_of kind }
+{
+    match kind {
+        MessageKind::InitialUeMessage => "InitialUEMessage",
+        MessageKind::UplinkNasTransport => "UplinkNASTransport",
+        MessageKind::DownlinkNasTransport => "DownlinkNASTransport",
+        MessageKind::InitialContextSetupRequest => "InitialContextSetupRequest",
+        MessageKind::InitialContextSetupResponse => "InitialContextSetupResponse",
+        MessageKind::InitialContextSetupFailure => "InitialContextSetupFailure",
+        MessageKind::UeContextReleaseRequest => "UEContextReleaseRequest",
+        MessageKind::UeContextReleaseCommand => "UEContextReleaseCommand",
+        MessageKind::UeContextReleaseComplete => "UEContextReleaseComplete",
+        MessageKind::UeCapabilityInfoIndication => "UECapabilityInfoIndication",
+    }
 }

@@ -160,6 +160,8 @@ pub fn read_pdu(alloc: Global, bytes: &[u8]) -> Result<Pdu, Bad>
     ensures refused { (e : Refusal) → Refused bytes.now e → IsAnswer (Err e) result }
     // What is read can be written again.
     ensures right { IfOk result IsRight }
+    // The answer is a function of the octets.
+    ensures reading { IsAnswer (message_at bytes.now) result }
 {
     read_message(alloc, bytes)
 }
@@ -171,6 +173,7 @@ pub fn read_uplink(alloc: Global, bytes: &[u8]) -> Result<Pdu, Bad>
     ensures only { (p : Pdu) → SpellsUplink bytes.now p → IsAnswer (Ok p) result }
     ensures refused { (e : Refusal) → RefusedUplink bytes.now e → IsAnswer (Err e) result }
     ensures right { IfOk result IsRight }
+    ensures reading { IsAnswer (uplink_at bytes.now) result }
 {
     read_received(alloc, bytes)
 }
