@@ -1,0 +1,10 @@
+//! The agent of a device: what it may send again, and what it makes of what arrives.
+#![tactic(auto)]
+
+mod taken;
+#[cfg(test)]
+mod tests;
+mod window;
+
+pub use taken::{DownTaken, Taken};
+pub use window::Window;

@@ -1,0 +1,12 @@
+//! The effects of a device by lane, until they are settled.
+#![tactic(auto)]
+
+mod outbox;
+mod queue;
+mod queues;
+mod settled;
+#[cfg(test)]
+mod tests;
+
+pub use outbox::Outbox;
+pub use settled::Settled;

@@ -1,0 +1,12 @@
+//! The row of a device, with its one conditional write.
+#![tactic(auto)]
+
+mod awaited;
+mod commit;
+mod prepared;
+mod row;
+#[cfg(test)]
+mod tests;
+
+pub use commit::Commit;
+pub use row::Row;

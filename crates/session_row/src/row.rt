@@ -1,0 +1,176 @@
+//! The row of a device.
+ghost use Rattle.std.specs.Prelude.{◌≡◌, ◌≤◌, ◌<◌, ◌+◌, ◌↔◌, [], length, IfOk, OnErr, IfErr, IsSome, option_copied};
+ghost use Rattle.device_types.specs.Journal.{version_of, session_of, pushed_count, taken_count};
+ghost use Rattle.device_types.specs.Look.{look_of, answer_look_of, look_behind, unless_awaited};
+ghost use Rattle.device_types.specs.Session.{IsSession};
+ghost use Rattle.effect_outbox.specs.Outbox.{number_on, with_number, settled_by, Holds};
+
+use crate::awaited::{awaited_behind, is_call};
+use crate::commit::Commit;
+use crate::prepared::{Prepared, keep_reply, prepare};
+use device_types::{Entry, Lane, Look, NoRoom, Reply, Session, TryCopy};
+use effect_outbox::{Outbox, Settled};
+use std::alloc::{AllocError, Global};
+use std::marker::Model;
+
+/// What the core keeps of a device: the journal of its steps, and how many effects of each lane are settled. Contracts see these
+/// two. The replies to the last `W` messages are kept.
+#[derive(Debug, Drop)]
+pub struct Row<const W: u64> {
+    entries: Vec<Entry>,
+    replies: Vec<Reply>,
+    awaited: Option<(Lane, u64)>,
+    outbox: Outbox,
+}
+
+impl<const W: u64> Model for Row<W> {
+    ghost use Rattle.effect_outbox.specs.Outbox.{settled_of};
+    ghost use Rattle.session_row.specs.Row.{RowState, IsRow};
+
+    ghost Value = { RowState };
+
+    ghost view = { λ row. record { journal = row.entries.items; settled = settled_of row.outbox } };
+
+    ghost invariant = { λ row. IsRow row.entries.items row.replies.items row.awaited row.outbox };
+}
+
+impl<const W: u64> Row<W> {
+    ghost use Rattle.session_row.specs.Row.{lanes_of, kept_reply, look_at, AwaitsAtMostOne, Commits};
+
+    /// The row of a device that was never seen: no step, and nothing settled. Now it takes no memory; it may fail for want of it.
+    pub fn new(alloc: Global) -> Result<Row<W>, AllocError>
+        requires { 1 ≤ W }
+        ensures { IfOk result (λ row. row ≡ record { journal = []; settled = record { down = 0; gateway = 0; subscriber = 0 } }) }
+    {
+        Ok(Row {
+            entries: Vec::new(alloc),
+            replies: Vec::new(alloc),
+            awaited: None,
+            outbox: Outbox::new(alloc),
+        })
+    }
+
+    /// How many steps were committed. It takes no memory.
+    pub fn version(&self) -> u64
+        ensures { result ≡ version_of self.now.journal }
+    {
+        self.entries.len() as u64
+    }
+
+    /// How many messages were taken.
+    #[tactic(auto, using(crate::proofs::Steps::taken_is))]
+    fn taken(&self) -> u64
+        ensures { result ≡ taken_count self.now.journal }
+    {
+        self.replies.len() as u64
+    }
+
+    /// The session of the last step, or the opening one. It fails for want of memory alone.
+    pub fn session(&self) -> Result<Session, AllocError>
+        ensures value { IfOk result (λ session. session ≡ session_of self.now.journal) }
+        ensures range { IsSession (session_of self.now.journal) }
+    {
+        match self.entries.last() {
+            Some(entry) => entry.step.session.copy(),
+            None => Ok(Session::opening(*self.entries.allocator())),
+        }
+    }
+
+    /// What the row says to message `n`. It takes no memory.
+    pub fn look(&self, n: u64) -> Look
+        ensures { result ≡ look_of W self.now.journal n }
+    {
+        let taken = self.taken();
+        if n <= taken {
+            return if taken - n >= W {
+                Look::Settled(n)
+            } else {
+                Look::Repeat(n)
+            };
+        }
+        if n - taken > 1 {
+            return Look::Ahead(taken);
+        }
+        match self.awaited {
+            Some((lane, k)) => Look::Waiting(lane, k),
+            None => Look::Ready,
+        }
+    }
+
+    /// What the row says to the answer to call `k` of a lane. It takes no memory.
+    pub fn look_answer(&self, lane: Lane, k: u64) -> Look
+        ensures { result ≡ answer_look_of self.now.journal lane k }
+    {
+        if is_call(self.awaited, lane, k) {
+            return Look::Ready;
+        }
+        let pushed = self.outbox.pushed(lane);
+        if k > pushed {
+            Look::NotAwaited(pushed)
+        } else {
+            Look::Old(lane, k)
+        }
+    }
+
+    /// The reply to message `n`, from 1, or `None` where it was not taken or its reply is not kept. It takes no memory.
+    pub fn reply(&self, n: u64) -> Option<&Reply>
+        ensures value { option_copied result ≡ kept_reply W self.now.journal n }
+        ensures kept { IsSome result ↔ ((1 ≤ n) × (n ≤ taken_count self.now.journal) × (taken_count self.now.journal < n + W)) }
+    {
+        let index = n.checked_sub(1)?;
+        let taken = self.taken();
+        if n > taken {
+            return None;
+        }
+        let behind = taken - n;
+        if behind >= W {
+            return None;
+        }
+        self.replies.get(index as usize)
+    }
+
+    /// The effects of the lane up to `k` are settled. It takes no memory.
+    pub fn settle(&mut self, lane: Lane, k: u64) -> Settled
+        requires { k ≤ pushed_count lane self.old.journal }
+        ensures value { result ≡ settled_by (number_on self.old.settled lane) k }
+        ensures state { self.new ≡ record self.old { settled = with_number self.old.settled lane k } }
+    {
+        self.outbox.settle(lane, k)
+    }
+
+    /// The effects that are not settled, by lane.
+    pub fn outbox(&self) -> &Outbox
+        ensures { Holds result.now (lanes_of self.now.journal) self.now.settled }
+    {
+        &self.outbox
+    }
+
+    /// Writes an entry, where the row still has the version that was read: journal, reply, session and lanes change together,
+    /// since all follow from the journal. For want of memory the row stays as it was, and the entry is given back.
+    pub fn commit(&mut self, read: u64, entry: Entry) -> Result<Commit, NoRoom<Entry>>
+        requires session { IsSession entry.step.session }
+        requires calls { AwaitsAtMostOne entry.step.effects }
+        requires ready { read ≡ version_of self.old.journal → look_at W self.old.journal entry.input ≡ Look.Ready }
+        ensures ok { IfOk result (Commits self.old self.new read entry) }
+        ensures err { OnErr result (self.new ≡ self.old) }
+        ensures back { IfErr result (λ room. room.0 ≡ entry) }
+    {
+        let Ok(prepared) = prepare(&mut self.entries, &mut self.replies, &entry) else {
+            return Err(NoRoom(entry));
+        };
+        let current = self.entries.len() as u64;
+        if read != current {
+            return Ok(Commit::Stale { read, current });
+        }
+        let Prepared { effects, reply } = prepared;
+        let gateway = self.outbox.pushed(Lane::Gateway);
+        let subscriber = self.outbox.pushed(Lane::Subscriber);
+        let Ok(()) = self.outbox.push(effects) else {
+            return Err(NoRoom(entry));
+        };
+        self.awaited = awaited_behind(gateway, subscriber, entry.step.effects.items());
+        keep_reply(&mut self.replies, reply);
+        self.entries.push_reserved(entry);
+        Ok(Commit::Committed(read + 1))
+    }
+}
