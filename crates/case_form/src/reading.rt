@@ -211,6 +211,7 @@ pub fn read_case(alloc: Global, bytes: &[u8]) -> Result<Case, CaseBad>
         take_next(&mut reading, line)?;
     }
     let Reading { case, .. } = reading;
+    // That the rows are a table is a clause of `rows`.
     let _rows = case.table.rows();
     Ok(case)
 }

@@ -228,6 +228,7 @@ pub(crate) fn read_octets(
         return Err(bad(column).into());
     }
     let octets = Octets::from(octets);
+    // That each is below 256 is a clause of `octets`.
     let _count = octets.octets().len();
     Ok(octets)
 }

@@ -1,40 +1,24 @@
 //! Lines of the subscriber table. What they give is worked out by hand from RFC 8259 and the kinds and ranges of the columns.
 
 use crate::read_row;
-use device_types::Subscriber;
-use echo_base::Reason::{BadColumn, BadJson, MissingColumn};
-use echo_base::{Bad, Column, Reason};
+use echo_base::Bad;
 use std::alloc::{AllocError, Global};
 use std::test::Fail;
 
-/// The columns of a good line: key, column and value.
-const GOOD: [(&str, Column, &str); 13] = [
-    ("imsi", Column::Imsi, r#""208930000000001""#),
-    ("tmsi", Column::Tmsi, "1"),
-    (
-        "rand",
-        Column::Rand,
-        r#""000102030405060708090a0b0c0d0e0f""#,
-    ),
-    (
-        "autn",
-        Column::Autn,
-        r#""101112131415161718191a1b1c1d1e1f""#,
-    ),
-    ("res", Column::Res, r#""a0a1a2a3a4a5a6a7""#),
-    (
-        "key",
-        Column::Key,
-        r#""1111111111111111111111111111111111111111111111111111111111111111""#,
-    ),
-    ("apn", Column::Apn, r#""internet""#),
-    ("ip", Column::Ip, r#""0a2d0001""#),
-    ("sgw", Column::Sgw, r#""c0a80001""#),
-    ("teid", Column::Teid, "1"),
-    ("ambr_dl", Column::AmbrDl, "1000000000"),
-    ("ambr_ul", Column::AmbrUl, "1000000000"),
-    ("forbidden", Column::Forbidden, "[9]"),
-];
+/// The columns of a good line: key, name and value.
+const GOOD: &str = r#"imsi Imsi "208930000000001"
+tmsi Tmsi 1
+rand Rand "000102030405060708090a0b0c0d0e0f"
+autn Autn "101112131415161718191a1b1c1d1e1f"
+res Res "a0a1a2a3a4a5a6a7"
+key Key "1111111111111111111111111111111111111111111111111111111111111111"
+apn Apn "internet"
+ip Ip "0a2d0001"
+sgw Sgw "c0a80001"
+teid Teid 1
+ambr_dl AmbrDl 1000000000
+ambr_ul AmbrUl 1000000000
+forbidden Forbidden [9]"#;
 
 /// Lines that are no object, one a line.
 const NO_OBJECTS: &str = r#"
@@ -56,66 +40,84 @@ true
 const OTHER_KINDS: &str =
     r#"null true {} -1 1.0 1e0 -0 -1.5 "" "A-z_" [null] [-1] [1.0] ["9"] [[9]] [65536] 18446744073709551616"#;
 
-/// Values of a column, and whether they are good or bad. The last value of a repeated key counts.
-const ENDS: &str = r#"good imsi "000000000000000"
-good imsi "999999999999999"
-bad imsi "20893000000001"
-bad imsi "2089300000000010"
-bad imsi "+08930000000001"
-bad imsi "20893000000000a"
-bad imsi "٠٠٠٠٠٠٠0"
-good tmsi 0
-good tmsi 4294967295
-bad tmsi 4294967296
-bad tmsi "1"
-good rand "000102030405060708090A0B0C0D0E0F"
-bad rand "000102030405060708090a0b0c0d0e"
-bad rand "000102030405060708090a0b0c0d0e0"
-bad rand "000102030405060708090a0b0c0d0e0f10"
-bad rand "000102030405060708090a0b0c0d0e0g"
-bad autn "101112131415161718191a1b1c1d1e"
-bad autn "101112131415161718191a1b1c1d1e1f20"
-good res "a0a1a2a3"
-good res "000102030405060708090a0b0c0d0e0f"
-bad res "a0a1a2"
-bad res "a0a1a2a3a"
-bad res "000102030405060708090a0b0c0d0e0f10"
-bad key "11111111111111111111111111111111111111111111111111111111111111"
-bad key "111111111111111111111111111111111111111111111111111111111111111111"
-good apn "a"
-good apn "abcdefghijklmnopqrstuvwxyz0189"
-bad apn "abcdefghijklmnopqrstuvwxyz01890"
-bad apn "Internet"
-bad apn "inter.net"
-bad apn "caf\u00e9"
-good ip "00000000"
-good ip "FFFFFFFF"
-bad ip "0a2d00"
-bad ip "0a2d001"
-bad ip "0a2d000100"
-bad ip "+a2d0001"
-bad sgw "c0a800"
-bad sgw "c0a8000100"
-good teid 1
-good teid 4000000000
-bad teid 0
-bad teid 4000000001
-good ambr_dl 0
-good ambr_dl 10000000000
-bad ambr_dl 10000000001
-good ambr_ul 0
-good ambr_ul 10000000000
-bad ambr_ul 10000000001
-good forbidden []
-good forbidden [0,65535]
-good forbidden [1,2,3,4,5,6,7,8,9,10,11,12,13,14,15,16]
-bad forbidden [1,2,3,4,5,6,7,8,9,10,11,12,13,14,15,16,17]
-good teid 0,"teid":5
-bad teid 5,"teid":0"#;
+/// The good line with another value of a column, and what reading it gives. `-` leaves the column out; a value may go on with
+/// columns, and the last value of a repeated key counts.
+const CASES: &str = r#"imsi "000000000000000" good
+imsi "999999999999999" good
+imsi "20893000000001" BadColumn(Imsi)
+imsi "2089300000000010" BadColumn(Imsi)
+imsi "+08930000000001" BadColumn(Imsi)
+imsi "20893000000000a" BadColumn(Imsi)
+imsi "٠٠٠٠٠٠٠0" BadColumn(Imsi)
+tmsi 0 good
+tmsi 4294967295 good
+tmsi 4294967296 BadColumn(Tmsi)
+tmsi "1" BadColumn(Tmsi)
+rand "000102030405060708090A0B0C0D0E0F" good
+rand "000102030405060708090a0b0c0d0e" BadColumn(Rand)
+rand "000102030405060708090a0b0c0d0e0" BadColumn(Rand)
+rand "000102030405060708090a0b0c0d0e0f10" BadColumn(Rand)
+rand "000102030405060708090a0b0c0d0e0g" BadColumn(Rand)
+autn "101112131415161718191a1b1c1d1e" BadColumn(Autn)
+autn "101112131415161718191a1b1c1d1e1f20" BadColumn(Autn)
+res "a0a1a2a3" good
+res "000102030405060708090a0b0c0d0e0f" good
+res "a0a1a2" BadColumn(Res)
+res "a0a1a2a3a" BadColumn(Res)
+res "000102030405060708090a0b0c0d0e0f10" BadColumn(Res)
+key "11111111111111111111111111111111111111111111111111111111111111" BadColumn(Key)
+key "111111111111111111111111111111111111111111111111111111111111111111" BadColumn(Key)
+apn "a" good
+apn "abcdefghijklmnopqrstuvwxyz0189" good
+apn "abcdefghijklmnopqrstuvwxyz01890" BadColumn(Apn)
+apn "Internet" BadColumn(Apn)
+apn "inter.net" BadColumn(Apn)
+apn "caf\u00e9" BadColumn(Apn)
+ip "00000000" good
+ip "FFFFFFFF" good
+ip "0a2d00" BadColumn(Ip)
+ip "0a2d001" BadColumn(Ip)
+ip "0a2d000100" BadColumn(Ip)
+ip "+a2d0001" BadColumn(Ip)
+sgw "c0a800" BadColumn(Sgw)
+sgw "c0a8000100" BadColumn(Sgw)
+teid 1 good
+teid 4000000000 good
+teid 0 BadColumn(Teid)
+teid 4000000001 BadColumn(Teid)
+ambr_dl 0 good
+ambr_dl 10000000000 good
+ambr_dl 10000000001 BadColumn(AmbrDl)
+ambr_ul 0 good
+ambr_ul 10000000000 good
+ambr_ul 10000000001 BadColumn(AmbrUl)
+forbidden [] good
+forbidden [0,65535] good
+forbidden [1,2,3,4,5,6,7,8,9,10,11,12,13,14,15,16] good
+forbidden [1,2,3,4,5,6,7,8,9,10,11,12,13,14,15,16,17] BadColumn(Forbidden)
+teid 0,"teid":5 good
+teid 5,"teid":0 BadColumn(Teid)
+imsi - MissingColumn(Imsi)
+tmsi - MissingColumn(Tmsi)
+rand - MissingColumn(Rand)
+autn - MissingColumn(Autn)
+res - MissingColumn(Res)
+key - MissingColumn(Key)
+apn - MissingColumn(Apn)
+ip - MissingColumn(Ip)
+sgw - MissingColumn(Sgw)
+teid - MissingColumn(Teid)
+ambr_dl - MissingColumn(AmbrDl)
+ambr_ul - MissingColumn(AmbrUl)
+forbidden - MissingColumn(Forbidden)
+teid 0,"tmsi":-1 BadColumn(Tmsi)
+forbidden 9,"ambr_ul":null BadColumn(AmbrUl)
+imsi 1,"forbidden":[null] BadColumn(Imsi)
+key "","res":"" BadColumn(Res)"#;
 
-/// Adds a column to a line, or leaves it out where its value is empty.
+/// Adds a column to a line, or leaves it out where its value is `-`.
 fn push_column(line: &mut String, key: &str, value: &str) -> Result<(), AllocError> {
-    if value.is_empty() {
+    if value == "-" {
         return Ok(());
     }
     line.push_str("\"")?;
@@ -125,80 +127,49 @@ fn push_column(line: &mut String, key: &str, value: &str) -> Result<(), AllocErr
     line.push_str(",")
 }
 
-/// The good line with other values in two columns. An empty value leaves the column out. A column of no meaning ends it.
-pub(crate) fn line_with(
-    alloc: Global,
-    first: (&str, &str),
-    second: (&str, &str),
-) -> Result<String, AllocError> {
+/// The good line with another value of a column. A column of no meaning ends it.
+pub(crate) fn line_with(alloc: Global, key: &str, value: &str) -> Result<String, Fail> {
     let mut line = String::from_str(alloc, "{")?;
-    for (key, _, good) in GOOD {
-        if key == first.0 {
-            push_column(&mut line, key, first.1)?;
-        } else if key == second.0 {
-            push_column(&mut line, key, second.1)?;
+    for column in GOOD.lines() {
+        let (name, rest) = column.split_once(' ').ok_or("no key")?;
+        let (_, good) = rest.split_once(' ').ok_or("no value")?;
+        if name == key {
+            push_column(&mut line, name, value)?;
         } else {
-            push_column(&mut line, key, good)?;
+            push_column(&mut line, name, good)?;
         }
     }
     line.push_str("\"apn2\":null}")?;
     Ok(line)
 }
 
-/// Why a line is refused, with the place.
-fn refusal(alloc: Global, line: &[u8]) -> Result<Option<(Reason, u64)>, AllocError> {
+/// What reading a line gives, as the tables write it.
+fn answer(alloc: Global, line: &[u8]) -> Result<String, AllocError> {
     match read_row(alloc, line, 1) {
-        Err(Bad::Refused(refusal)) => Ok(Some((refusal.reason, refusal.place))),
-        Err(Bad::OutOfMemory) => Err(AllocError),
-        Ok(_) => Ok(None),
-    }
-}
-
-/// The same of the good line with other values in two columns.
-fn refusal_with(
-    alloc: Global,
-    first: (&str, &str),
-    second: (&str, &str),
-) -> Result<Option<(Reason, u64)>, AllocError> {
-    let line = line_with(alloc, first, second)?;
-    refusal(alloc, line.as_bytes())
-}
-
-/// The column with that key.
-fn column_of(key: &str) -> Option<Column> {
-    for (name, column, _) in GOOD {
-        if name == key {
-            return Some(column);
+        Ok(_) => String::from_str(alloc, "good"),
+        Err(Bad::Refused(refusal)) => {
+            let reason = refusal.reason;
+            format!(in alloc; "{reason:?}")
         }
+        Err(Bad::OutOfMemory) => Err(AllocError),
     }
-    None
-}
-
-fn good_row(alloc: Global) -> Result<Subscriber, Fail> {
-    let line = line_with(alloc, ("", ""), ("", ""))?;
-    Ok(read_row(alloc, line.as_bytes(), 7)?)
 }
 
 #[test]
 fn reads_every_column(rt: HostRuntime) -> Result<(), Fail> {
-    let row = good_row(rt.alloc())?;
+    let alloc = rt.alloc();
+    let line = line_with(alloc, "", "")?;
+    let row = read_row(alloc, line.as_bytes(), 7)?;
+    let rand = hex::decode(alloc, "000102030405060708090a0b0c0d0e0f")?;
+    let autn = hex::decode(alloc, "101112131415161718191a1b1c1d1e1f")?;
     assert_eq!(rt; row.number, 7);
     assert_eq!(rt; row.imsi, 208930000000001);
     assert_eq!(rt; row.tmsi, 1);
-    assert_eq!(rt;
-        row.rand.items(),
-        [0, 1, 2, 3, 4, 5, 6, 7, 8, 9, 10, 11, 12, 13, 14, 15].as_slice()
-    );
-    assert_eq!(rt;
-        row.autn.items(),
-        [
-            16, 17, 18, 19, 20, 21, 22, 23, 24, 25, 26, 27, 28, 29, 30, 31
-        ]
-        .as_slice()
-    );
+    assert_eq!(rt; row.rand.items(), rand.as_slice());
+    assert_eq!(rt; row.autn.items(), autn.as_slice());
     assert_eq!(rt;
         row.res.items(),
-        [0xa0, 0xa1, 0xa2, 0xa3, 0xa4, 0xa5, 0xa6, 0xa7].as_slice()
+        b"\xa0\xa1\xa2\xa3\xa4\xa5\xa6\xa7".as_slice()
     );
     assert_eq!(rt; row.key.items(), [0x11; 32].as_slice());
     assert_eq!(rt; row.apn.items(), b"internet".as_slice());
@@ -212,88 +183,56 @@ fn reads_every_column(rt: HostRuntime) -> Result<(), Fail> {
 }
 
 #[test]
-fn refuses_what_is_no_object(rt: HostRuntime) -> Result<(), Fail> {
-    for line in NO_OBJECTS.lines() {
-        let read = refusal(rt.alloc(), line.as_bytes())?;
-        assert_eq!(rt; read, Some((BadJson, 0)), "{line}");
-    }
-    let deep = "[".repeat(rt.alloc(), 200)?;
-    let deep = format!(in rt.alloc(); "{{\"a\":{deep}")?;
-    let lines: [(&[u8], Reason); 7] = [
-        (deep.as_bytes(), BadJson),
-        (b"{\"a\":\"\t\"}", BadJson),
-        (b"\r", BadJson),
-        (b"{\"a\":\"\xff\"}", BadJson),
-        (b"\xef\xbb\xbf{}", BadJson),
-        (b"{}", MissingColumn(Column::Imsi)),
-        (b" \t{ \"\\u0069msi\" : 1 } \r", MissingColumn(Column::Tmsi)),
-    ];
-    for (line, reason) in lines {
-        let read = refusal(rt.alloc(), line)?;
-        assert_eq!(rt; read, Some((reason, 0)), "{line:?}");
-    }
-    Ok(())
-}
-
-#[test]
-fn names_the_first_column_that_is_missing(rt: HostRuntime) -> Result<(), Fail> {
-    for (key, column, _) in GOOD {
-        let read = refusal_with(rt.alloc(), (key, ""), ("", ""))?;
-        assert_eq!(rt; read, Some((MissingColumn(column), 0)), "{key}");
-    }
-    let lines = [
-        (("forbidden", ""), ("tmsi", ""), Column::Tmsi),
-        (("tmsi", ""), ("imsi", "\"20893000000001\""), Column::Tmsi),
-        (("forbidden", ""), ("imsi", "null"), Column::Forbidden),
-    ];
-    for (first, second, column) in lines {
-        let read = refusal_with(rt.alloc(), first, second)?;
-        assert_eq!(rt; read, Some((MissingColumn(column), 0)), "{first:?}");
+fn reads_columns(rt: HostRuntime) -> Result<(), Fail> {
+    let alloc = rt.alloc();
+    for case in CASES.lines() {
+        let (key, rest) = case.split_once(' ').ok_or("no key")?;
+        let (value, want) = rest.split_once(' ').ok_or("no value")?;
+        let line = line_with(alloc, key, value)?;
+        assert_eq!(rt;
+            answer(alloc, line.as_bytes())?.as_str(),
+            want,
+            "for {case}"
+        );
     }
     Ok(())
 }
 
 #[test]
 fn refuses_every_other_kind(rt: HostRuntime) -> Result<(), Fail> {
-    for (key, column, _) in GOOD {
+    let alloc = rt.alloc();
+    for column in GOOD.lines() {
+        let (key, rest) = column.split_once(' ').ok_or("no key")?;
+        let (name, _) = rest.split_once(' ').ok_or("no name")?;
+        let want = format!(in alloc; "BadColumn({name})")?;
         for value in OTHER_KINDS.split(' ') {
-            let read = refusal_with(rt.alloc(), (key, value), ("", ""))?;
-            assert_eq!(rt; read, Some((BadColumn(column), 0)), "{key} {value}");
+            let line = line_with(alloc, key, value)?;
+            assert_eq!(rt;
+                answer(alloc, line.as_bytes())?.as_str(),
+                want.as_str(),
+                "for {key} {value}"
+            );
         }
     }
     Ok(())
 }
 
 #[test]
-fn reads_to_both_ends_of_a_range(rt: HostRuntime) -> Result<(), Fail> {
-    let mut good = 0u32;
-    for line in ENDS.lines() {
-        let (verdict, rest) = line.split_once(' ').ok_or("no verdict")?;
-        let (key, value) = rest.split_once(' ').ok_or("no value")?;
-        let column = column_of(key).ok_or("no column")?;
-        let read = refusal_with(rt.alloc(), (key, value), ("", ""))?;
-        if verdict == "good" {
-            good = good.saturating_add(1);
-            assert_eq!(rt; read, None, "{line}");
-        } else {
-            assert_eq!(rt; read, Some((BadColumn(column), 0)), "{line}");
-        }
+fn refuses_what_is_no_object(rt: HostRuntime) -> Result<(), Fail> {
+    let alloc = rt.alloc();
+    for line in NO_OBJECTS.lines() {
+        assert_eq!(rt;
+            answer(alloc, line.as_bytes())?.as_str(),
+            "BadJson",
+            "for {line}"
+        );
     }
-    assert_eq!(rt; good, 21);
-    Ok(())
-}
-
-#[test]
-fn names_the_first_column_that_is_bad(rt: HostRuntime) -> Result<(), Fail> {
-    let lines = [
-        (("teid", "0"), ("tmsi", "-1"), Column::Tmsi),
-        (("forbidden", "9"), ("ambr_ul", "null"), Column::AmbrUl),
-        (("imsi", "1"), ("forbidden", "[null]"), Column::Imsi),
-        (("key", "\"\""), ("res", "\"\""), Column::Res),
-    ];
-    for (first, second, column) in lines {
-        let read = refusal_with(rt.alloc(), first, second)?;
-        assert_eq!(rt; read, Some((BadColumn(column), 0)), "{first:?}");
-    }
+    let deep = "[".repeat(alloc, 200)?;
+    let deep = format!(in alloc; "{{\"a\":{deep}")?;
+    assert_eq!(rt; answer(alloc, deep.as_bytes())?.as_str(), "BadJson");
+    assert_eq!(rt; answer(alloc, b"{\"a\":\"\xff\"}")?.as_str(), "BadJson");
+    assert_eq!(rt; answer(alloc, b"\xef\xbb\xbf{}")?.as_str(), "BadJson");
+    let spaced = b" \t{ \"\\u0069msi\" : 1 } \r";
+    assert_eq!(rt; answer(alloc, spaced)?.as_str(), "MissingColumn(Tmsi)");
     Ok(())
 }
