@@ -1,0 +1,7 @@
+pub mod BindingLaws
+pub mod BoundLaws
+pub mod Causes
+pub mod NasRanges
+pub mod RangeLaws
+pub mod SeenLaws
+pub mod StepLaws

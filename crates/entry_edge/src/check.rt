@@ -1,0 +1,143 @@
+//! The checks of a line.
+
+ghost use Rattle.std.specs.Prelude.{◌≡◌, ◌↔◌, List, length, IsTrue, IfOk, Some};
+ghost use Rattle.hex.specs.declared.error.FromHexError.TheVariants.{OutOfMemory};
+ghost use Rattle.device_types.specs.Numbers.{IsWithin};
+ghost use Rattle.s1ap_messages.specs.Answer.{IsAnswer};
+ghost use Rattle.entry_edge.specs.Sent.{octets_of, said_by};
+ghost use Rattle.entry_edge.specs.Trace.{Turn, known, device_of_identity, agreed, device_for, taken_at};
+ghost use Rattle.entry_edge.specs.Kept.{Keeps};
+
+use crate::bindings::{Bindings, Pair};
+use crate::sent::{Claim, Sent, sent_of};
+use case_form::TraceLine;
+use device_types::{DeviceId, Octets};
+use echo_base::{Bad, Identity, Reason, Refusal};
+use hex::FromHexError;
+use s1ap_messages::read_pdu;
+use std::alloc::Global;
+use subs_table::SubsTable;
+
+/// A message that is admitted.
+#[derive(Debug, Drop)]
+pub struct Taken {
+    /// The device that it is from.
+    pub device: DeviceId,
+    /// The base station that it came from.
+    pub station: u16,
+    /// What it says.
+    pub sent: Sent,
+}
+
+/// Was there no memory for the decoded octets?
+fn is_memory(error: &FromHexError) -> bool
+    ensures { IsTrue result ↔ (error.now ≡ OutOfMemory) }
+{
+    matches!(error, FromHexError::OutOfMemory)
+}
+
+/// The octets, at least one, that hexadecimal text in either case stands for. It is refused as BadHex, with place 0.
+#[tactic(auto, unfolding(crate::specs::Sent::octets_of))]
+pub fn decode(alloc: Global, text: &[u8]) -> Result<Octets, Bad>
+    ensures { IsAnswer (octets_of text.now) result }
+{
+    let bad = Bad::Refused(Refusal {
+        reason: Reason::BadHex,
+        place: 0,
+    });
+    match hex::decode(alloc, text) {
+        Ok(octets) => {
+            if octets.is_empty() {
+                return Err(bad);
+            }
+            Ok(Octets::from(octets))
+        }
+        Err(error) => {
+            if is_memory(&error) {
+                return Err(Bad::OutOfMemory);
+            }
+            Err(bad)
+        }
+    }
+}
+
+/// What a line says, whatever came before it.
+#[tactic(auto, unfolding(crate::specs::Sent::said_by))]
+fn read_line(alloc: Global, text: &[u8]) -> Result<Sent, Bad>
+    ensures { IsAnswer (said_by text.now) result }
+{
+    let octets = decode(alloc, text)?;
+    let octets = octets.octets();
+    let pdu = read_pdu(alloc, octets)?;
+    sent_of(alloc, octets.len() as u64, pdu)
+}
+
+/// The device with that identity.
+fn known(table: &SubsTable, identity: Identity) -> Result<DeviceId, Refusal>
+    ensures known { result ≡ known identity (device_of_identity table.now identity) }
+    ensures within { IfOk result (λ d. IsWithin (length table.now) d.0) }
+{
+    let found = match identity {
+        Identity::Imsi(imsi) => table.by_imsi(imsi),
+        Identity::Tmsi(tmsi) => table.by_tmsi(tmsi),
+    };
+    found.ok_or(Refusal {
+        reason: Reason::UnknownDevice(identity),
+        place: 0,
+    })
+}
+
+/// The device of the pair, if it has the number.
+fn agreed(pair: Pair, mme: u32, bound: Option<DeviceId>) -> Result<DeviceId, Refusal>
+    ensures agreed { result ≡ agreed pair mme bound }
+    ensures bound { IfOk result (λ d. bound ≡ Some d) }
+{
+    let refusal = Refusal {
+        reason: Reason::UnknownPair(pair.0, pair.1),
+        place: 0,
+    };
+    let Some(device) = bound else {
+        return Err(refusal);
+    };
+    if device.0 != mme {
+        return Err(refusal);
+    }
+    Ok(device)
+}
+
+/// The device that a message is from.
+fn device_for(
+    table: &SubsTable,
+    bindings: &Bindings,
+    pair: Pair,
+    claim: Claim,
+) -> Result<DeviceId, Refusal>
+    ensures device { (H : List Turn) → Keeps (length table.now) H bindings.now → result ≡ device_for table.now H pair claim }
+    ensures within { (H : List Turn) → Keeps (length table.now) H bindings.now → IfOk result (λ d. IsWithin (length table.now) d.0) }
+{
+    match claim {
+        Claim::Named(identity) => known(table, identity),
+        Claim::Numbered(mme) => agreed(pair, mme, bindings.bound(pair)),
+    }
+}
+
+/// The checks of a line.
+#[tactic(auto, unfolding(crate::specs::Trace::taken_at))]
+pub fn check(
+    alloc: Global,
+    table: &SubsTable,
+    bindings: &Bindings,
+    line: &TraceLine,
+) -> Result<Taken, Bad>
+    ensures taken { (H : List Turn) → Keeps (length table.now) H bindings.now → IsAnswer (taken_at table.now H line.now) result }
+    ensures within { (H : List Turn) → Keeps (length table.now) H bindings.now → IfOk result (λ t. IsWithin (length table.now) t.device.0) }
+{
+    let sent = read_line(alloc, line.text.octets())?;
+    let pair = (line.station, sent.enb);
+    let device = device_for(table, bindings, pair, sent.claim)?;
+    Ok(Taken {
+        device,
+        station: line.station,
+        sent,
+    })
+}

@@ -1,0 +1,196 @@
+//! What a message says.
+
+ghost use Rattle.std.specs.Prelude.{◌≡◌, ◌==◌, length, find};
+ghost use Rattle.s1ap_messages.specs.Answer.{IsAnswer};
+ghost use Rattle.nas_kinds.specs.Reading.{nas_of};
+ghost use Rattle.entry_edge.specs.Sent.{without_place, request_of, onward_of, context_of, code_of, sent_of};
+
+use device_types::{Body, CauseCode};
+use echo_base::{Bad, Identity, Reason, Refusal};
+use nas_kinds::{NasIn, read_nas};
+use s1ap_ies::{Cause, ErabDone, Stmsi, Tai};
+use s1ap_messages::Pdu;
+use std::alloc::Global;
+
+/// How a message says which device it is from.
+#[derive(Clone, Copy, Debug, PartialEq, Eq)]
+pub enum Claim {
+    /// An INITIAL UE MESSAGE, by the device's identity.
+    Named(Identity),
+    /// Any other message, by the MME UE S1AP ID.
+    Numbered(u32),
+}
+
+/// What a message says.
+#[derive(Debug, Drop)]
+pub struct Sent {
+    /// Which device it is from.
+    pub claim: Claim,
+    /// The eNB UE S1AP ID.
+    pub enb: u32,
+    /// What it is about.
+    pub body: Body,
+}
+
+/// A refusal without a place.
+fn refused(reason: Reason) -> Refusal
+    ensures { result ≡ record { reason = reason; place = 0 } }
+{
+    Refusal { reason, place: 0 }
+}
+
+/// The NAS message of a NAS-PDU.
+fn read_nas_pdu(alloc: Global, octets: &[u8]) -> Result<NasIn, Bad>
+    ensures { IsAnswer (without_place (nas_of octets.now)) result }
+{
+    read_nas(alloc, octets)
+}
+
+/// The device and the body of a request, in a PDU of so many octets.
+fn request_of(
+    end: u64,
+    tai: Tai,
+    stmsi: Option<Stmsi>,
+    nas: NasIn,
+) -> Result<(Identity, Body), Refusal>
+    ensures { result ≡ request_of end tai stmsi nas }
+{
+    let Tai { plmn, tac } = tai;
+    let kind = nas.message_type();
+    match nas {
+        NasIn::AttachRequest {
+            identity,
+            eea,
+            eia,
+            pti,
+        } => Ok((
+            identity,
+            Body::Attach {
+                plmn,
+                tac,
+                eea,
+                eia,
+                pti,
+            },
+        )),
+        NasIn::DetachRequest { off, identity } => {
+            Ok((identity, Body::Detach { first: true, off }))
+        }
+        NasIn::AreaRequest { identity } => Ok((
+            identity,
+            Body::Area {
+                first: true,
+                plmn,
+                tac,
+            },
+        )),
+        NasIn::ServiceRequest => match stmsi {
+            Some(stmsi) => Ok((Identity::Tmsi(stmsi.tmsi), Body::Service)),
+            None => Err(Refusal {
+                reason: Reason::MissingIe(96),
+                place: end,
+            }),
+        },
+        NasIn::AttachComplete
+        | NasIn::AuthResponse { .. }
+        | NasIn::SecurityComplete
+        | NasIn::SecurityReject { .. } => Err(refused(Reason::NasKind(kind))),
+    }
+}
+
+/// The body of a message that goes on with a procedure.
+fn onward_of(tai: Tai, nas: NasIn) -> Result<Body, Refusal>
+    ensures { result ≡ onward_of tai nas }
+{
+    let Tai { plmn, tac } = tai;
+    let kind = nas.message_type();
+    match nas {
+        NasIn::AttachComplete => Ok(Body::AttachDone),
+        NasIn::DetachRequest { off, .. } => Ok(Body::Detach { first: false, off }),
+        NasIn::AreaRequest { .. } => Ok(Body::Area {
+            first: false,
+            plmn,
+            tac,
+        }),
+        NasIn::AuthResponse { res } => Ok(Body::Response { res }),
+        NasIn::SecurityComplete => Ok(Body::Secured),
+        NasIn::SecurityReject { .. } => Ok(Body::SecurityRefused),
+        NasIn::AttachRequest { .. } | NasIn::ServiceRequest => {
+            Err(refused(Reason::NasKind(kind)))
+        }
+    }
+}
+
+/// The first E-RAB 5.
+fn default_bearer(done: &[ErabDone]) -> Option<ErabDone>
+    ensures { result ≡ find (λ item. item.id == 5) done.now }
+{
+    done.iter().copied().find(|item| item.id == 5)
+}
+
+/// What a base station says of the E-RABs that it set up.
+fn context_of(done: &[ErabDone]) -> Body
+    ensures { result ≡ context_of done.now }
+{
+    match default_bearer(done) {
+        Some(item) => Body::ContextDone {
+            addr: item.address,
+            teid: item.teid,
+        },
+        None => Body::ContextFailed,
+    }
+}
+
+/// The cause as a device keeps it.
+fn code_of(cause: Cause) -> CauseCode
+    ensures { result ≡ code_of cause }
+{
+    CauseCode {
+        group: cause.group,
+        extended: cause.extended,
+        index: cause.index,
+    }
+}
+
+/// A message by the number of its device.
+fn numbered(mme: u32, enb: u32, body: Body) -> Sent
+    ensures { result ≡ record { claim = Claim.Numbered mme; enb = enb; body = body } }
+{
+    Sent {
+        claim: Claim::Numbered(mme),
+        enb,
+        body,
+    }
+}
+
+/// What a message of so many octets says.
+#[tactic(auto, unfolding(crate::specs::Sent::sent_of))]
+#[rattlefmt::skip]
+pub fn sent_of(alloc: Global, end: u64, pdu: Pdu) -> Result<Sent, Bad>
+    ensures { IsAnswer (sent_of end pdu) result }
+{
+    match pdu {
+        Pdu::InitialUeMessage { enb, nas, tai, cgi: _, rrc: _, stmsi } => {
+            let nas = read_nas_pdu(alloc, nas.octets())?;
+            let (identity, body) = request_of(end, tai, stmsi, nas)?;
+            Ok(Sent { claim: Claim::Named(identity), enb, body })
+        }
+        Pdu::UplinkNasTransport { mme, enb, nas, cgi: _, tai } => {
+            let nas = read_nas_pdu(alloc, nas.octets())?;
+            let body = onward_of(tai, nas)?;
+            Ok(numbered(mme, enb, body))
+        }
+        Pdu::InitialContextSetupResponse { mme, enb, done } => Ok(numbered(mme, enb, context_of(done.items()))),
+        Pdu::InitialContextSetupFailure { mme, enb, cause: _ } => Ok(numbered(mme, enb, Body::ContextFailed)),
+        Pdu::UeContextReleaseRequest { mme, enb, cause } => {
+            Ok(numbered(mme, enb, Body::ReleaseAsked { cause: code_of(cause) }))
+        }
+        Pdu::UeContextReleaseComplete { mme, enb } => Ok(numbered(mme, enb, Body::Released)),
+        Pdu::UeCapabilityInfoIndication { mme, enb, radio } => {
+            Ok(numbered(mme, enb, Body::Capability { octets: radio }))
+        }
+        Pdu::DownlinkNasTransport { .. } | Pdu::InitialContextSetupRequest { .. } | Pdu::UeContextReleaseCommand { .. } => {
+            Err(Bad::Refused(Refusal { reason: Reason::WrongDirection, place: 1 }))
+        }
+    }
+}

@@ -1,0 +1,5 @@
+pub mod Device
+pub mod Final
+pub mod Lines
+pub mod Session
+pub mod Show

@@ -1,0 +1,118 @@
+//! The line of a session.
+
+ghost use Rattle.std.specs.Prelude.{◌≡◌, Some};
+ghost use Rattle.report_text.specs.Lines.{hex_filled};
+ghost use Rattle.report_text.specs.Session.{stage_name, link_text, bearer_name, session_front, session_back, session_line};
+
+use device_types::{Bearer, Link, Session, Stage};
+use std::fmt;
+
+/// The name of a stage.
+fn stage_name(stage: Stage) -> &'static str
+    ensures { result.now ≡ stage_name stage }
+{
+    match stage {
+        Stage::Detached => "detached",
+        Stage::AwaitVectors => "await-vectors",
+        Stage::Authenticating => "authenticating",
+        Stage::Securing => "securing",
+        Stage::AwaitLocation => "await-location",
+        Stage::AwaitCreate => "await-create",
+        Stage::Accepting => "accepting",
+        Stage::AcceptingContext => "accepting-context",
+        Stage::AcceptingDone => "accepting-done",
+        Stage::AwaitModify => "await-modify",
+        Stage::Connecting => "connecting",
+        Stage::Connected => "connected",
+        Stage::AwaitRelease => "await-release",
+        Stage::Releasing => "releasing",
+        Stage::Idle => "idle",
+        Stage::AwaitDelete => "await-delete",
+    }
+}
+
+/// The name of what a bearer is.
+fn bearer_name(bearer: Bearer) -> &'static str
+    ensures { result.now ≡ bearer_name bearer }
+{
+    match bearer {
+        Bearer::None => "none",
+        Bearer::Made => "made",
+        Bearer::Active => "active",
+    }
+}
+
+/// A PLMN identity, in six hexadecimal digits.
+#[derive(Clone, Copy)]
+struct Plmn(u32);
+
+impl fmt::Display for Plmn {
+    ghost output = { λ plmn. Some (hex_filled 6 plmn.0) };
+
+    #[tactic(auto, using(crate::proofs::Filled::six_digits))]
+    fn fmt<W: fmt::Write>(&self, f: &mut fmt::Formatter<W>) -> fmt::Result {
+        let plmn = self.0;
+        write!(f, "{plmn:06x}")
+    }
+}
+
+/// A link, as it is printed.
+#[derive(Clone, Copy)]
+struct LinkText(Link);
+
+impl fmt::Display for LinkText {
+    ghost output = { λ link. Some (link_text link.0) };
+
+    fn fmt<W: fmt::Write>(&self, f: &mut fmt::Formatter<W>) -> fmt::Result {
+        match self.0 {
+            Link::Off => write!(f, "off"),
+            Link::On { station, enb } => write!(f, "{station}/{enb}"),
+        }
+    }
+}
+
+/// The front of the line: the stage, and where the device is.
+#[derive(Clone, Copy)]
+struct SessionFront<'a>(&'a Session);
+
+impl fmt::Display for SessionFront<'_> {
+    ghost output = { λ line. Some (session_front line.0.now) };
+
+    fn fmt<W: fmt::Write>(&self, f: &mut fmt::Formatter<W>) -> fmt::Result {
+        let session = self.0;
+        let stage = stage_name(session.stage);
+        let link = LinkText(session.link);
+        write!(f, "session {stage} link {link}")
+    }
+}
+
+/// The back of the line: the area, the bearer and the radio.
+#[derive(Clone, Copy)]
+struct SessionBack<'a>(&'a Session);
+
+impl fmt::Display for SessionBack<'_> {
+    ghost output = { λ line. Some (session_back line.0.now) };
+
+    fn fmt<W: fmt::Write>(&self, f: &mut fmt::Formatter<W>) -> fmt::Result {
+        let session = self.0;
+        let bearer = bearer_name(session.bearer);
+        let plmn = Plmn(session.plmn);
+        let tac = session.tac;
+        let radio = session.radio;
+        write!(f, "area {plmn} {tac} bearer {bearer} radio {radio}")
+    }
+}
+
+/// The line of a session, without its end.
+#[derive(Clone, Copy)]
+pub struct SessionLine<'a>(pub &'a Session);
+
+impl fmt::Display for SessionLine<'_> {
+    ghost output = { λ line. Some (session_line line.0.now) };
+
+    fn fmt<W: fmt::Write>(&self, f: &mut fmt::Formatter<W>) -> fmt::Result {
+        let front = SessionFront(self.0);
+        let back = SessionBack(self.0);
+        write!(f, "{front} {back}")
+    }
+}
