@@ -37,7 +37,7 @@ impl<const W: u64> Model for Row<W> {
 impl<const W: u64> Row<W> {
     ghost use Rattle.session_row.specs.Row.{lanes_of, kept_reply, look_at, AwaitsAtMostOne, Commits};
 
-    /// The row of a device that was never seen: no step, and nothing settled. Now it takes no memory; it may fail for want of it.
+    /// The row of a device that was never seen: no step, and nothing settled. It fails for want of memory alone.
     pub fn new(alloc: Global) -> Result<Row<W>, AllocError>
         requires { 1 ≤ W }
         ensures { IfOk result (λ row. row ≡ record { journal = []; settled = record { down = 0; gateway = 0; subscriber = 0 } }) }
