@@ -4,6 +4,8 @@
 mod awaiting;
 mod course;
 mod stepping;
+#[cfg(test)]
+mod tests;
 
 pub use awaiting::awaited;
 pub use course::alone;
