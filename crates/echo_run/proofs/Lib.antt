@@ -1,6 +1,1 @@
-pub mod LineLaws
-pub mod HexLaws
-pub mod FirstLaws
-pub mod RequestLaws
-pub mod TextLaws
-pub mod TopLaws
+pub mod EndLaws

@@ -1,4 +1,4 @@
-pub mod First
-pub mod Request
-pub mod Text
+pub mod Answer
+pub mod Command
+pub mod Ends
 pub mod Top

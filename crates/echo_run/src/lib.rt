@@ -1,14 +1,11 @@
-//! The top call: a case text is read, and the text that it calls for is written.
+//! The top call: a case text is read, and what a command makes of it is written.
 #![tactic(auto)]
 
-mod digits;
-mod first;
-mod lines;
-mod request;
-mod subscriber;
+mod answer;
+mod command;
+mod ends;
 #[cfg(test)]
 mod tests;
-mod text;
 mod top;
 
 pub use top::replay_top;

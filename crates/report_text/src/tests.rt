@@ -1,5 +1,6 @@
 //! Texts of worked messages. The octets are worked out from the standards, not taken from the program.
-ghost use Rattle.std.specs.Prelude.{All, IfOk, OnOk};
+ghost use Rattle.std.specs.Prelude.{◌^◌, ◌<◌, All, IfOk, OnOk};
+ghost use Rattle.device_types.specs.Cause.{IsCauseCode};
 ghost use Rattle.device_types.specs.Down.{IsDown};
 ghost use Rattle.device_types.specs.Subscriber.{IsSubscriber};
 
@@ -64,6 +65,8 @@ fn attached_downs(alloc: Global, row: &Subscriber) -> Result<Downs, Fail>
     let (eea, eia) = (0xe0, 0xe0);
     let nas = NasOut::SecurityCommand { eea, eia };
     push_down(&mut downs, Down::Nas { station, enb, nas })?;
+    let key = Key::zeros(alloc);
+    let _count = key.octets().len();
     let setup = Down::Setup {
         station,
         enb,
@@ -73,7 +76,7 @@ fn attached_downs(alloc: Global, row: &Subscriber) -> Result<Downs, Fail>
         teid: 1,
         eea,
         eia,
-        key: Key::zeros(alloc),
+        key,
         accept: Accept::Yes {
             plmn: 0x02_f839,
             tac: 1,
@@ -113,7 +116,21 @@ fn attached(alloc: Global, row: &Subscriber) -> Result<DeviceEnd, Fail>
     })
 }
 
+/// A release.
+fn release(station: u16, enb: u32, cause: CauseCode) -> Down
+    requires enb { enb < 2 ^ 24 }
+    requires cause { IsCauseCode cause }
+    ensures { IsDown result }
+{
+    Down::Release {
+        station,
+        enb,
+        cause,
+    }
+}
+
 /// The messages to a device that was released.
+#[tactic(auto, unfolding(device_types::specs::Cause::cause_roots))]
 fn released_downs(alloc: Global) -> Result<Downs, Fail>
     ensures { IfOk result (All IsDown) }
 {
@@ -127,19 +144,18 @@ fn released_downs(alloc: Global) -> Result<Downs, Fail>
         nas: NasOut::AreaReject { cause: 12 },
     };
     push_down(&mut downs, reject)?;
-    for (group, index) in [(2, 1), (0, 20)] {
-        let cause = CauseCode {
-            group,
-            extended: false,
-            index,
-        };
-        let release = Down::Release {
-            station,
-            enb,
-            cause,
-        };
-        push_down(&mut downs, release)?;
-    }
+    let cause = CauseCode {
+        group: 2,
+        extended: false,
+        index: 1,
+    };
+    push_down(&mut downs, release(station, enb, cause))?;
+    let cause = CauseCode {
+        group: 0,
+        extended: false,
+        index: 20,
+    };
+    push_down(&mut downs, release(station, enb, cause))?;
     Ok(downs)
 }
 
