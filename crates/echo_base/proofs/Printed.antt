@@ -15,5 +15,5 @@ pub two_digits : (n : ℕ) → n < 256 → padded_integral (format_spec 32 0 4 2
 two_digits n small = hex_byte false n small
 
 -- no reason has a number past the last
-pub unnamed : (n : ℕ) → 34 ≤ n → name_of_number n ≡ []
+pub unnamed : (n : ℕ) → 33 ≤ n → name_of_number n ≡ []
 unnamed n past = get_or_past names n [] past

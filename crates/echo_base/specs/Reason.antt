@@ -4,7 +4,7 @@ use Rattle.std.specs.Fmt.{decimal, digit_glyph}
 use Rattle.echo_base.specs.declared.reason.Identity.{Identity}
 use Rattle.echo_base.specs.declared.reason.Identity.TheVariants as identity
 use Rattle.echo_base.specs.declared.reason.Reason.{Reason}
-use Rattle.echo_base.specs.declared.reason.Reason.TheVariants.{Truncated, LongLength, NonZeroPadding, NotMinimal, OutOfRange, TooLong, SequenceExtension, BadChoice, OtherProcedure, BadCriticality, MissingIe, RepeatedIe, TrailingBytes, WrongDirection, NasShort, NasDiscriminator, NasKind, NasIdentity, BadJson, MissingColumn, BadColumn, RepeatedImsi, RepeatedTmsi, TableFull, BadSection, BadLine, TooManyLines, LineTooLong, BadHex, UnknownDevice, UnknownPair, BadSession, NotYet}
+use Rattle.echo_base.specs.declared.reason.Reason.TheVariants.{Truncated, LongLength, NonZeroPadding, NotMinimal, OutOfRange, TooLong, SequenceExtension, BadChoice, OtherProcedure, BadCriticality, MissingIe, RepeatedIe, TrailingBytes, WrongDirection, NasShort, NasDiscriminator, NasKind, NasIdentity, BadJson, MissingColumn, BadColumn, RepeatedImsi, RepeatedTmsi, TableFull, BadSection, BadLine, TooManyLines, LineTooLong, BadHex, UnknownDevice, UnknownPair, BadSession}
 
 abbrev pub reason_number : Reason → ℕ
 reason_number Truncated = 1
@@ -39,7 +39,6 @@ reason_number BadHex = 29
 reason_number (UnknownDevice identity) = 30
 reason_number (UnknownPair station enb) = 31
 reason_number BadSession = 32
-reason_number NotYet = 33
 
 -- the bare names by their numbers, where 0 has none
 abbrev pub names : List (List ℕ)
@@ -76,7 +75,6 @@ names = []
     ∷ codes "UnknownDevice"
     ∷ codes "UnknownPair"
     ∷ codes "BadSession"
-    ∷ codes "NotYet"
     ∷ []
 
 -- the bare name of the reason with that number, and nothing where no reason has it
@@ -136,4 +134,3 @@ detail_of BadHex place = []
 detail_of (UnknownDevice identity) place = codes " " ++ identity_text identity
 detail_of (UnknownPair station enb) place = codes " " ++ decimal station ++ codes " " ++ decimal enb
 detail_of BadSession place = []
-detail_of NotYet place = []

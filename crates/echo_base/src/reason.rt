@@ -126,8 +126,6 @@ pub enum Reason {
     UnknownPair(u16, u32),
     /// A session of another form than its own.
     BadSession,
-    /// What is not supported yet.
-    NotYet,
 }
 
 impl Reason {
@@ -168,7 +166,6 @@ impl Reason {
             Reason::UnknownDevice(_) => 30,
             Reason::UnknownPair(_, _) => 31,
             Reason::BadSession => 32,
-            Reason::NotYet => 33,
         }
     }
 
@@ -217,7 +214,6 @@ pub fn name_of_number(number: u8) -> &'static str
         30 => "UnknownDevice",
         31 => "UnknownPair",
         32 => "BadSession",
-        33 => "NotYet",
         _ => "",
     }
 }

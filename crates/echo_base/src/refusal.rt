@@ -73,8 +73,7 @@ impl fmt::Display for Refusal {
             | Reason::TooManyLines
             | Reason::LineTooLong
             | Reason::BadHex
-            | Reason::BadSession
-            | Reason::NotYet => Ok(()),
+            | Reason::BadSession => Ok(()),
         }
     }
 }

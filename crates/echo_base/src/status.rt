@@ -48,6 +48,9 @@ impl fmt::Display for Status {
             Status::Usage => write!(f, "echo: usage"),
             Status::CaseRefused { number, line } => {
                 let name = name_of_number(number);
+                if name.is_empty() {
+                    return write!(f, "echo: case refused {number} line {line}");
+                }
                 write!(f, "echo: case refused {number} {name} line {line}")
             }
             Status::ReadFault => write!(f, "echo: read fault"),

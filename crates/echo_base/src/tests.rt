@@ -206,7 +206,6 @@ fn prints_refusals(rt: HostRuntime) -> Result<(), Fail> {
         ),
         (0, Reason::UnknownPair(1, 1), "31 UnknownPair 1 1"),
         (0, Reason::BadSession, "32 BadSession"),
-        (0, Reason::NotYet, "33 NotYet"),
     ] {
         let text = Refusal { reason, place }.to_string(rt.alloc())?;
         assert_eq!(rt; text.as_str(), want);
@@ -230,23 +229,15 @@ fn prints_statuses(rt: HostRuntime) -> Result<(), Fail> {
         (
             Status::CaseRefused {
                 number: 33,
-                line: 0,
-            },
-            2,
-            "echo: case refused 33 NotYet line 0",
-        ),
-        (
-            Status::CaseRefused {
-                number: 34,
                 line: 1,
             },
             2,
-            "echo: case refused 34  line 1",
+            "echo: case refused 33 line 1",
         ),
         (
             Status::CaseRefused { number: 0, line: 1 },
             2,
-            "echo: case refused 0  line 1",
+            "echo: case refused 0 line 1",
         ),
         (Status::ReadFault, 3, "echo: read fault"),
         (Status::WriteFault, 4, "echo: write fault"),
