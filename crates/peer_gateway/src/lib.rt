@@ -1,0 +1,9 @@
+//! The serving gateway as the core meets it: each call of a device is done once, and answered by the subscriber's row.
+#![tactic(auto)]
+
+mod counted;
+mod gateway;
+#[cfg(test)]
+mod tests;
+
+pub use gateway::Gateway;
