@@ -1,0 +1,4 @@
+pub mod Journals
+pub mod Known
+pub mod Repeats
+pub mod Rows

@@ -1,0 +1,5 @@
+pub mod AloneLaw
+pub mod Charter
+pub mod Law
+pub mod Rows
+pub mod Seen

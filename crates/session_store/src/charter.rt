@@ -1,0 +1,67 @@
+//! What a law is under: the subscribers, and the messages of their devices.
+ghost use Rattle.std.specs.Prelude.{◌≡◌, ◌≤◌, length, All, IfOk};
+ghost use Rattle.device_types.specs.declared.message.Message.{Message};
+ghost use Rattle.session_store.specs.Charter.{CharterState, IsCharter, IsShort};
+
+use device_types::{Book, ListOf, Messages, Subscriber, TryCopy};
+use std::alloc::{AllocError, Global};
+use std::marker::Model;
+use subs_table::SubsTable;
+
+/// The rows of the subscriber table, and the messages of the device of each. Contracts see these two lists.
+#[derive(Debug, Drop)]
+pub struct Charter {
+    rows: ListOf<Subscriber>,
+    book: Book,
+}
+
+impl Model for Charter {
+    ghost use Rattle.session_store.specs.Charter.{CharterState, IsCharter};
+
+    ghost Value = { CharterState };
+
+    ghost view = { λ charter. record { rows = charter.rows; lines = charter.book } };
+
+    ghost invariant = { λ charter. IsCharter (record { rows = charter.rows; lines = charter.book }) };
+}
+
+/// The rows, each copied.
+fn copied_rows(alloc: Global, rows: &[Subscriber]) -> Result<ListOf<Subscriber>, AllocError>
+    ensures { IfOk result (λ copies. copies ≡ rows.now) }
+{
+    let mut copies = ListOf::new(alloc);
+    for row in rows {
+        copies.push(row.copy()?)?;
+    }
+    Ok(copies)
+}
+
+impl Charter {
+    /// The charter of a table and a book, both copied. It fails for want of memory alone.
+    pub fn new(alloc: Global, table: &SubsTable, book: &Book) -> Result<Charter, AllocError>
+        requires lines { length book.now ≡ length table.now }
+        requires short { All IsShort book.now }
+        ensures { IfOk result (λ charter. charter ≡ record { rows = table.now; lines = book.now }) }
+    {
+        let _lines = book.items();
+        let rows = copied_rows(alloc, table.rows())?;
+        let book = book.copy()?;
+        Ok(Charter { rows, book })
+    }
+
+    /// The rows in the order of their numbers.
+    pub fn rows(&self) -> &[Subscriber]
+        ensures rows { result.now ≡ self.now.rows }
+        ensures charter { IsCharter self.now }
+    {
+        self.rows.items()
+    }
+
+    /// The messages of each device, in the same order.
+    pub fn lines(&self) -> &[Messages]
+        ensures lines { result.now ≡ self.now.lines }
+        ensures charter { IsCharter self.now }
+    {
+        self.book.items()
+    }
+}
