@@ -1,0 +1,4 @@
+pub mod Runs
+pub mod Tests
+pub mod Laws
+pub mod Worked
