@@ -239,11 +239,11 @@ after_look s H d what (look.Old l k) a L i h e = rw e i
 after_look s H d what (look.NotAwaited n) a L i h e = rw e i
 
 -- a second read is as the first
-read_again : (a : EventAnswer) (d : ℕ) (what : Arrival) (v : ℕ) → after_read a (Ready d what v) ≡ after_read a (Taken d what)
+pub read_again : (a : EventAnswer) (d : ℕ) (what : Arrival) (v : ℕ) → after_read a (Ready d what v) ≡ after_read a (Taken d what)
 read_again (told.Ready w) d what v = refl
 read_again _ d what v = refl
 
-read_nothing : (a : EventAnswer) → after_read a Nothing ≡ Nothing
+pub read_nothing : (a : EventAnswer) → after_read a Nothing ≡ Nothing
 read_nothing (told.Ready w) = refl
 read_nothing _ = refl
 

@@ -1,4 +1,5 @@
+pub mod Laws
+pub mod Promises
 pub mod Runs
 pub mod Tests
-pub mod Laws
 pub mod Worked

@@ -1,5 +1,6 @@
 pub mod Answer
 pub mod Counts
-pub mod Lists
-pub mod Setting
 pub mod Input
+pub mod Lists
+pub mod Promise
+pub mod Setting

@@ -1,0 +1,419 @@
+-- What is promised of every list of events.
+use Rattle.std.proofs.Common.{◌≡◌, ◌==◌, ◌⊎◌, ⊎_elim, inl, inr, ℕ, suc, ◌+◌, ◌-◌, ◌≤◌, ◌<◌, Bool, true, false, cond, ◌&&◌, List, [], ◌∷◌, ◌++◌, length, take, Option, Some, None, All, refl, sym, ap, ◌∙◌, subst, arith, append_assoc, append-nil, length-append}
+use Rattle.std.specs.Prelude.{◌≢◌, ◌↔◌, slice_get, option_map, nat_le, nat_lt, IsSome}
+use Rattle.std.specs.List.{fold}
+use Rattle.std.proofs.lemmas.Bool.{cases_eq, cases_lt}
+use Rattle.std.proofs.lemmas.List.Elements.{All-head, All-tail}
+use Rattle.std.proofs.lemmas.Option.{slice_get-get_or}
+use Rattle.device_types.specs.declared.event.Event.{Event}
+use Rattle.device_types.specs.declared.event.Event.TheVariants.{Send, Take, Answer, Read, Write, Stop, Reply, Push, Effect, Settle}
+use Rattle.device_types.specs.declared.event.EventAnswer.{EventAnswer}
+use Rattle.device_types.specs.declared.event.EventAnswer.TheVariants as told
+use Rattle.device_types.specs.declared.event.Lane.{Lane}
+use Rattle.device_types.specs.declared.look.Look.{Look}
+use Rattle.device_types.specs.declared.look.Look.TheVariants as look
+use Rattle.device_types.specs.declared.step.Entry.{Entry}
+use Rattle.device_types.specs.Alone.{entry_of}
+use Rattle.device_types.specs.Journal.{effects_of, taken_count, reply_of, replies_of, awaited_call}
+use Rattle.device_types.specs.Look.{unless_awaited}
+use Rattle.device_types.proofs.Journals.{reply_stays, length-replies, taken_more}
+use Rattle.device_types.proofs.Prefixes.{full, prefix, entry_at}
+use Rattle.device_types.specs.declared.step.Reply.{Reply as StepReply}
+use Rattle.link_schedule.specs.Answer.{look_at, look_answer, looked, read_answer, write_answer, on_replica, answer, turn, history, IsEvent, Lawful}
+use Rattle.link_schedule.specs.Counts.{Turn, Arrival, Held, hand, after_read, commits, acked, accepted, message_sent, reply_sent, effect_received, journal, is_sent, is_taken, is_acked, is_accepted, is_received, is_committed, is_written, is_stopped, is_settled, is_pushed}
+use Rattle.link_schedule.specs.Counts.Arrival.{TheMessage, TheAnswer}
+use Rattle.link_schedule.specs.Counts.Held.{Nothing, Taken, Ready}
+use Rattle.link_schedule.specs.Input.{input_of, IsHand}
+use Rattle.link_schedule.specs.Promise.{is_void, IsAsBefore, Holds}
+use Rattle.link_schedule.specs.Setting.{Setting, row_of, messages_of, entries_to, entries_of}
+use Rattle.link_schedule.proofs.Laws.{version_is, accepted_bound, received_is, reply_is, hand_ok, taken_bound, read_nothing, read_again}
+use Rattle.link_schedule.proofs.Runs.{Begins-length, Begins-take, effects_begin, to_alone, to_push}
+use Rattle.link_schedule.proofs.Tests.{and_true, same_number, le_true, le_false, here, not_here, le_of, gt_of}
+
+-- ---- events make a lawful history
+
+lawful_fold : (s : Setting) (H : List Turn) (es : List Event) → Lawful s H → All (IsEvent s) es → Lawful s (fold (turn s) H es)
+lawful_fold s H [] L a = L
+lawful_fold s H (e ∷ es) L a = lawful_fold s (turn s H e) es (All-head (IsEvent s) e es a, refl, L) (All-tail (IsEvent s) e es a)
+
+pub lawful : (s : Setting) (es : List Event) → All (IsEvent s) es → Lawful s (history s es)
+lawful s es a = lawful_fold s [] es tt a
+
+-- ---- committed steps
+
+pub journal_alone : (s : Setting) (d : ℕ) (H : List Turn) → Lawful s H → journal s d H ≡ take (commits d H) (entries_of s d)
+journal_alone s d H L =
+    let b = Begins-length (journal s d H) (entries_of s d) (to_alone (row_of s d) (messages_of s d) (commits d H)) in
+    let v = version_is s d H L in
+    sym (prefix (row_of s d) (messages_of s d) (commits d H) (omega arith))
+
+-- ---- accepted effects
+
+pub accepted_alone : (s : Setting) (d : ℕ) (l : Lane) (H : List Turn) → Lawful s H → take (accepted d l H) (effects_of l (journal s d H)) ≡ take (accepted d l H) (effects_of l (entries_of s d))
+accepted_alone s d l H L = sym (Begins-take (effects_of l (journal s d H)) (effects_of l (entries_of s d)) (accepted d l H) (effects_begin l (journal s d H) (entries_of s d) (to_alone (row_of s d) (messages_of s d) (commits d H))) (accepted_bound s d l H L))
+
+-- ---- writes
+
+on : (s : Setting) (r : ℕ) (a : EventAnswer) → r ≤ s.replicas → on_replica s r a ≡ a
+on s r a h = rw (le_true r s.replicas h) refl
+
+commits_here : (H : List Turn) (d v : ℕ) → commits d H ≡ v → (commits d H == v) ≡ true
+commits_here H d v h = rw h (here v)
+
+committed_here : (b : Bool) (v w : ℕ) → cond b (told.Committed (v + 1)) (told.Stale v w) ≡ told.Committed (v + 1) → b ≡ true
+committed_here true v w h = refl
+committed_here false v w h = absurd (let f = ap is_committed h in cc)
+
+-- a step is committed exactly where the version that was read is current
+pub writes_current : (s : Setting) (H : List Turn) (r d v : ℕ) (what : Arrival) → r ≤ s.replicas → hand r H ≡ Ready d what v → (answer s H (Write r) ≡ told.Committed (v + 1)) ↔ (commits d H ≡ v)
+writes_current s H r d v what low h =
+    let e : answer s H (Write r) ≡ cond (commits d H == v) (told.Committed (v + 1)) (told.Stale v (commits d H)) = on s r (write_answer H (hand r H)) low ∙ ap (write_answer H) h in
+    ((λ c. same_number (commits d H) v (committed_here (commits d H == v) v (commits d H) (sym e ∙ c))), (λ c. e ∙ ap (λ b. cond b (told.Committed (v + 1)) (told.Stale v (commits d H))) (commits_here H d v c)))
+
+-- and is stale otherwise
+pub writes_stale : (s : Setting) (H : List Turn) (r d v : ℕ) (what : Arrival) → r ≤ s.replicas → hand r H ≡ Ready d what v → commits d H ≢ v → answer s H (Write r) ≡ told.Stale v (commits d H)
+writes_stale s H r d v what low h ne =
+    on s r (write_answer H (hand r H)) low ∙ ap (write_answer H) h ∙ ap (λ b. cond b (told.Committed (v + 1)) (told.Stale v (commits d H))) (not_here v (commits d H) ne)
+
+-- the step of a hand is the next one of the machine that never fails
+pub step_is_next : (s : Setting) (H : List Turn) (r d v : ℕ) (what : Arrival) → Lawful s H → hand r H ≡ Ready d what v → slice_get (entries_of s d) v ≡ Some (entry_of (row_of s d) (entries_to s d v) (input_of s d what))
+step_is_next s H r d v what L h =
+    let row = row_of s d in
+    let ms = messages_of s d in
+    let i = subst (IsHand s H) h (hand_ok s r H L) in
+    let e = entry_of row (entries_to s d v) (input_of s d what) in
+    let more = ap length (to_push row ms v (input_of s d what) i.3) ∙ length-append (entries_to s d v) (e ∷ []) in
+    let room = Begins-length (entries_to s d (suc v)) (entries_of s d) (to_alone row ms (suc v)) in
+    let all = full row ms v (input_of s d what) i.3 in
+    sym (entry_at row ms v (omega arith)) ∙ ap (option_map (entry_of row (entries_to s d v))) i.3
+
+-- ---- with one replica
+
+abbrev IsCurrent : List Turn → Held → Type 0
+IsCurrent H Nothing = Unit {0}
+IsCurrent H (Taken d what) = Unit {0}
+IsCurrent H (Ready d what v) = v ≡ commits d H
+
+current_more : (H K : List Turn) (h : Held) → ((d : ℕ) → commits d K ≡ commits d H) → IsCurrent H h → IsCurrent K h
+current_more H K Nothing same c = tt
+current_more H K (Taken d what) same c = tt
+current_more H K (Ready d what v) same c = c ∙ sym (same d)
+
+current_if : (H : List Turn) (b : Bool) (x y : Held) → (b ≡ true → IsCurrent H x) → (b ≡ false → IsCurrent H y) → IsCurrent H (cond b x y)
+current_if H true x y i j = i refl
+current_if H false x y i j = j refl
+
+look_current : (H : List Turn) (d : ℕ) (what : Arrival) (l : Look) (a : EventAnswer) → a ≡ look_answer (commits d H) l → IsCurrent H (after_read a (Taken d what))
+look_current H d what look.Ready a e = rw e refl
+look_current H d what (look.Repeat n) a e = rw e tt
+look_current H d what (look.Settled n) a e = rw e tt
+look_current H d what (look.Ahead n) a e = rw e tt
+look_current H d what (look.Waiting l k) a e = rw e tt
+look_current H d what (look.Old l k) a e = rw e tt
+look_current H d what (look.NotAwaited n) a e = rw e tt
+
+read_current : (s : Setting) (H : List Turn) (h : Held) (b : Bool) (a : EventAnswer) → a ≡ cond b (read_answer s H h) told.VoidReplica → IsCurrent H (after_read a h)
+read_current s H Nothing b a e = rw (read_nothing a) tt
+read_current s H (Taken d what) true a e = look_current H d what (look_at (journal s d H) what) a e
+read_current s H (Taken d what) false a e = rw e tt
+read_current s H (Ready d what v) true a e = rw (read_again a d what v) (look_current H d what (look_at (journal s d H) what) a e)
+read_current s H (Ready d what v) false a e = rw e tt
+
+skips : (b : Bool) (x y : Held) → (b ≡ true → ⊥) → cond b x y ≡ y
+skips true x y h = absurd (h refl)
+skips false x y h = refl
+
+both : (b : Bool) (x : Held) → cond b x x ≡ x
+both true x = refl
+both false x = refl
+
+-- a replica that there is not holds nothing
+pub no_hand : (s : Setting) (r : ℕ) (H : List Turn) → Lawful s H → nat_le r s.replicas ≡ false → hand r H ≡ Nothing
+no_hand s r [] L none = refl
+no_hand s r ((Take q d n, a) ∷ H) L none =
+    skips (is_taken a && (q == r)) _ (hand r H)
+    (λ b. let p = and_true (is_taken a) (q == r) b in
+    let e : is_taken a ≡ false = ap is_taken L.1 ∙ ap (λ i. is_taken (on_replica s i (cond (message_sent d.0 n H) told.Taken told.VoidLink))) (same_number q r p.1) ∙ ap (λ c. is_taken (cond c (cond (message_sent d.0 n H) told.Taken told.VoidLink) told.VoidReplica)) none in
+    let f = p.0 in cc)
+    ∙ no_hand s r H L.2 none
+no_hand s r ((Answer q d l k, a) ∷ H) L none =
+    skips (is_taken a && (q == r)) _ (hand r H)
+    (λ b. let p = and_true (is_taken a) (q == r) b in
+    let e : is_taken a ≡ false = ap is_taken L.1 ∙ ap (λ i. is_taken (on_replica s i (cond (effect_received d.0 l k H) told.Taken told.VoidLink))) (same_number q r p.1) ∙ ap (λ c. is_taken (cond c (cond (effect_received d.0 l k H) told.Taken told.VoidLink) told.VoidReplica)) none in
+    let f = p.0 in cc)
+    ∙ no_hand s r H L.2 none
+no_hand s r ((Read q, a) ∷ H) L none = rw (no_hand s r H L.2 none, read_nothing a) (both (q == r) Nothing)
+no_hand s r ((Write q, a) ∷ H) L none = rw (no_hand s r H L.2 none) (both (is_written a && (q == r)) Nothing)
+no_hand s r ((Stop q, a) ∷ H) L none = rw (no_hand s r H L.2 none) (both (is_stopped a && (q == r)) Nothing)
+no_hand s r ((_, a) ∷ H) L none = no_hand s r H L.2 none
+
+-- a void write commits nothing
+commits_if : (d r : ℕ) (H : List Turn) (a : EventAnswer) → is_committed a ≡ false → commits d ((Write r, a) ∷ H) ≡ commits d H
+commits_if d r H a h = rw h refl
+
+written_if : (a : EventAnswer) → is_written a ≡ false → is_committed a ≡ false
+written_if told.Sent h = refl
+written_if told.Taken h = refl
+written_if told.Stopped h = refl
+written_if told.Pushed h = refl
+written_if told.VoidReplica h = refl
+written_if told.VoidWindow h = refl
+written_if told.VoidLink h = refl
+written_if told.VoidHand h = refl
+written_if told.VoidOutbox h = refl
+written_if (told.Ready v) h = refl
+written_if (told.Waiting l k) h = refl
+written_if (told.Repeat n) h = refl
+written_if (told.Settled n) h = refl
+written_if (told.Ahead n) h = refl
+written_if (told.OldCall l k) h = refl
+written_if (told.Committed v) h = absurd (cc)
+written_if (told.Stale v w) h = refl
+written_if (told.Acked n) h = refl
+written_if (told.Accepted k) h = refl
+written_if (told.Old k) h = refl
+
+and_false : (b c : Bool) → (b && c) ≡ false → (b ≡ false) ⊎ (c ≡ false)
+and_false true c h = inr h
+and_false false c h = inl refl
+
+none_above : (s : Setting) (r : ℕ) → s.replicas ≤ 1 → 1 < r → nat_le r s.replicas ≡ false
+none_above s r one more = le_false r s.replicas (omega arith)
+
+-- the one replica's step is at the version that its device has
+pub current : (s : Setting) (r : ℕ) (H : List Turn) → Lawful s H → s.replicas ≤ 1 → 1 ≤ r → IsCurrent H (hand r H)
+current s r [] L one low = tt
+current s r ((Take q d n, a) ∷ H) L one low =
+    let K = (Take q d n, a) ∷ H in
+    current_if K (is_taken a && (q == r)) (Taken d.0 (TheMessage n)) (hand r H) (λ b. tt) (λ b. current_more H K (hand r H) (λ d. refl) (current s r H L.2 one low))
+current s r ((Answer q d l k, a) ∷ H) L one low =
+    let K = (Answer q d l k, a) ∷ H in
+    current_if K (is_taken a && (q == r)) (Taken d.0 (TheAnswer l k)) (hand r H) (λ b. tt) (λ b. current_more H K (hand r H) (λ d. refl) (current s r H L.2 one low))
+current s r ((Read q, a) ∷ H) L one low =
+    let K = (Read q, a) ∷ H in
+    current_if K (q == r) (after_read a (hand r H)) (hand r H)
+    (λ b. let e : a ≡ on_replica s r (read_answer s H (hand r H)) = rw (same_number q r b) at L.1 in
+    current_more H K (after_read a (hand r H)) (λ d. refl) (read_current s H (hand r H) (nat_le r s.replicas) a e))
+    (λ b. current_more H K (hand r H) (λ d. refl) (current s r H L.2 one low))
+current s r ((Write q, a) ∷ H) L one low =
+    let K = (Write q, a) ∷ H in
+    current_if K (is_written a && (q == r)) Nothing (hand r H) (λ b. tt)
+    (λ b. ⊎_elim
+    (λ (not : is_written a ≡ false). current_more H K (hand r H) (λ d. commits_if d q H a (written_if a not)) (current s r H L.2 one low))
+    (λ (other : (q == r) ≡ false).
+    ⊎_elim
+    (λ (above : 1 < q).
+    let void : a ≡ told.VoidReplica = L.1 ∙ ap (λ c. cond c (write_answer H (hand q H)) told.VoidReplica) (none_above s q one above) in
+    current_more H K (hand r H) (λ d. commits_if d q H a (ap is_committed void)) (current s r H L.2 one low))
+    (λ (first : q ≤ 1).
+    let is : q ≡ 1 = let at = L.0.0 in omega arith in
+    let apart : q ≡ r → ⊥ = λ (e : q ≡ r). (let t : (q == r) ≡ true = rw e (here r) in cc) in
+    let above : 1 < r = ⊎_elim (λ (e : r ≡ 1). absurd (apart (is ∙ sym e))) (λ (ne : r ≡ 1 → ⊥). omega (arith, low, ne)) (cases_eq r 1) in
+    rw (no_hand s r H L.2 (none_above s r one above)) tt)
+    (cases_lt 1 q))
+    (and_false (is_written a) (q == r) b))
+current s r ((Stop q, a) ∷ H) L one low =
+    let K = (Stop q, a) ∷ H in
+    current_if K (is_stopped a && (q == r)) Nothing (hand r H) (λ b. tt) (λ b. current_more H K (hand r H) (λ d. refl) (current s r H L.2 one low))
+current s r ((Send d n, a) ∷ H) L one low = current_more H ((Send d n, a) ∷ H) (hand r H) (λ d. refl) (current s r H L.2 one low)
+current s r ((Reply d n, a) ∷ H) L one low = current_more H ((Reply d n, a) ∷ H) (hand r H) (λ d. refl) (current s r H L.2 one low)
+current s r ((Push d l k, a) ∷ H) L one low = current_more H ((Push d l k, a) ∷ H) (hand r H) (λ d. refl) (current s r H L.2 one low)
+current s r ((Effect d l k, a) ∷ H) L one low = current_more H ((Effect d l k, a) ∷ H) (hand r H) (λ d. refl) (current s r H L.2 one low)
+current s r ((Settle d l k, a) ∷ H) L one low = current_more H ((Settle d l k, a) ∷ H) (hand r H) (λ d. refl) (current s r H L.2 one low)
+
+abbrev is_stale : EventAnswer → Bool
+is_stale (told.Stale v w) = true
+is_stale _ = false
+
+fresh : (H : List Turn) (h : Held) (b : Bool) → IsCurrent H h → is_stale (cond b (write_answer H h) told.VoidReplica) ≡ false
+fresh H h false c = refl
+fresh H Nothing true c = refl
+fresh H (Taken d what) true c = refl
+fresh H (Ready d what v) true c = rw (commits_here H d v (sym c)) refl
+
+pub never_stale : (s : Setting) (H : List Turn) (r v w : ℕ) → Lawful s H → s.replicas ≤ 1 → 1 ≤ r → answer s H (Write r) ≢ told.Stale v w
+never_stale s H r v w L one low = λ h. let f = fresh H (hand r H) (nat_le r s.replicas) (current s r H L one low) in let g = ap is_stale h in cc
+
+-- ---- reads
+
+reads : (s : Setting) (H : List Turn) (d : ℕ) (what : Arrival) (h : Held) → Holds d what h → read_answer s H h ≡ looked s H d what
+reads s H d what Nothing i = absurd (i)
+reads s H d what (Taken e other) i = rw (i.0, i.1) refl
+reads s H d what (Ready e other v) i = rw (i.0, i.1) refl
+
+pub read_is : (s : Setting) (H : List Turn) (r d : ℕ) (what : Arrival) → r ≤ s.replicas → Holds d what (hand r H) → answer s H (Read r) ≡ looked s H d what
+read_is s H r d what low i = on s r (read_answer s H (hand r H)) low ∙ reads s H d what (hand r H) i
+
+abbrev is_settled_look : Look → Bool
+is_settled_look (look.Settled n) = true
+is_settled_look _ = false
+
+abbrev is_repeat_look : Look → Bool
+is_repeat_look (look.Repeat n) = true
+is_repeat_look _ = false
+
+settled_look : (v n : ℕ) (l : Look) → look_answer v l ≡ told.Settled n → is_settled_look l ≡ true
+settled_look v n look.Ready h = absurd (let f = ap is_settled h in cc)
+settled_look v n (look.Repeat m) h = absurd (let f = ap is_settled h in cc)
+settled_look v n (look.Settled m) h = refl
+settled_look v n (look.Ahead m) h = absurd (let f = ap is_settled h in cc)
+settled_look v n (look.Waiting l k) h = absurd (let f = ap is_settled h in cc)
+settled_look v n (look.Old l k) h = absurd (let f = ap is_settled h in cc)
+settled_look v n (look.NotAwaited m) h = absurd (let f = ap is_settled h in cc)
+
+abbrev is_repeat : EventAnswer → Bool
+is_repeat (told.Repeat n) = true
+is_repeat _ = false
+
+repeat_look : (v n : ℕ) (l : Look) → look_answer v l ≡ told.Repeat n → is_repeat_look l ≡ true
+repeat_look v n look.Ready h = absurd (let f = ap is_repeat h in cc)
+repeat_look v n (look.Repeat m) h = refl
+repeat_look v n (look.Settled m) h = absurd (let f = ap is_repeat h in cc)
+repeat_look v n (look.Ahead m) h = absurd (let f = ap is_repeat h in cc)
+repeat_look v n (look.Waiting l k) h = absurd (let f = ap is_repeat h in cc)
+repeat_look v n (look.Old l k) h = absurd (let f = ap is_repeat h in cc)
+repeat_look v n (look.NotAwaited m) h = absurd (let f = ap is_repeat h in cc)
+
+unless : (o : Option (Lane × ℕ)) → (is_settled_look (unless_awaited o) ≡ false) × (is_repeat_look (unless_awaited o) ≡ false)
+unless None = (refl, refl)
+unless (Some call) = (refl, refl)
+
+settled_first : (b1 b2 b3 : Bool) (n t : ℕ) (w : Look) → is_settled_look w ≡ false → is_settled_look (cond b1 (look.Settled n) (cond b2 (look.Repeat n) (cond b3 (look.Ahead t) w))) ≡ true → b1 ≡ true
+settled_first true b2 b3 n t w not h = refl
+settled_first false true b3 n t w not h = absurd (cc)
+settled_first false false true n t w not h = absurd (cc)
+settled_first false false false n t w not h = absurd (cc)
+
+repeat_second : (b1 b2 b3 : Bool) (n t : ℕ) (w : Look) → is_repeat_look w ≡ false → is_repeat_look (cond b1 (look.Settled n) (cond b2 (look.Repeat n) (cond b3 (look.Ahead t) w))) ≡ true → (b1 ≡ false) × (b2 ≡ true)
+repeat_second true b2 b3 n t w not h = absurd (cc)
+repeat_second false true b3 n t w not h = (refl, refl)
+repeat_second false false true n t w not h = absurd (cc)
+repeat_second false false false n t w not h = absurd (cc)
+
+-- a message that is not acknowledged is never told to be settled
+pub not_settled : (s : Setting) (H : List Turn) (r d n : ℕ) → Lawful s H → r ≤ s.replicas → Holds d (TheMessage n) (hand r H) → acked d H < n → answer s H (Read r) ≢ told.Settled n
+not_settled s H r d n L low i more = λ h.
+    let J = journal s d H in
+    let t = taken_count J in
+    let b = settled_first (nat_le (n + 4) t) (nat_le n t) (nat_lt (t + 1) n) n t (unless_awaited (awaited_call J)) (unless (awaited_call J)).0 (settled_look (commits d H) n (look_at J (TheMessage n)) (sym (read_is s H r d (TheMessage n) low i) ∙ h)) in
+    let behind = le_of (n + 4) t b in
+    let near = taken_bound s d H L in
+    omega arith
+
+-- a message is repeated exactly where it was taken, and its reply is kept
+pub repeats : (s : Setting) (H : List Turn) (r d n : ℕ) → r ≤ s.replicas → Holds d (TheMessage n) (hand r H) → (answer s H (Read r) ≡ told.Repeat n) ↔ ((n ≤ taken_count (journal s d H)) × (taken_count (journal s d H) < n + 4))
+repeats s H r d n low i =
+    let J = journal s d H in
+    let t = taken_count J in
+    let e = read_is s H r d (TheMessage n) low i in (
+      (λ h.
+          let b = repeat_second (nat_le (n + 4) t) (nat_le n t) (nat_lt (t + 1) n) n t (unless_awaited (awaited_call J)) (unless (awaited_call J)).1 (repeat_look (commits d H) n (look_at J (TheMessage n)) (sym e ∙ h)) in
+          (le_of n t b.1, gt_of (n + 4) t b.0)),
+      (λ h. let kept : look_at J (TheMessage n) ≡ look.Repeat n = rw (le_false (n + 4) t h.1, le_true n t h.0) refl in
+          e ∙ ap (look_answer (commits d H)) kept),
+    )
+
+-- ---- replies
+
+no_reply : StepReply
+no_reply = record { number = 0; version = 0; downs = [] }
+
+reply_begins : (J rest : List Entry) (n : ℕ) → 1 ≤ n → n ≤ taken_count J → reply_of (J ++ rest) n ≡ reply_of J n
+reply_begins J [] n low high = ap (λ K. reply_of K n) (append-nil J)
+reply_begins J (e ∷ rest) n low high =
+    let more = taken_more J e in
+    ap (λ K. reply_of K n) (sym (append_assoc J (e ∷ []) rest)) ∙ reply_begins (J ++ e ∷ []) rest n low (omega arith) ∙ reply_stays J e n low high
+
+-- the stored reply to a message is that of the machine that never fails
+pub reply_alone : (s : Setting) (d n : ℕ) (H : List Turn) → 1 ≤ n → n ≤ taken_count (journal s d H) → reply_of (journal s d H) n ≡ reply_of (entries_of s d) n
+reply_alone s d n H low high =
+    let b = to_alone (row_of s d) (messages_of s d) (commits d H) in
+    sym (ap (λ K. reply_of K n) (sym b.1) ∙ reply_begins (journal s d H) b.0 n low high)
+
+pub reply_there : (s : Setting) (d n : ℕ) (H : List Turn) → 1 ≤ n → n ≤ taken_count (journal s d H) → IsSome (reply_of (journal s d H) n)
+reply_there s d n H low high =
+    let J = journal s d H in
+    let count = length-replies J in
+    subst IsSome (sym (slice_get-get_or (replies_of J) (n - 1) no_reply (omega arith))) refl
+
+-- ---- void events
+
+record IsPlain (a : EventAnswer) : Type 0 where
+  sent : is_sent a ≡ false
+  taken : is_taken a ≡ false
+  stopped : is_stopped a ≡ false
+  pushed : is_pushed a ≡ false
+  committed : is_committed a ≡ false
+  written : is_written a ≡ false
+  acknowledged : is_acked a ≡ false
+  accepts : is_accepted a ≡ false
+  received : is_received a ≡ false
+  settles : is_settled a ≡ false
+
+plain : (a : EventAnswer) → is_void a ≡ true → IsPlain a
+plain told.VoidReplica h = record { sent = refl; taken = refl; stopped = refl; pushed = refl; committed = refl; written = refl; acknowledged = refl; accepts = refl; received = refl; settles = refl }
+plain told.VoidWindow h = record { sent = refl; taken = refl; stopped = refl; pushed = refl; committed = refl; written = refl; acknowledged = refl; accepts = refl; received = refl; settles = refl }
+plain told.VoidLink h = record { sent = refl; taken = refl; stopped = refl; pushed = refl; committed = refl; written = refl; acknowledged = refl; accepts = refl; received = refl; settles = refl }
+plain told.VoidHand h = record { sent = refl; taken = refl; stopped = refl; pushed = refl; committed = refl; written = refl; acknowledged = refl; accepts = refl; received = refl; settles = refl }
+plain told.VoidOutbox h = record { sent = refl; taken = refl; stopped = refl; pushed = refl; committed = refl; written = refl; acknowledged = refl; accepts = refl; received = refl; settles = refl }
+plain told.Sent h = absurd (cc)
+plain told.Taken h = absurd (cc)
+plain told.Stopped h = absurd (cc)
+plain told.Pushed h = absurd (cc)
+plain (told.Ready v) h = absurd (cc)
+plain (told.Waiting l k) h = absurd (cc)
+plain (told.Repeat n) h = absurd (cc)
+plain (told.Settled n) h = absurd (cc)
+plain (told.Ahead n) h = absurd (cc)
+plain (told.OldCall l k) h = absurd (cc)
+plain (told.Committed v) h = absurd (cc)
+plain (told.Stale v w) h = absurd (cc)
+plain (told.Acked n) h = absurd (cc)
+plain (told.Accepted k) h = absurd (cc)
+plain (told.Old k) h = absurd (cc)
+
+look_not_void : (v : ℕ) (l : Look) → is_void (look_answer v l) ≡ false
+look_not_void v look.Ready = refl
+look_not_void v (look.Repeat m) = refl
+look_not_void v (look.Settled m) = refl
+look_not_void v (look.Ahead m) = refl
+look_not_void v (look.Waiting l k) = refl
+look_not_void v (look.Old l k) = refl
+look_not_void v (look.NotAwaited m) = refl
+
+void_read : (s : Setting) (H : List Turn) (h : Held) (b : Bool) (a : EventAnswer) → (b ≡ false → h ≡ Nothing) → a ≡ cond b (read_answer s H h) told.VoidReplica → is_void a ≡ true → after_read a h ≡ h
+void_read s H h false a none e v = rw (none refl) (read_nothing a)
+void_read s H Nothing true a none e v = read_nothing a
+void_read s H (Taken d what) true a none e v = absurd (let f = look_not_void (commits d H) (look_at (journal s d H) what) in let g = ap is_void e in cc)
+void_read s H (Ready d what w) true a none e v = absurd (let f = look_not_void (commits d H) (look_at (journal s d H) what) in let g = ap is_void e in cc)
+
+read_stays : (s : Setting) (H : List Turn) (q r : ℕ) (b : Bool) (a : EventAnswer) → Lawful s H → a ≡ answer s H (Read q) → is_void a ≡ true → (q == r) ≡ b → cond b (after_read a (hand r H)) (hand r H) ≡ hand r H
+read_stays s H q r false a L e v same = refl
+read_stays s H q r true a L e v same =
+    let at : a ≡ on_replica s r (read_answer s H (hand r H)) = rw (same_number q r same) at e in
+    void_read s H (hand r H) (nat_le r s.replicas) a (λ none. no_hand s r H L none) at v
+
+-- a void event changes nothing
+pub void_stays : (s : Setting) (H : List Turn) (e : Event) (a : EventAnswer) → Lawful s H → a ≡ answer s H e → is_void a ≡ true → IsAsBefore H ((e, a) ∷ H)
+void_stays s H (Send d n) a L is v = let p = plain a v in record { hands = λ r. refl; committed = λ d. refl; acknowledged = λ d. refl; greatest = λ d. rw p.sent refl; accepts = λ d l. refl; settles = λ d l. refl; messages = λ d n. rw p.sent refl; replies = λ d n. refl; effects = λ d l k. refl; answers = λ d l k. refl }
+void_stays s H (Take q d n) a L is v = let p = plain a v in record { hands = λ r. rw p.taken refl; committed = λ d. refl; acknowledged = λ d. refl; greatest = λ d. refl; accepts = λ d l. refl; settles = λ d l. refl; messages = λ d n. refl; replies = λ d n. refl; effects = λ d l k. refl; answers = λ d l k. refl }
+void_stays s H (Answer q d l k) a L is v = let p = plain a v in record { hands = λ r. rw p.taken refl; committed = λ d. refl; acknowledged = λ d. refl; greatest = λ d. refl; accepts = λ d l. refl; settles = λ d l. refl; messages = λ d n. refl; replies = λ d n. refl; effects = λ d l k. refl; answers = λ d l k. refl }
+void_stays s H (Read q) a L is v = let p = plain a v in record { hands = λ r. read_stays s H q r (q == r) a L is v refl; committed = λ d. refl; acknowledged = λ d. refl; greatest = λ d. refl; accepts = λ d l. refl; settles = λ d l. refl; messages = λ d n. refl; replies = λ d n. refl; effects = λ d l k. refl; answers = λ d l k. refl }
+void_stays s H (Write q) a L is v = let p = plain a v in record { hands = λ r. rw p.written refl; committed = λ d. rw p.committed refl; acknowledged = λ d. refl; greatest = λ d. refl; accepts = λ d l. refl; settles = λ d l. refl; messages = λ d n. refl; replies = λ d n. rw p.committed refl; effects = λ d l k. refl; answers = λ d l k. refl }
+void_stays s H (Stop q) a L is v = let p = plain a v in record { hands = λ r. rw p.stopped refl; committed = λ d. refl; acknowledged = λ d. refl; greatest = λ d. refl; accepts = λ d l. refl; settles = λ d l. refl; messages = λ d n. refl; replies = λ d n. refl; effects = λ d l k. refl; answers = λ d l k. refl }
+void_stays s H (Reply d n) a L is v = let p = plain a v in record { hands = λ r. refl; committed = λ d. refl; acknowledged = λ d. rw p.acknowledged refl; greatest = λ d. refl; accepts = λ d l. refl; settles = λ d l. refl; messages = λ d n. refl; replies = λ d n. refl; effects = λ d l k. refl; answers = λ d l k. refl }
+void_stays s H (Push d l k) a L is v = let p = plain a v in record { hands = λ r. refl; committed = λ d. refl; acknowledged = λ d. refl; greatest = λ d. refl; accepts = λ d l. refl; settles = λ d l. refl; messages = λ d n. refl; replies = λ d n. refl; effects = λ d l k. rw p.pushed refl; answers = λ d l k. refl }
+void_stays s H (Effect d l k) a L is v = let p = plain a v in record { hands = λ r. refl; committed = λ d. refl; acknowledged = λ d. refl; greatest = λ d. refl; accepts = λ d l. rw p.accepts refl; settles = λ d l. refl; messages = λ d n. refl; replies = λ d n. refl; effects = λ d l k. refl; answers = λ d l k. rw p.received refl }
+void_stays s H (Settle d l k) a L is v = let p = plain a v in record { hands = λ r. refl; committed = λ d. refl; acknowledged = λ d. refl; greatest = λ d. refl; accepts = λ d l. refl; settles = λ d l. rw p.settles refl; messages = λ d n. refl; replies = λ d n. refl; effects = λ d l k. refl; answers = λ d l k. refl }
+
+-- ---- tests and bounds
+
+pub received_where : (s : Setting) (d : ℕ) (l : Lane) (k : ℕ) (H : List Turn) → Lawful s H → 1 ≤ k → (effect_received d l k H ≡ true) ↔ (k ≤ accepted d l H)
+received_where s d l k H L low =
+    let e = received_is s d l k H L low in
+    ((λ h. le_of k (accepted d l H) (sym e ∙ h)), (λ h. e ∙ le_true k (accepted d l H) h))
+
+pub reply_where : (s : Setting) (d n : ℕ) (H : List Turn) → Lawful s H → 1 ≤ n → (reply_sent d n H ≡ true) ↔ (n ≤ taken_count (journal s d H))
+reply_where s d n H L low =
+    let e = reply_is s d n H L low in
+    ((λ h. le_of n (taken_count (journal s d H)) (sym e ∙ h)), (λ h. e ∙ le_true n (taken_count (journal s d H)) h))
