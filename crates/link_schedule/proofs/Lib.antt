@@ -1,3 +1,5 @@
+pub mod Events
+pub mod Items
 pub mod Laws
 pub mod Promises
 pub mod Runs

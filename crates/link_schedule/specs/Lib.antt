@@ -4,3 +4,4 @@ pub mod Input
 pub mod Lists
 pub mod Promise
 pub mod Setting
+pub mod World
