@@ -76,7 +76,7 @@ row_same s H K d same = rw (same.committed d, same.settles d Down, same.settles 
 accepted_same : (s : Setting) (H K : List Turn) (l : Lane) (d : ℕ) → IsSame H K → accepted_effects s l H d ≡ accepted_effects s l K d
 accepted_same s H K l d same = rw (same.accepts d l) refl
 
-window_same : (s : Setting) (H K : List Turn) (d : ℕ) (w : WindowState) → acked d K ≡ acked d H → greatest_sent d K ≡ greatest_sent d H → accepted d Down K ≡ accepted d Down H → IsWindowOf s H d w → IsWindowOf s K d w
+pub window_same : (s : Setting) (H K : List Turn) (d : ℕ) (w : WindowState) → acked d K ≡ acked d H → greatest_sent d K ≡ greatest_sent d H → accepted d Down K ≡ accepted d Down H → IsWindowOf s H d w → IsWindowOf s K d w
 window_same s H K d w a g c i = record { line = rw a i.line; greatest = rw g i.greatest; downs = rw c i.downs }
 
 pub stays : (s : Setting) (H K : List Turn) (p : Parts) → IsSame H K → ArePartsOf s H p → ArePartsOf s K p

@@ -1,5 +1,6 @@
 pub mod Events
 pub mod Items
+pub mod Lanes
 pub mod Laws
 pub mod Promises
 pub mod Runs

@@ -1,5 +1,5 @@
 -- A world, and what its parts are after its events.
-use Rattle.std.specs.Prelude.{◌≡◌, ℕ, ◌+◌, ◌-◌, ◌≤◌, Bool, List, [], ◌∷◌, ◌++◌, length, map, take, All, Option, Some, None, if◌then◌else◌, nat_le, slice_get, slice_index_or}
+use Rattle.std.specs.Prelude.{◌≡◌, ◌==◌, ◌&&◌, ◌||◌, ℕ, ◌+◌, ◌-◌, ◌≤◌, Bool, List, [], ◌∷◌, ◌++◌, length, map, take, All, Option, Some, None, if◌then◌else◌, nat_le, slice_get, slice_index_or}
 use Rattle.agent_order.specs.Order.{LineState, message_at}
 use Rattle.agent_resend.specs.Window.{WindowState}
 use Rattle.device_types.specs.declared.effect.Effect.{Effect}
@@ -18,6 +18,7 @@ use Rattle.device_types.specs.declared.step.Reply.{Reply}
 use Rattle.device_types.specs.Alone.{entry_of}
 use Rattle.device_types.specs.Journal.{effects_of, taken_count, reply_of}
 use Rattle.device_types.specs.Line.{IsLine}
+use Rattle.device_types.specs.Look.{same_lane}
 use Rattle.device_types.specs.Numbers.{IsWithin}
 use Rattle.device_types.specs.PeerAnswer.{answer_of}
 use Rattle.device_types.specs.Subscriber.{IsSubscriber}
@@ -48,6 +49,10 @@ abbrev pub marks_on : LaneMarks → Lane → List Bool
 marks_on marks Down = marks.down
 marks_on marks Gateway = marks.gateway
 marks_on marks Subscriber = marks.subscriber
+
+-- the new marks have this effect too
+abbrev pub MarksOn : LaneMarks → LaneMarks → Lane → ℕ → Type 0
+MarksOn old new l k = (m : Lane) (j : ℕ) → 1 ≤ j → has j (marks_on new m) ≡ ((same_lane m l && (j == k)) || has j (marks_on old m))
 
 -- by device, from 1: the rows of the store, the agents' windows, what the two peers have accepted, and marks of the messages that
 -- were sent and of the effects that were pushed; by replica, from 1: the hands
