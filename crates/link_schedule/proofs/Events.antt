@@ -1,18 +1,11 @@
 -- Each event keeps the parts of a world.
-use Rattle.std.proofs.Common.{◌≡◌, ◌==◌, ◌⊎◌, ⊎_elim, inl, inr, ℕ, suc, ◌+◌, ◌-◌, ◌≤◌, ◌<◌, max, Bool, true, false, cond, ◌&&◌, ◌||◌, List, [], ◌∷◌, ◌++◌, length, take, drop, set, get_or, replicate, Some, refl, sym, ap, ◌∙◌, subst, arith}
-use Rattle.std.specs.Prelude.{map, nat_le, nat_lt, slice_index_or}
-use Rattle.std.proofs.lemmas.Grind.{common_steps}
-use Rattle.std.proofs.lemmas.List.{map-append, take_more, take-take, length-map, length-take-le}
+use Rattle.std.proofs.Common.{◌≡◌, ◌==◌, ℕ, suc, ◌+◌, ◌-◌, ◌≤◌, ◌<◌, max, Bool, true, false, cond, List, [], ◌∷◌, ◌++◌, length, take, set, get_or, Some, refl, sym, ap, ◌∙◌, subst, arith}
+use Rattle.std.proofs.lemmas.List.{take-take}
 use Rattle.std.proofs.lemmas.List.Sums.{fold-append}
 use Rattle.agent_order.specs.Order.{LineState}
 use Rattle.agent_resend.specs.Window.{WindowState, may_send, with_sent}
-use Rattle.device_types.specs.declared.down.Down.{Down as DownMessage}
-use Rattle.device_types.specs.declared.effect.Effect.{Effect as EffectValue}
-use Rattle.device_types.specs.declared.effect.Effect.TheVariants as effects
-use Rattle.device_types.specs.declared.effect.GwCall.{GwCall}
-use Rattle.device_types.specs.declared.effect.SubCall.{SubCall}
 use Rattle.device_types.specs.declared.event.Event.{Event}
-use Rattle.device_types.specs.declared.event.Event.TheVariants.{Send, Take, Answer, Read, Write, Stop, Reply, Push, Effect, Settle}
+use Rattle.device_types.specs.declared.event.Event.TheVariants.{Send, Take, Answer, Read, Write, Stop, Reply}
 use Rattle.device_types.specs.declared.event.EventAnswer.{EventAnswer}
 use Rattle.device_types.specs.declared.event.EventAnswer.TheVariants as told
 use Rattle.device_types.specs.declared.event.Lane.{Lane}
@@ -25,30 +18,27 @@ use Rattle.device_types.specs.declared.look.Look.TheVariants as look
 use Rattle.device_types.specs.declared.message.Message.{Message}
 use Rattle.device_types.specs.declared.step.Entry.{Entry}
 use Rattle.device_types.specs.declared.subscriber.DeviceId.{DeviceId}
-use Rattle.device_types.specs.Alone.{entry_of, next_input, alone_to}
-use Rattle.device_types.specs.Journal.{effects_of, pushed_count, taken_count, version_of}
-use Rattle.device_types.specs.Look.{same_lane}
+use Rattle.device_types.specs.Alone.{entry_of, next_input}
+use Rattle.device_types.specs.Journal.{effects_of, taken_count}
 use Rattle.device_types.specs.Numbers.{IsWithin}
 use Rattle.device_types.specs.PeerAnswer.{answer_of}
-use Rattle.effect_outbox.specs.Outbox.{LaneNumbers, number_on, with_number}
+use Rattle.effect_outbox.specs.Outbox.{LaneNumbers}
 use Rattle.session_row.specs.declared.commit.Commit.{Commit}
 use Rattle.session_row.specs.declared.commit.Commit.TheVariants as commit
 use Rattle.session_row.specs.Row.{RowState, Commits}
-use Rattle.link_schedule.specs.Answer.{look_at, look_answer, looked, read_answer, write_answer, on_replica, answer, turn, history, IsEvent, Lawful}
-use Rattle.link_schedule.specs.Counts.{Turn, Arrival, Held, hand, after_read, commits, acked, accepted, settled, greatest_sent, message_sent, reply_sent, effect_pushed, effect_received, journal, is_sent, is_taken, is_acked, is_accepted, is_received, is_committed, is_written, is_stopped, is_settled, is_pushed}
-use Rattle.link_schedule.specs.Counts.Arrival.{TheMessage, TheAnswer}
+use Rattle.link_schedule.specs.Answer.{look_answer, answer, turn, history, Lawful}
+use Rattle.link_schedule.specs.Counts.{Turn, Arrival, Held, hand, after_read, commits, acked, accepted, settled, greatest_sent, message_sent, reply_sent, effect_pushed, journal}
 use Rattle.link_schedule.specs.Counts.Held.{Nothing, Taken, Ready}
-use Rattle.link_schedule.specs.Input.{message_of, input_of, IsArrival, IsHand}
-use Rattle.link_schedule.specs.Lists.{Begins, Each, has, Marks}
+use Rattle.link_schedule.specs.Input.{message_of, input_of, IsHand}
+use Rattle.link_schedule.specs.Lists.{Each, Marks}
 use Rattle.link_schedule.specs.Promise.{Holds, IsAsBefore}
-use Rattle.link_schedule.specs.Setting.{Setting, row_of, messages_of, message_count, entries_to, entries_of}
-use Rattle.link_schedule.specs.World.{Hand, LaneMarks, marks_on, Parts, WorldState, settled_numbers, row_after, hand_of, accepted_effects, IsWindow, IsWindowOf, AreGatewayCalls, AreSubscriberCalls, AreSent, ArePushed, ArePartsOf, Answers}
+use Rattle.link_schedule.specs.Setting.{Setting, row_of, messages_of, entries_to, entries_of}
+use Rattle.link_schedule.specs.World.{Hand, Parts, settled_numbers, row_after, hand_of, accepted_effects, IsWindowOf, AreGatewayCalls, AreSubscriberCalls, AreSent, ArePushed, ArePartsOf}
 use Rattle.link_schedule.specs.World.Hand.{Empty, Holding, Made}
-use Rattle.link_schedule.proofs.Items.{Each-set, Each-keep, Each-same}
-use Rattle.link_schedule.proofs.Laws.{version_is, hand_ok, pushed_bound, accepted_bound, received_is, reply_is}
-use Rattle.link_schedule.proofs.Promises.{read_is}
-use Rattle.link_schedule.proofs.Runs.{Begins-length, Begins-or, effects_begin, to_alone, to_push}
-use Rattle.link_schedule.proofs.Tests.{here, not_here, nor_here, le_true, le_false, lt_true, lt_false, same_lane_true, lane_here, and_true}
+use Rattle.link_schedule.proofs.Items.{Each-set, Each-keep}
+use Rattle.link_schedule.proofs.Laws.{version_is, hand_ok, reply_is}
+use Rattle.link_schedule.proofs.Runs.{to_push}
+use Rattle.link_schedule.proofs.Tests.{here, not_here, nor_here, le_true, le_false, lt_true, lt_false}
 
 -- one more event is one more turn
 pub history_more : (s : Setting) (es : List Event) (e : Event) → history s (es ++ e ∷ []) ≡ turn s (history s es) e

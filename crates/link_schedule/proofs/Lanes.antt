@@ -1,5 +1,5 @@
 -- Events of effects keep the parts of a world.
-use Rattle.std.proofs.Common.{◌≡◌, ◌==◌, ℕ, suc, ◌+◌, ◌-◌, ◌≤◌, ◌<◌, max, Bool, true, false, cond, ◌&&◌, ◌||◌, List, [], ◌∷◌, ◌++◌, length, take, set, get_or, Some, refl, sym, ap, ◌∙◌, arith}
+use Rattle.std.proofs.Common.{◌≡◌, ◌==◌, ℕ, ◌+◌, ◌-◌, ◌≤◌, ◌<◌, max, Bool, true, false, cond, ◌&&◌, List, [], ◌∷◌, ◌++◌, length, set, get_or, Some, refl, sym, ap, ◌∙◌, arith}
 use Rattle.std.specs.Prelude.{map, nat_le, nat_lt, slice_get}
 use Rattle.std.proofs.lemmas.Grind.{common_steps}
 use Rattle.std.proofs.lemmas.List.{map-append, take_more, length-take-le}
@@ -19,18 +19,17 @@ use Rattle.device_types.specs.declared.subscriber.DeviceId.{DeviceId}
 use Rattle.device_types.specs.Journal.{effects_of, pushed_count}
 use Rattle.device_types.specs.Look.{same_lane}
 use Rattle.device_types.specs.Numbers.{IsWithin}
-use Rattle.effect_outbox.specs.Outbox.{LaneNumbers, number_on, with_number}
+use Rattle.effect_outbox.specs.Outbox.{number_on, with_number}
 use Rattle.session_row.specs.Row.{RowState}
 use Rattle.link_schedule.specs.Answer.{answer, Lawful}
-use Rattle.link_schedule.specs.Counts.{Turn, acked, accepted, settled, message_sent, effect_pushed, effect_received, journal, commits, is_acked, is_accepted, is_settled}
-use Rattle.link_schedule.specs.Lists.{Each, has}
+use Rattle.link_schedule.specs.Counts.{Turn, accepted, settled, message_sent, effect_pushed, effect_received, journal, commits, is_acked, is_accepted, is_settled}
 use Rattle.link_schedule.specs.Setting.{Setting, row_of, messages_of, entries_of}
-use Rattle.link_schedule.specs.World.{LaneMarks, marks_on, MarksOn, Parts, settled_numbers, row_after, accepted_effects, IsWindow, IsWindowOf, AreGatewayCalls, AreSubscriberCalls, ArePushed, ArePartsOf}
+use Rattle.link_schedule.specs.World.{LaneMarks, MarksOn, Parts, settled_numbers, row_after, accepted_effects, IsWindowOf, AreGatewayCalls, AreSubscriberCalls, ArePushed, ArePartsOf}
 use Rattle.link_schedule.proofs.Events.{IsSame, window_same}
 use Rattle.link_schedule.proofs.Items.{Each-set, Each-keep}
 use Rattle.link_schedule.proofs.Laws.{accepted_bound, received_is}
 use Rattle.link_schedule.proofs.Runs.{Begins-length, effects_begin, to_alone}
-use Rattle.link_schedule.proofs.Tests.{here, not_here, le_true, le_false, lt_true, lt_false, lane_here}
+use Rattle.link_schedule.proofs.Tests.{here, not_here, le_true, le_false, lt_true, lane_here}
 
 -- ---- an effect is put on its link
 

@@ -1,6 +1,6 @@
 -- A world, and what its parts are after its events.
-use Rattle.std.specs.Prelude.{◌≡◌, ◌==◌, ◌&&◌, ◌||◌, ℕ, ◌+◌, ◌-◌, ◌≤◌, Bool, List, [], ◌∷◌, ◌++◌, length, map, take, All, Option, Some, None, if◌then◌else◌, nat_le, slice_get, slice_index_or}
-use Rattle.agent_order.specs.Order.{LineState, message_at}
+use Rattle.std.specs.Prelude.{◌≡◌, ◌==◌, ◌&&◌, ◌||◌, ℕ, ◌-◌, ◌≤◌, Bool, List, [], ◌∷◌, ◌++◌, length, map, take, All, Option, Some, None, if◌then◌else◌, nat_le, slice_get, slice_index_or}
+use Rattle.agent_order.specs.Order.{message_at}
 use Rattle.agent_resend.specs.Window.{WindowState}
 use Rattle.device_types.specs.declared.effect.Effect.{Effect}
 use Rattle.device_types.specs.declared.effect.Effect.TheVariants as effects
