@@ -174,11 +174,11 @@ settled_bound s d l ((_, a) ∷ H) L = settled_bound s d l H L.2
 
 -- ---- hands
 
-sent_more : (d n : ℕ) (t : Turn) (H : List Turn) → message_sent d n H ≡ true → message_sent d n (t ∷ H) ≡ true
+pub sent_more : (d n : ℕ) (t : Turn) (H : List Turn) → message_sent d n H ≡ true → message_sent d n (t ∷ H) ≡ true
 sent_more d n (Send e m, a) H h = or_right _ _ h
 sent_more d n (_, a) H h = h
 
-received_more : (d : ℕ) (l : Lane) (k : ℕ) (t : Turn) (H : List Turn) → effect_received d l k H ≡ true → effect_received d l k (t ∷ H) ≡ true
+pub received_more : (d : ℕ) (l : Lane) (k : ℕ) (t : Turn) (H : List Turn) → effect_received d l k H ≡ true → effect_received d l k (t ∷ H) ≡ true
 received_more d l k (Effect e m j, a) H h = or_right _ _ h
 received_more d l k (_, a) H h = h
 

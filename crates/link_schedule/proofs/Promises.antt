@@ -14,21 +14,23 @@ use Rattle.device_types.specs.declared.look.Look.{Look}
 use Rattle.device_types.specs.declared.look.Look.TheVariants as look
 use Rattle.device_types.specs.declared.step.Entry.{Entry}
 use Rattle.device_types.specs.Alone.{entry_of}
-use Rattle.device_types.specs.Journal.{effects_of, taken_count, reply_of, replies_of, awaited_call}
-use Rattle.device_types.specs.Look.{unless_awaited}
+use Rattle.device_types.specs.Journal.{pushed_count, effects_of, taken_count, reply_of, replies_of, awaited_call}
+use Rattle.device_types.specs.Look.{unless_awaited, same_lane, is_call}
 use Rattle.device_types.proofs.Journals.{reply_stays, length-replies, taken_more}
 use Rattle.device_types.proofs.Prefixes.{full, prefix, entry_at}
 use Rattle.device_types.specs.declared.step.Reply.{Reply as StepReply}
 use Rattle.link_schedule.specs.Answer.{look_at, look_answer, looked, read_answer, write_answer, on_replica, answer, turn, history, IsEvent, Lawful}
-use Rattle.link_schedule.specs.Counts.{Turn, Arrival, Held, hand, after_read, commits, acked, accepted, message_sent, reply_sent, effect_received, journal, is_sent, is_taken, is_acked, is_accepted, is_received, is_committed, is_written, is_stopped, is_settled, is_pushed}
+use Rattle.link_schedule.specs.Counts.{settled, effect_pushed, Turn, Arrival, Held, hand, after_read, commits, acked, accepted, message_sent, reply_sent, effect_received, journal, is_sent, is_taken, is_acked, is_accepted, is_received, is_committed, is_written, is_stopped, is_settled, is_pushed}
 use Rattle.link_schedule.specs.Counts.Arrival.{TheMessage, TheAnswer}
 use Rattle.link_schedule.specs.Counts.Held.{Nothing, Taken, Ready}
-use Rattle.link_schedule.specs.Input.{input_of, IsHand}
+use Rattle.device_types.specs.declared.effect.Effect.TheVariants as effects
+use Rattle.device_types.specs.declared.effect.SubCall.TheVariants as calls
+use Rattle.link_schedule.specs.Input.{IsArrival, no_message, input_of, IsHand}
 use Rattle.link_schedule.specs.Promise.{is_void, IsAsBefore, Holds}
 use Rattle.link_schedule.specs.Setting.{Setting, row_of, messages_of, entries_to, entries_of}
-use Rattle.link_schedule.proofs.Laws.{version_is, accepted_bound, received_is, reply_is, hand_ok, taken_bound, read_nothing, read_again}
+use Rattle.link_schedule.proofs.Laws.{answer_made, sent_bound, pushed_bound, version_is, accepted_bound, received_is, reply_is, hand_ok, taken_bound, read_nothing, read_again}
 use Rattle.link_schedule.proofs.Runs.{Begins-length, Begins-take, effects_begin, to_alone, to_push}
-use Rattle.link_schedule.proofs.Tests.{and_true, same_number, le_true, le_false, here, not_here, le_of, gt_of}
+use Rattle.link_schedule.proofs.Tests.{max_if, or_right, lt_false, and_true, same_number, le_true, le_false, here, not_here, le_of, gt_of}
 
 -- ---- events make a lawful history
 
@@ -417,3 +419,73 @@ pub reply_where : (s : Setting) (d n : ℕ) (H : List Turn) → Lawful s H → 1
 reply_where s d n H L low =
     let e = reply_is s d n H L low in
     ((λ h. le_of n (taken_count (journal s d H)) (sym e ∙ h)), (λ h. e ∙ le_true n (taken_count (journal s d H)) h))
+
+-- ---- nothing is taken back
+
+pub acked_more : (d : ℕ) (t : Turn) (H : List Turn) → acked d H ≤ acked d (t ∷ H)
+acked_more d (Reply e n, a) H = max_if (is_acked a && (d == e.0)) n (acked d H)
+acked_more d (_, a) H = omega arith
+
+pub accepted_more : (d : ℕ) (l : Lane) (t : Turn) (H : List Turn) → accepted d l H ≤ accepted d l (t ∷ H)
+accepted_more d l (Effect e m k, a) H = max_if (is_accepted a && (d == e.0) && same_lane l m) k (accepted d l H)
+accepted_more d l (_, a) H = omega arith
+
+pub settled_more : (d : ℕ) (l : Lane) (t : Turn) (H : List Turn) → settled d l H ≤ settled d l (t ∷ H)
+settled_more d l (Settle e m k, a) H = max_if (is_settled a && (d == e.0) && same_lane l m) k (settled d l H)
+settled_more d l (_, a) H = omega arith
+
+pub reply_more : (d n : ℕ) (t : Turn) (H : List Turn) → reply_sent d n H ≡ true → reply_sent d n (t ∷ H) ≡ true
+reply_more d n (Write r, a) H h = or_right _ _ h
+reply_more d n (_, a) H h = h
+
+pub pushed_more : (d : ℕ) (l : Lane) (k : ℕ) (t : Turn) (H : List Turn) → effect_pushed d l k H ≡ true → effect_pushed d l k (t ∷ H) ≡ true
+pushed_more d l k (Push e m j, a) H h = or_right _ _ h
+pushed_more d l k (_, a) H h = h
+
+-- ---- what is on a link
+
+pub message_there : (s : Setting) (d n : ℕ) (H : List Turn) → Lawful s H → message_sent d n H ≡ true → IsSome (slice_get (messages_of s d) (n - 1))
+message_there s d n H L h =
+    let b = sent_bound s d n H L h in
+    let low = b.1 in
+    let high = b.2 in
+    subst IsSome (sym (slice_get-get_or (messages_of s d) (n - 1) no_message (omega arith))) refl
+
+pub effect_there : (s : Setting) (d : ℕ) (l : Lane) (k : ℕ) (H : List Turn) → Lawful s H → effect_pushed d l k H ≡ true → IsSome (slice_get (effects_of l (entries_of s d)) (k - 1))
+effect_there s d l k H L h =
+    let b = pushed_bound s d l k H L h in
+    let low = b.1 in
+    let high = b.2 in
+    let long = Begins-length (effects_of l (journal s d H)) (effects_of l (entries_of s d)) (effects_begin l (journal s d H) (entries_of s d) (to_alone (row_of s d) (messages_of s d) (commits d H))) in
+    subst IsSome (sym (slice_get-get_or (effects_of l (entries_of s d)) (k - 1) (effects.Subscriber calls.Purge) (omega arith))) refl
+
+pub reply_on_link : (s : Setting) (d n : ℕ) (H : List Turn) → Lawful s H → 1 ≤ n → reply_sent d n H ≡ true → IsSome (reply_of (entries_of s d) n)
+reply_on_link s d n H L low h =
+    let high = le_of n (taken_count (journal s d H)) (sym (reply_is s d n H L low) ∙ h) in
+    subst IsSome (reply_alone s d n H low high) (reply_there s d n H low high)
+
+-- ---- answers to calls
+
+pub arrival_of : (s : Setting) (H : List Turn) (d : ℕ) (what : Arrival) (x : Held) → Holds d what x → IsHand s H x → IsArrival H d what
+arrival_of s H d what Nothing h i = absurd (h)
+arrival_of s H d what (Taken e other) h i = rw (h.0, h.1) i
+arrival_of s H d what (Ready e other v) h i = rw (h.0, h.1) i.0
+
+abbrev is_ahead : EventAnswer → Bool
+is_ahead (told.Ahead n) = true
+is_ahead _ = false
+
+answer_look : (v : ℕ) (b1 b2 : Bool) (n : ℕ) (l : Lane) (k : ℕ) → b2 ≡ false → is_ahead (look_answer v (cond b1 look.Ready (cond b2 (look.NotAwaited n) (look.Old l k)))) ≡ false
+answer_look v true b2 n l k h = refl
+answer_look v false true n l k h = absurd (cc)
+answer_look v false false n l k h = refl
+
+pub answer_not_ahead : (s : Setting) (H : List Turn) (r d : ℕ) (l : Lane) (k m : ℕ) → Lawful s H → r ≤ s.replicas → Holds d (TheAnswer l k) (hand r H) → answer s H (Read r) ≢ told.Ahead m
+answer_not_ahead s H r d l k m L low i = λ h.
+    let J = journal s d H in
+    let arrived = arrival_of s H d (TheAnswer l k) (hand r H) i (hand_ok s r H L) in
+    let made = answer_made s H d l k L arrived in
+    let test : nat_lt (pushed_count l J) k ≡ false = lt_false (pushed_count l J) k made in
+    let f = answer_look (commits d H) (is_call (awaited_call J) l k) (nat_lt (pushed_count l J) k) (pushed_count l J) l k test in
+    let g = ap is_ahead (sym (read_is s H r d (TheAnswer l k) low i) ∙ h) in
+    cc

@@ -30,7 +30,7 @@ use Rattle.link_schedule.proofs.Events.{history_more, entry_held}
 use Rattle.link_schedule.proofs.Items.{Each-same}
 use Rattle.link_schedule.proofs.Laws.{version_is, hand_ok, arrival_device, sent_bound}
 use Rattle.link_schedule.proofs.Links.{links}
-use Rattle.link_schedule.proofs.Promises.{step_is_next}
+use Rattle.link_schedule.proofs.Promises.{arrival_of, step_is_next}
 
 -- ---- the beginning
 
@@ -103,11 +103,6 @@ pub with_input : (s : Setting) (x : Held) (d : ℕ) (input : Input) → IsWith d
 with_input s Nothing d input i = absurd (i)
 with_input s (Taken e what) d input i = (what, (sym i.0, refl), sym i.1 ∙ ap (λ f. input_of s f what) i.0)
 with_input s (Ready e what v) d input i = (what, (sym i.0, refl), sym i.1 ∙ ap (λ f. input_of s f what) i.0)
-
-arrival_of : (s : Setting) (H : List Turn) (d : ℕ) (what : Arrival) (x : Held) → Holds d what x → IsHand s H x → IsArrival H d what
-arrival_of s H d what Nothing h i = absurd (h)
-arrival_of s H d what (Taken e other) h i = rw (h.0, h.1) i
-arrival_of s H d what (Ready e other v) h i = rw (h.0, h.1) i.0
 
 -- what a replica holds was on its link, and is of a row
 pub held_arrival : (s : Setting) (H : List Turn) (r d : ℕ) (what : Arrival) → Lawful s H → Holds d what (hand r H) → IsArrival H d what × IsWithin (length s.rows) d

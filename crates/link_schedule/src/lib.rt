@@ -4,6 +4,7 @@
 mod schedule_laws;
 
 pub use schedule_laws::{
-    accepts_begin_alone, commits_begin_alone, one_replica_is_never_stale, repeat_gets_stored_reply,
+    accepts_begin_alone, answers_are_of_made_calls, commits_begin_alone, links_carry_contents,
+    nothing_is_taken_back, one_replica_is_never_stale, repeat_gets_stored_reply,
     unacknowledged_is_not_settled, void_changes_nothing, window_holds, write_commits_current,
 };

@@ -1,6 +1,6 @@
 //! Laws of every list of events, as clauses of functions that do nothing. The answer to each event is that of the definition; a
 //! device is named by its number, from 1.
-ghost use Rattle.std.specs.Prelude.{◌≡◌, ◌≢◌, ◌↔◌, ◌≤◌, ◌<◌, ◌+◌, ℕ, true, length, take, slice_get, All, Some, IsSome};
+ghost use Rattle.std.specs.Prelude.{◌≡◌, ◌≢◌, ◌↔◌, ◌≤◌, ◌<◌, ◌+◌, ◌-◌, ℕ, true, length, take, slice_get, All, Some, IsSome};
 ghost use Rattle.device_types.specs.declared.event.Event.{Event};
 ghost use Rattle.device_types.specs.declared.event.Event.TheVariants as happens;
 ghost use Rattle.device_types.specs.declared.event.EventAnswer.TheVariants as told;
@@ -8,12 +8,13 @@ ghost use Rattle.device_types.specs.declared.event.Lane.{Lane};
 ghost use Rattle.device_types.specs.Alone.{entry_of};
 ghost use Rattle.device_types.specs.Journal.{version_of, effects_of, pushed_count, taken_count, reply_of};
 ghost use Rattle.link_schedule.specs.Answer.{answer, turn, history, IsEvent};
-ghost use Rattle.link_schedule.specs.Counts.{Arrival, hand, commits, acked, accepted, settled, message_sent, reply_sent, effect_received, journal};
-ghost use Rattle.link_schedule.specs.Counts.Arrival.{TheMessage};
+ghost use Rattle.link_schedule.specs.Counts.{Arrival, hand, commits, acked, accepted, settled, message_sent, reply_sent, effect_pushed, effect_received, journal};
+ghost use Rattle.link_schedule.specs.Counts.Arrival.{TheMessage, TheAnswer};
 ghost use Rattle.link_schedule.specs.Counts.Held.{Ready};
 ghost use Rattle.link_schedule.specs.Input.{input_of};
+ghost use Rattle.link_schedule.specs.Lists.{Begins};
 ghost use Rattle.link_schedule.specs.Promise.{setting, is_void, Holds, IsAsBefore};
-ghost use Rattle.link_schedule.specs.Setting.{window, row_of, message_count, entries_to, entries_of};
+ghost use Rattle.link_schedule.specs.Setting.{window, row_of, messages_of, message_count, entries_to, entries_of};
 
 use device_types::{Book, Event, Subscriber};
 
@@ -112,4 +113,49 @@ pub fn void_changes_nothing(_rows: &[Subscriber], _book: &Book, _replicas: u32, 
     requires { All (IsEvent (setting _rows.now _book.now _replicas)) _events.now }
     ensures { let s = setting _rows.now _book.now _replicas in let H = history s _events.now in
         (e : Event) → is_void (answer s H e) ≡ true → IsAsBefore H (turn s H e) }
+{}
+
+/// No event takes back what was: a journal goes on where it ended, what was acknowledged, accepted and settled stays so, and what was
+/// on a link stays on it.
+pub fn nothing_is_taken_back(_rows: &[Subscriber], _book: &Book, _replicas: u32, _events: &[Event])
+    ensures journal { let s = setting _rows.now _book.now _replicas in let H = history s _events.now in
+        (d : ℕ) (e : Event) → Begins (journal s d H) (journal s d (turn s H e)) }
+    ensures acked { let s = setting _rows.now _book.now _replicas in let H = history s _events.now in
+        (d : ℕ) (e : Event) → acked d H ≤ acked d (turn s H e) }
+    ensures accepted { let s = setting _rows.now _book.now _replicas in let H = history s _events.now in
+        (d : ℕ) (l : Lane) (e : Event) → accepted d l H ≤ accepted d l (turn s H e) }
+    ensures settled { let s = setting _rows.now _book.now _replicas in let H = history s _events.now in
+        (d : ℕ) (l : Lane) (e : Event) → settled d l H ≤ settled d l (turn s H e) }
+    ensures messages { let s = setting _rows.now _book.now _replicas in let H = history s _events.now in
+        (d n : ℕ) (e : Event) → message_sent d n H ≡ true → message_sent d n (turn s H e) ≡ true }
+    ensures replies { let s = setting _rows.now _book.now _replicas in let H = history s _events.now in
+        (d n : ℕ) (e : Event) → reply_sent d n H ≡ true → reply_sent d n (turn s H e) ≡ true }
+    ensures effects { let s = setting _rows.now _book.now _replicas in let H = history s _events.now in
+        (d : ℕ) (l : Lane) (k : ℕ) (e : Event) → effect_pushed d l k H ≡ true → effect_pushed d l k (turn s H e) ≡ true }
+    ensures answers { let s = setting _rows.now _book.now _replicas in let H = history s _events.now in
+        (d : ℕ) (l : Lane) (k : ℕ) (e : Event) → effect_received d l k H ≡ true → effect_received d l k (turn s H e) ≡ true }
+{}
+
+/// What is on a link is a message of the book, an effect of the machine that never fails, or its reply.
+pub fn links_carry_contents(_rows: &[Subscriber], _book: &Book, _replicas: u32, _events: &[Event])
+    requires { All (IsEvent (setting _rows.now _book.now _replicas)) _events.now }
+    ensures messages { let s = setting _rows.now _book.now _replicas in let H = history s _events.now in
+        (d n : ℕ) → message_sent d n H ≡ true → IsSome (slice_get (messages_of s d) (n - 1)) }
+    ensures replies { let s = setting _rows.now _book.now _replicas in let H = history s _events.now in
+        (d n : ℕ) → 1 ≤ n → reply_sent d n H ≡ true → IsSome (reply_of (entries_of s d) n) }
+    ensures effects { let s = setting _rows.now _book.now _replicas in let H = history s _events.now in
+        (d : ℕ) (l : Lane) (k : ℕ) → effect_pushed d l k H ≡ true → IsSome (slice_get (effects_of l (entries_of s d)) (k - 1)) }
+{}
+
+/// No answer arrives to a call that was not made: a read of an answer is never told that calls are missing.
+pub fn answers_are_of_made_calls(
+    _rows: &[Subscriber],
+    _book: &Book,
+    _replicas: u32,
+    _events: &[Event],
+)
+    requires { All (IsEvent (setting _rows.now _book.now _replicas)) _events.now }
+    ensures { let s = setting _rows.now _book.now _replicas in let H = history s _events.now in
+        (r d : ℕ) (l : Lane) (k m : ℕ) → r ≤ _replicas → Holds d (TheAnswer l k) (hand r H)
+        → answer s H (happens.Read r) ≢ told.Ahead m }
 {}
