@@ -73,10 +73,14 @@ pub record WorldState : Type 0 where
 
 -- ---- what the parts are
 
--- a line of the book for each row of the table, and 1 to 16 replicas
+abbrev pub IsShort : List Message → Type 0
+IsShort messages = length messages ≤ 100000
+
+-- a line of the book for each row of the table, of at most 100,000 messages, and 1 to 16 replicas
 pub record IsSetting (s : Setting) : Type 0 where
   pub rows : All IsSubscriber s.rows
   pub lines : All IsLine s.book
+  pub short : All IsShort s.book
   pub each : length s.book ≡ length s.rows
   pub replicas : IsWithin 16 s.replicas
 
