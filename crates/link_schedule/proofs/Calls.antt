@@ -33,9 +33,9 @@ use Rattle.link_schedule.specs.Promise.{Holds}
 use Rattle.link_schedule.specs.Setting.{Setting, window, row_of, messages_of, entries_of}
 use Rattle.link_schedule.specs.World.{Parts, IsSetting, IsShort, row_after, IsWindowOf, AreGatewayCalls, AreSubscriberCalls, ArePartsOf}
 use Rattle.link_schedule.proofs.Events.{stays, acknowledges, reply_old, reply_new}
-use Rattle.link_schedule.proofs.Lanes.{settled_is, accepted_length, accepts_down, effect_next, effect_repeat, effect_ahead, effect_stays, settle_stays, settle_old, settle_new, settles, reply_stays}
+use Rattle.link_schedule.proofs.Lanes.{settled_is, accepted_length, accepts_down, effect_next, effect_repeat, effect_ahead, settle_old, settle_new, settles}
 use Rattle.link_schedule.proofs.Laws.{taken_sent, version_is}
-use Rattle.link_schedule.proofs.Promises.{read_is}
+use Rattle.link_schedule.proofs.Promises.{read_is, quiet_stays}
 use Rattle.link_schedule.proofs.Runs.{Begins-length, to_alone}
 use Rattle.link_schedule.proofs.Tests.{here, lt_false, le_of, gt_of, same_number}
 use Rattle.link_schedule.proofs.Worlds.{held_arrival, look_same}
@@ -68,7 +68,7 @@ replies s H p e n was now L low high at then within m =
         let old : n ≤ acked e.0 H = let f = le_of n was.line.acked test in omega arith in
         let kept : now ≡ was = then ∙ ap (after_reply was) says in
         rw (says, same_items p.windows (e.0 - 1) was now at kept)
-        (reply_old s H e n L low high old, stays s H ((Reply e n, told.Old n) ∷ H) p (reply_stays H e n (told.Old n) refl) m)
+        (reply_old s H e n L low high old, stays s H ((Reply e n, told.Old n) ∷ H) p (quiet_stays H (Reply e n) (told.Old n) refl) (λ r. refl) m)
     by false test says last =
         let new : acked e.0 H < n = let f = gt_of n was.line.acked test in omega arith in
         rw says (reply_new s H e n L low high new, acknowledges s H p e n was now at (then ∙ ap (after_reply was) says) new within m)
@@ -100,14 +100,14 @@ downs s H p e k message was now L on at then got within m =
         let says : down_taken was.downs k ≡ down.Repeat k = rw (no_next, test) refl in
         let low : k ≤ accepted e.0 Down H = let f = le_of k (length was.downs) test in omega arith in
         rw (says, same_items p.windows (e.0 - 1) was now at (then ∙ ap (after_down was message) says))
-        (effect_repeat s H e Down k on low, stays s H ((Effect e Down k, told.Repeat k) ∷ H) p (effect_stays H e Down k (told.Repeat k) refl) m)
+        (effect_repeat s H e Down k on low, stays s H ((Effect e Down k, told.Repeat k) ∷ H) p (quiet_stays H (Effect e Down k) (told.Repeat k) refl) (λ r. refl) m)
     second count no_next false test =
         let says : down_taken was.downs k ≡ down.Ahead (length was.downs) = rw (no_next, test) refl in
         let apart : k ≡ length was.downs + 1 → ⊥ = λ (is : k ≡ length was.downs + 1). (let t : (k == length was.downs + 1) ≡ true = rw is (here (length was.downs + 1)) in cc) in
         let high : accepted e.0 Down H + 1 < k = let f = gt_of k (length was.downs) test in omega (arith, apart, f, count) in
         let ahead : told.Ahead (length was.downs) ≡ answer s H (Effect e Down k) = ap told.Ahead count ∙ effect_ahead s H e Down k on high in
         rw (says, same_items p.windows (e.0 - 1) was now at (then ∙ ap (after_down was message) says))
-        (ahead, stays s H ((Effect e Down k, told.Ahead (length was.downs)) ∷ H) p (effect_stays H e Down k (told.Ahead (length was.downs)) refl) m)
+        (ahead, stays s H ((Effect e Down k, told.Ahead (length was.downs)) ∷ H) p (quiet_stays H (Effect e Down k) (told.Ahead (length was.downs)) refl) (λ r. refl) m)
 
     first : length was.downs ≡ accepted e.0 Down H → (b : Bool) → (k == length was.downs + 1) ≡ b → (down_answer (down_taken was.downs k) ≡ answer s H (Effect e Down k)) × ArePartsOf s ((Effect e Down k, down_answer (down_taken was.downs k)) ∷ H) (record p { windows = set p.windows (e.0 - 1) now })
     first count true test =
@@ -147,7 +147,7 @@ settles_at s H p e l k was now L low high at then within m =
         let old : k ≤ settled e.0 l H = omega arith in
         let kept : now ≡ was = then ∙ ap (λ (x : LaneNumbers). let y : RowState = record was { settled = x } in y) (most_on was.settled l k f) in
         rw (test, same_items p.rows (e.0 - 1) was now at kept)
-        (settle_old s H e l k L low high old, stays s H ((Settle e l k, told.Old k) ∷ H) p (settle_stays H e l k (told.Old k) refl) m)
+        (settle_old s H e l k L low high old, stays s H ((Settle e l k, told.Old k) ∷ H) p (quiet_stays H (Settle e l k) (told.Old k) refl) (λ r. refl) m)
     by number false test =
         let f = gt_of k (number_on was.settled l) test in
         let new : settled e.0 l H < k = omega arith in

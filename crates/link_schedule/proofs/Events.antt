@@ -5,7 +5,7 @@ use Rattle.std.proofs.lemmas.List.Sums.{fold-append}
 use Rattle.agent_order.specs.Order.{LineState}
 use Rattle.agent_resend.specs.Window.{WindowState, may_send, with_sent}
 use Rattle.device_types.specs.declared.event.Event.{Event}
-use Rattle.device_types.specs.declared.event.Event.TheVariants.{Send, Take, Answer, Read, Write, Stop, Reply}
+use Rattle.device_types.specs.declared.event.Event.TheVariants.{Send, Take, Answer, Read, Write, Stop, Reply, Push, Effect, Settle}
 use Rattle.device_types.specs.declared.event.EventAnswer.{EventAnswer}
 use Rattle.device_types.specs.declared.event.EventAnswer.TheVariants as told
 use Rattle.device_types.specs.declared.event.Lane.{Lane}
@@ -27,11 +27,11 @@ use Rattle.session_row.specs.declared.commit.Commit.{Commit}
 use Rattle.session_row.specs.declared.commit.Commit.TheVariants as commit
 use Rattle.session_row.specs.Row.{RowState, Commits}
 use Rattle.link_schedule.specs.Answer.{look_answer, answer, turn, history, Lawful}
-use Rattle.link_schedule.specs.Counts.{Turn, Arrival, Held, hand, after_read, commits, acked, accepted, settled, greatest_sent, message_sent, reply_sent, effect_pushed, journal}
+use Rattle.link_schedule.specs.Counts.{Turn, Arrival, Held, hand, after_read, commits, acked, accepted, greatest_sent, reply_sent, journal}
 use Rattle.link_schedule.specs.Counts.Held.{Nothing, Taken, Ready}
 use Rattle.link_schedule.specs.Input.{message_of, input_of, IsHand}
 use Rattle.link_schedule.specs.Lists.{Each, Marks}
-use Rattle.link_schedule.specs.Promise.{Holds, IsAsBefore}
+use Rattle.link_schedule.specs.Promise.{Holds, HasSameCounts}
 use Rattle.link_schedule.specs.Setting.{Setting, row_of, messages_of, entries_to, entries_of}
 use Rattle.link_schedule.specs.World.{Hand, Parts, settled_numbers, row_after, hand_of, accepted_effects, IsWindowOf, AreGatewayCalls, AreSubscriberCalls, AreSent, ArePushed, ArePartsOf}
 use Rattle.link_schedule.specs.World.Hand.{Empty, Holding, Made}
@@ -46,40 +46,33 @@ history_more s es e = fold-append (turn s) [] es (e ∷ [])
 
 -- ---- events that change no part
 
--- what the parts are made of is as before
-pub record IsSame (old new : List Turn) : Type 0 where
-  pub hands : (r : ℕ) → hand r new ≡ hand r old
-  pub committed : (d : ℕ) → commits d new ≡ commits d old
-  pub acknowledged : (d : ℕ) → acked d new ≡ acked d old
-  pub greatest : (d : ℕ) → greatest_sent d new ≡ greatest_sent d old
-  pub accepts : (d : ℕ) (l : Lane) → accepted d l new ≡ accepted d l old
-  pub settles : (d : ℕ) (l : Lane) → settled d l new ≡ settled d l old
-  pub messages : (d n : ℕ) → message_sent d n new ≡ message_sent d n old
-  pub effects : (d : ℕ) (l : Lane) (k : ℕ) → effect_pushed d l k new ≡ effect_pushed d l k old
-
-pub same_if_before : (H K : List Turn) → IsAsBefore H K → IsSame H K
-same_if_before H K b = record { hands = b.hands; committed = b.committed; acknowledged = b.acknowledged; greatest = b.greatest; accepts = b.accepts; settles = b.settles; messages = b.messages; effects = b.effects }
-
-row_same : (s : Setting) (H K : List Turn) (d : ℕ) → IsSame H K → row_after s K d ≡ row_after s H d
+row_same : (s : Setting) (H K : List Turn) (d : ℕ) → HasSameCounts H K → row_after s K d ≡ row_after s H d
 row_same s H K d same = rw (same.committed d, same.settles d Down, same.settles d Gateway, same.settles d Subscriber) refl
 
-accepted_same : (s : Setting) (H K : List Turn) (l : Lane) (d : ℕ) → IsSame H K → accepted_effects s l H d ≡ accepted_effects s l K d
+accepted_same : (s : Setting) (H K : List Turn) (l : Lane) (d : ℕ) → HasSameCounts H K → accepted_effects s l H d ≡ accepted_effects s l K d
 accepted_same s H K l d same = rw (same.accepts d l) refl
 
 pub window_same : (s : Setting) (H K : List Turn) (d : ℕ) (w : WindowState) → acked d K ≡ acked d H → greatest_sent d K ≡ greatest_sent d H → accepted d Down K ≡ accepted d Down H → IsWindowOf s H d w → IsWindowOf s K d w
 window_same s H K d w a g c i = record { line = rw a i.line; greatest = rw g i.greatest; downs = rw c i.downs }
 
-pub stays : (s : Setting) (H K : List Turn) (p : Parts) → IsSame H K → ArePartsOf s H p → ArePartsOf s K p
-stays s H K p same m =
+-- the counts are as before, and the hands are others
+pub with_hands : (s : Setting) (H K : List Turn) (p : Parts) (hands : List Hand) → HasSameCounts H K → Each hands s.replicas (λ r held. held ≡ hand_of s (hand r K)) → ArePartsOf s H p → ArePartsOf s K (record p { hands = hands })
+with_hands s H K p hands same h m =
     record {
+      hands = h;
       rows = Each-keep p.rows (length s.rows) (λ d row. row ≡ row_after s H d) (λ d row. row ≡ row_after s K d) m.rows (λ d x e. e ∙ sym (row_same s H K d same));
-      hands = Each-keep p.hands s.replicas (λ r held. held ≡ hand_of s (hand r H)) (λ r held. held ≡ hand_of s (hand r K)) m.hands (λ r x e. e ∙ sym (ap (hand_of s) (same.hands r)));
       windows = Each-keep p.windows (length s.rows) (IsWindowOf s H) (IsWindowOf s K) m.windows (λ d w i. window_same s H K d w (same.acknowledged d) (same.greatest d) (same.accepts d Down) i);
       gateway = Each-keep p.gateway (length s.rows) (AreGatewayCalls s H) (AreGatewayCalls s K) m.gateway (λ d x e. e ∙ accepted_same s H K Gateway d same);
       subscriber = Each-keep p.subscriber (length s.rows) (AreSubscriberCalls s H) (AreSubscriberCalls s K) m.subscriber (λ d x e. e ∙ accepted_same s H K Subscriber d same);
       sent = Each-keep p.sent (length s.rows) (AreSent H) (AreSent K) m.sent (λ d x e n low. e n low ∙ sym (same.messages d n));
       pushed = Each-keep p.pushed (length s.rows) (ArePushed H) (ArePushed K) m.pushed (λ d x e l k low. e l k low ∙ sym (same.effects d l k));
     }
+
+pub stays : (s : Setting) (H K : List Turn) (p : Parts) → HasSameCounts H K → ((r : ℕ) → hand r K ≡ hand r H) → ArePartsOf s H p → ArePartsOf s K p
+stays s H K p same hands m =
+    with_hands s H K p p.hands same
+    (Each-keep p.hands s.replicas (λ r held. held ≡ hand_of s (hand r H)) (λ r held. held ≡ hand_of s (hand r K)) m.hands (λ r x e. e ∙ sym (ap (hand_of s) (hands r))))
+    m
 
 -- ---- a message is sent
 
@@ -106,56 +99,52 @@ sends s H p e n was now old new at then before marks within m =
 
 -- ---- a hand changes
 
-hands-set : (s : Setting) (H : List Turn) (t : Turn) (hands : List Hand) (r : ℕ) (h : Hand) → Each hands s.replicas (λ r held. held ≡ hand_of s (hand r H)) → IsWithin s.replicas r → h ≡ hand_of s (hand r (t ∷ H)) → ((j : ℕ) → (j ≡ r → ⊥) → hand j (t ∷ H) ≡ hand j H) → Each (set hands (r - 1) h) s.replicas (λ r held. held ≡ hand_of s (hand r (t ∷ H)))
-hands-set s H t hands r h m within e others =
-    Each-set hands s.replicas (λ r held. held ≡ hand_of s (hand r H)) (λ r held. held ≡ hand_of s (hand r (t ∷ H))) r h m within e
+hands-set : (s : Setting) (H K : List Turn) (hands : List Hand) (r : ℕ) (h : Hand) → Each hands s.replicas (λ r held. held ≡ hand_of s (hand r H)) → IsWithin s.replicas r → h ≡ hand_of s (hand r K) → ((j : ℕ) → (j ≡ r → ⊥) → hand j K ≡ hand j H) → Each (set hands (r - 1) h) s.replicas (λ r held. held ≡ hand_of s (hand r K))
+hands-set s H K hands r h m within e others =
+    Each-set hands s.replicas (λ r held. held ≡ hand_of s (hand r H)) (λ r held. held ≡ hand_of s (hand r K)) r h m within e
     (λ j x ne g. g ∙ sym (ap (hand_of s) (others j ne)))
+
+-- these events change one hand alone
+abbrev is_of_hand : Event → Bool
+is_of_hand (Take r d n) = true
+is_of_hand (Answer r d l k) = true
+is_of_hand (Read r) = true
+is_of_hand (Stop r) = true
+is_of_hand _ = false
+
+hand_counts : (H : List Turn) (e : Event) (a : EventAnswer) → is_of_hand e ≡ true → HasSameCounts H ((e, a) ∷ H)
+hand_counts H (Send d n) a h = absurd (cc)
+hand_counts H (Write r) a h = absurd (cc)
+hand_counts H (Reply d n) a h = absurd (cc)
+hand_counts H (Push d l k) a h = absurd (cc)
+hand_counts H (Effect d l k) a h = absurd (cc)
+hand_counts H (Settle d l k) a h = absurd (cc)
+hand_counts H _ a h = record { committed = λ d. refl; acknowledged = λ d. refl; greatest = λ d. refl; accepts = λ d l. refl; settles = λ d l. refl; messages = λ d n. refl; effects = λ d l k. refl }
+
+with_hand : (s : Setting) (H : List Turn) (p : Parts) (e : Event) (a : EventAnswer) (r : ℕ) (h : Hand) → is_of_hand e ≡ true → IsWithin s.replicas r → h ≡ hand_of s (hand r ((e, a) ∷ H)) → ((j : ℕ) → (j ≡ r → ⊥) → hand j ((e, a) ∷ H) ≡ hand j H) → ArePartsOf s H p → ArePartsOf s ((e, a) ∷ H) (record p { hands = set p.hands (r - 1) h })
+with_hand s H p e a r h of within is others m = with_hands s H ((e, a) ∷ H) p (set p.hands (r - 1) h) (hand_counts H e a of) (hands-set s H ((e, a) ∷ H) p.hands r h m.hands within is others) m
 
 -- a message arrives
 pub takes : (s : Setting) (H : List Turn) (p : Parts) (r : ℕ) (e : DeviceId) (n : ℕ) (message : Message) → message ≡ message_of s e.0 n → IsWithin s.replicas r → ArePartsOf s H p → ArePartsOf s ((Take r e n, told.Taken) ∷ H) (record p { hands = set p.hands (r - 1) (Holding e.0 (inputs.Message message)) })
 takes s H p r e n message is within m =
-    record {
-      rows = m.rows;
-      windows = m.windows;
-      gateway = m.gateway;
-      subscriber = m.subscriber;
-      sent = m.sent;
-      pushed = m.pushed;
-      hands = hands-set s H (Take r e n, told.Taken) p.hands r (Holding e.0 (inputs.Message message)) m.hands within
-          (rw (here r, is) refl)
-          (λ j ne. rw (nor_here r j ne) refl);
-    }
+    with_hand s H p (Take r e n) told.Taken r (Holding e.0 (inputs.Message message)) refl within
+    (rw (here r, is) refl)
+    (λ j ne. rw (nor_here r j ne) refl) m
 
 -- the answer to a call arrives: that to the first k of the calls that were accepted
 pub takes_answer : (s : Setting) (H : List Turn) (p : Parts) (r : ℕ) (e : DeviceId) (l : Lane) (k : ℕ) (value : AnswerValue) → value ≡ answer_of (row_of s e.0) (take k (accepted_effects s l H e.0)) → k ≤ accepted e.0 l H → IsWithin s.replicas r → ArePartsOf s H p → ArePartsOf s ((Answer r e l k, told.Taken) ∷ H) (record p { hands = set p.hands (r - 1) (Holding e.0 (inputs.Answer l k value)) })
 takes_answer s H p r e l k value is low within m =
     let content : value ≡ answer_of (row_of s e.0) (take k (effects_of l (entries_of s e.0))) = is ∙ ap (answer_of (row_of s e.0)) (take-take k (accepted e.0 l H) (effects_of l (entries_of s e.0)) low) in
-    record {
-      rows = m.rows;
-      windows = m.windows;
-      gateway = m.gateway;
-      subscriber = m.subscriber;
-      sent = m.sent;
-      pushed = m.pushed;
-      hands = hands-set s H (Answer r e l k, told.Taken) p.hands r (Holding e.0 (inputs.Answer l k value)) m.hands within
-          (rw (here r, content) refl)
-          (λ j ne. rw (nor_here r j ne) refl);
-    }
+    with_hand s H p (Answer r e l k) told.Taken r (Holding e.0 (inputs.Answer l k value)) refl within
+    (rw (here r, content) refl)
+    (λ j ne. rw (nor_here r j ne) refl) m
 
 -- a replica stops
 pub stops : (s : Setting) (H : List Turn) (p : Parts) (r : ℕ) → IsWithin s.replicas r → ArePartsOf s H p → ArePartsOf s ((Stop r, told.Stopped) ∷ H) (record p { hands = set p.hands (r - 1) Empty })
 stops s H p r within m =
-    record {
-      rows = m.rows;
-      windows = m.windows;
-      gateway = m.gateway;
-      subscriber = m.subscriber;
-      sent = m.sent;
-      pushed = m.pushed;
-      hands = hands-set s H (Stop r, told.Stopped) p.hands r Empty m.hands within
-          (rw (here r) refl)
-          (λ j ne. rw (nor_here r j ne) refl);
-    }
+    with_hand s H p (Stop r) told.Stopped r Empty refl within
+    (rw (here r) refl)
+    (λ j ne. rw (nor_here r j ne) refl) m
 
 -- ---- a reply is acknowledged
 
@@ -214,32 +203,16 @@ after_other d what v (look.NotAwaited k) (Ready e other w) not i = rw (i.0, i.1)
 -- the row says Ready: the hand has the step at that version
 pub reads_ready : (s : Setting) (H : List Turn) (p : Parts) (r d : ℕ) (what : Arrival) (v : ℕ) (entry : Entry) → Holds d what (hand r H) → v ≡ commits d H → entry ≡ entry_of (row_of s d) (journal s d H) (input_of s d what) → IsWithin s.replicas r → ArePartsOf s H p → ArePartsOf s ((Read r, told.Ready v) ∷ H) (record p { hands = set p.hands (r - 1) (Made d v entry) })
 reads_ready s H p r d what v entry i now is within m =
-    record {
-      rows = m.rows;
-      windows = m.windows;
-      gateway = m.gateway;
-      subscriber = m.subscriber;
-      sent = m.sent;
-      pushed = m.pushed;
-      hands = hands-set s H (Read r, told.Ready v) p.hands r (Made d v entry) m.hands within
-          (rw (here r, after_ready d what v (hand r H) i, is, now) refl)
-          (λ j ne. rw (nor_here r j ne) refl);
-    }
+    with_hand s H p (Read r) (told.Ready v) r (Made d v entry) refl within
+    (rw (here r, after_ready d what v (hand r H) i, is, now) refl)
+    (λ j ne. rw (nor_here r j ne) refl) m
 
 -- it says something else: the hand has what arrived
 pub reads_other : (s : Setting) (H : List Turn) (p : Parts) (r d : ℕ) (what : Arrival) (v : ℕ) (l : Look) (input : Input) → Holds d what (hand r H) → (l ≡ look.Ready → ⊥) → input ≡ input_of s d what → IsWithin s.replicas r → ArePartsOf s H p → ArePartsOf s ((Read r, look_answer v l) ∷ H) (record p { hands = set p.hands (r - 1) (Holding d input) })
 reads_other s H p r d what v l input i not is within m =
-    record {
-      rows = m.rows;
-      windows = m.windows;
-      gateway = m.gateway;
-      subscriber = m.subscriber;
-      sent = m.sent;
-      pushed = m.pushed;
-      hands = hands-set s H (Read r, look_answer v l) p.hands r (Holding d input) m.hands within
-          (rw (here r, after_other d what v l (hand r H) not i, is) refl)
-          (λ j ne. rw (nor_here r j ne) refl);
-    }
+    with_hand s H p (Read r) (look_answer v l) r (Holding d input) refl within
+    (rw (here r, after_other d what v l (hand r H) not i, is) refl)
+    (λ j ne. rw (nor_here r j ne) refl) m
 
 -- ---- a replica writes
 
@@ -282,7 +255,7 @@ writes s H p r d what v (commit.Committed w) was now L h at k lt ld m =
         rows = Each-set p.rows (length s.rows) (λ d row. row ≡ row_after s H d) (λ i row. row ≡ row_after s K i) d now m.rows ld
             (rw (h, here d) (k.2 ∙ committed_row s H d what v was row same next))
             (λ j x ne g. rw (h, not_here d j ne) g);
-        hands = hands-set s H (Write r, told.Committed w) p.hands r Empty m.hands lt
+        hands = hands-set s H K p.hands r Empty m.hands lt
             (rw (here r) refl)
             (λ j ne. rw (nor_here r j ne) refl);
       },
@@ -302,7 +275,7 @@ writes s H p r d what v (commit.Stale a b) was now L h at k lt ld m =
         rows = Each-set p.rows (length s.rows) (λ d row. row ≡ row_after s H d) (λ i row. row ≡ row_after s K i) d now m.rows ld
             (k.3 ∙ row)
             (λ j x ne g. g);
-        hands = hands-set s H (Write r, told.Stale a b) p.hands r Empty m.hands lt
+        hands = hands-set s H K p.hands r Empty m.hands lt
             (rw (here r) refl)
             (λ j ne. rw (nor_here r j ne) refl);
       },

@@ -10,8 +10,7 @@ use Rattle.device_types.specs.declared.effect.Effect.{Effect as EffectValue}
 use Rattle.device_types.specs.declared.effect.Effect.TheVariants as effects
 use Rattle.device_types.specs.declared.effect.GwCall.{GwCall}
 use Rattle.device_types.specs.declared.effect.SubCall.{SubCall}
-use Rattle.device_types.specs.declared.event.Event.TheVariants.{Take, Answer, Push, Effect, Settle, Reply}
-use Rattle.device_types.specs.declared.event.EventAnswer.{EventAnswer}
+use Rattle.device_types.specs.declared.event.Event.TheVariants.{Take, Answer, Push, Effect, Settle}
 use Rattle.device_types.specs.declared.event.EventAnswer.TheVariants as told
 use Rattle.device_types.specs.declared.event.Lane.{Lane}
 use Rattle.device_types.specs.declared.event.Lane.TheVariants.{Down, Gateway, Subscriber}
@@ -22,10 +21,10 @@ use Rattle.device_types.specs.Numbers.{IsWithin}
 use Rattle.effect_outbox.specs.Outbox.{number_on, with_number}
 use Rattle.session_row.specs.Row.{RowState}
 use Rattle.link_schedule.specs.Answer.{answer, Lawful}
-use Rattle.link_schedule.specs.Counts.{Turn, accepted, settled, message_sent, effect_pushed, effect_received, journal, commits, is_acked, is_accepted, is_settled}
+use Rattle.link_schedule.specs.Counts.{Turn, accepted, settled, message_sent, effect_pushed, effect_received, journal, commits}
 use Rattle.link_schedule.specs.Setting.{Setting, row_of, messages_of, entries_of}
 use Rattle.link_schedule.specs.World.{LaneMarks, MarksOn, Parts, settled_numbers, row_after, accepted_effects, IsWindowOf, AreGatewayCalls, AreSubscriberCalls, ArePushed, ArePartsOf}
-use Rattle.link_schedule.proofs.Events.{IsSame, window_same}
+use Rattle.link_schedule.proofs.Events.{window_same}
 use Rattle.link_schedule.proofs.Items.{Each-set, Each-keep}
 use Rattle.link_schedule.proofs.Laws.{accepted_bound, received_is}
 use Rattle.link_schedule.proofs.Runs.{Begins-length, effects_begin, to_alone}
@@ -164,17 +163,6 @@ accepts_subscriber s H p e k v call was now at then is got within m =
           (ap (map effects.Subscriber) then ∙ map-append effects.Subscriber was (call ∷ []) ∙ ap (λ xs. xs ++ effects.Subscriber call ∷ []) i ∙ accepted_then s H e Subscriber k v (effects.Subscriber call) is got)
           (λ j calls ne g. effects_if s H K j Subscriber (map effects.Subscriber calls) (other_device j Subscriber e Subscriber k v H ne) g);
     }
-
--- ---- events that change no part
-
-pub effect_stays : (H : List Turn) (e : DeviceId) (l : Lane) (k : ℕ) (a : EventAnswer) → is_accepted a ≡ false → IsSame H ((Effect e l k, a) ∷ H)
-effect_stays H e l k a no_accept = record { hands = λ r. refl; committed = λ d. refl; acknowledged = λ d. refl; greatest = λ d. refl; accepts = λ d m. rw no_accept refl; settles = λ d m. refl; messages = λ d n. refl; effects = λ d m j. refl }
-
-pub settle_stays : (H : List Turn) (e : DeviceId) (l : Lane) (k : ℕ) (a : EventAnswer) → is_settled a ≡ false → IsSame H ((Settle e l k, a) ∷ H)
-settle_stays H e l k a no_settle = record { hands = λ r. refl; committed = λ d. refl; acknowledged = λ d. refl; greatest = λ d. refl; accepts = λ d m. refl; settles = λ d m. rw no_settle refl; messages = λ d n. refl; effects = λ d m j. refl }
-
-pub reply_stays : (H : List Turn) (e : DeviceId) (n : ℕ) (a : EventAnswer) → is_acked a ≡ false → IsSame H ((Reply e n, a) ∷ H)
-reply_stays H e n a no_ack = record { hands = λ r. refl; committed = λ d. refl; acknowledged = λ d. rw no_ack refl; greatest = λ d. refl; accepts = λ d m. refl; settles = λ d m. refl; messages = λ d n. refl; effects = λ d m j. refl }
 
 -- ---- a message or an answer arrives
 

@@ -20,13 +20,13 @@ use Rattle.device_types.proofs.Journals.{reply_stays, length-replies, taken_more
 use Rattle.device_types.proofs.Prefixes.{full, prefix, entry_at}
 use Rattle.device_types.specs.declared.step.Reply.{Reply as StepReply}
 use Rattle.link_schedule.specs.Answer.{look_at, look_answer, looked, read_answer, write_answer, on_replica, answer, turn, history, IsEvent, Lawful}
-use Rattle.link_schedule.specs.Counts.{settled, effect_pushed, Turn, Arrival, Held, hand, after_read, commits, acked, accepted, message_sent, reply_sent, effect_received, journal, is_sent, is_taken, is_acked, is_accepted, is_received, is_committed, is_written, is_stopped, is_settled, is_pushed}
+use Rattle.link_schedule.specs.Counts.{greatest_sent, settled, effect_pushed, Turn, Arrival, Held, hand, after_read, commits, acked, accepted, message_sent, reply_sent, effect_received, journal, is_sent, is_taken, is_acked, is_accepted, is_received, is_committed, is_written, is_stopped, is_settled, is_pushed}
 use Rattle.link_schedule.specs.Counts.Arrival.{TheMessage, TheAnswer}
 use Rattle.link_schedule.specs.Counts.Held.{Nothing, Taken, Ready}
 use Rattle.device_types.specs.declared.effect.Effect.TheVariants as effects
 use Rattle.device_types.specs.declared.effect.SubCall.TheVariants as calls
 use Rattle.link_schedule.specs.Input.{IsArrival, no_message, input_of, IsHand}
-use Rattle.link_schedule.specs.Promise.{is_void, IsAsBefore, Holds}
+use Rattle.link_schedule.specs.Promise.{is_void, HasSameCounts, IsAsBefore, Holds}
 use Rattle.link_schedule.specs.Setting.{Setting, row_of, messages_of, entries_to, entries_of}
 use Rattle.link_schedule.proofs.Laws.{answer_made, sent_bound, pushed_bound, version_is, accepted_bound, received_is, reply_is, hand_ok, taken_bound, read_nothing, read_again}
 use Rattle.link_schedule.proofs.Runs.{Begins-length, Begins-take, effects_begin, to_alone, to_push}
@@ -149,31 +149,13 @@ no_hand s r ((Write q, a) ∷ H) L none = rw (no_hand s r H L.2 none) (both (is_
 no_hand s r ((Stop q, a) ∷ H) L none = rw (no_hand s r H L.2 none) (both (is_stopped a && (q == r)) Nothing)
 no_hand s r ((_, a) ∷ H) L none = no_hand s r H L.2 none
 
--- a void write commits nothing
+-- what was not written was not committed
+written_if : (a : EventAnswer) → is_written a ≡ false → is_committed a ≡ false
+written_if (told.Committed v) h = absurd (cc)
+written_if _ h = refl
+
 commits_if : (d r : ℕ) (H : List Turn) (a : EventAnswer) → is_committed a ≡ false → commits d ((Write r, a) ∷ H) ≡ commits d H
 commits_if d r H a h = rw h refl
-
-written_if : (a : EventAnswer) → is_written a ≡ false → is_committed a ≡ false
-written_if told.Sent h = refl
-written_if told.Taken h = refl
-written_if told.Stopped h = refl
-written_if told.Pushed h = refl
-written_if told.VoidReplica h = refl
-written_if told.VoidWindow h = refl
-written_if told.VoidLink h = refl
-written_if told.VoidHand h = refl
-written_if told.VoidOutbox h = refl
-written_if (told.Ready v) h = refl
-written_if (told.Waiting l k) h = refl
-written_if (told.Repeat n) h = refl
-written_if (told.Settled n) h = refl
-written_if (told.Ahead n) h = refl
-written_if (told.OldCall l k) h = refl
-written_if (told.Committed v) h = absurd (cc)
-written_if (told.Stale v w) h = refl
-written_if (told.Acked n) h = refl
-written_if (told.Accepted k) h = refl
-written_if (told.Old k) h = refl
 
 and_false : (b c : Bool) → (b && c) ≡ false → (b ≡ false) ⊎ (c ≡ false)
 and_false true c h = inr h
@@ -338,41 +320,103 @@ reply_there s d n H low high =
     let count = length-replies J in
     subst IsSome (sym (slice_get-get_or (replies_of J) (n - 1) no_reply (omega arith))) refl
 
--- ---- void events
+-- ---- events that leave the counts
 
-record IsPlain (a : EventAnswer) : Type 0 where
+-- nothing was sent, pushed, committed, acknowledged, accepted or settled
+abbrev pub is_quiet : EventAnswer → Bool
+is_quiet told.Sent = false
+is_quiet told.Pushed = false
+is_quiet (told.Committed v) = false
+is_quiet (told.Acked n) = false
+is_quiet (told.Accepted k) = false
+is_quiet (told.Settled n) = false
+is_quiet _ = true
+
+record IsQuiet (a : EventAnswer) : Type 0 where
   sent : is_sent a ≡ false
-  taken : is_taken a ≡ false
-  stopped : is_stopped a ≡ false
   pushed : is_pushed a ≡ false
   committed : is_committed a ≡ false
-  written : is_written a ≡ false
   acknowledged : is_acked a ≡ false
   accepts : is_accepted a ≡ false
-  received : is_received a ≡ false
   settles : is_settled a ≡ false
 
-plain : (a : EventAnswer) → is_void a ≡ true → IsPlain a
-plain told.VoidReplica h = record { sent = refl; taken = refl; stopped = refl; pushed = refl; committed = refl; written = refl; acknowledged = refl; accepts = refl; received = refl; settles = refl }
-plain told.VoidWindow h = record { sent = refl; taken = refl; stopped = refl; pushed = refl; committed = refl; written = refl; acknowledged = refl; accepts = refl; received = refl; settles = refl }
-plain told.VoidLink h = record { sent = refl; taken = refl; stopped = refl; pushed = refl; committed = refl; written = refl; acknowledged = refl; accepts = refl; received = refl; settles = refl }
-plain told.VoidHand h = record { sent = refl; taken = refl; stopped = refl; pushed = refl; committed = refl; written = refl; acknowledged = refl; accepts = refl; received = refl; settles = refl }
-plain told.VoidOutbox h = record { sent = refl; taken = refl; stopped = refl; pushed = refl; committed = refl; written = refl; acknowledged = refl; accepts = refl; received = refl; settles = refl }
-plain told.Sent h = absurd (cc)
-plain told.Taken h = absurd (cc)
-plain told.Stopped h = absurd (cc)
-plain told.Pushed h = absurd (cc)
-plain (told.Ready v) h = absurd (cc)
-plain (told.Waiting l k) h = absurd (cc)
-plain (told.Repeat n) h = absurd (cc)
-plain (told.Settled n) h = absurd (cc)
-plain (told.Ahead n) h = absurd (cc)
-plain (told.OldCall l k) h = absurd (cc)
-plain (told.Committed v) h = absurd (cc)
-plain (told.Stale v w) h = absurd (cc)
-plain (told.Acked n) h = absurd (cc)
-plain (told.Accepted k) h = absurd (cc)
-plain (told.Old k) h = absurd (cc)
+quiet : (a : EventAnswer) → is_quiet a ≡ true → IsQuiet a
+quiet told.Sent h = absurd (cc)
+quiet told.Pushed h = absurd (cc)
+quiet (told.Committed v) h = absurd (cc)
+quiet (told.Acked n) h = absurd (cc)
+quiet (told.Accepted k) h = absurd (cc)
+quiet (told.Settled n) h = absurd (cc)
+quiet _ h = record { sent = refl; pushed = refl; committed = refl; acknowledged = refl; accepts = refl; settles = refl }
+
+commits_stay : (d : ℕ) (e : Event) (a : EventAnswer) (H : List Turn) → is_committed a ≡ false → commits d ((e, a) ∷ H) ≡ commits d H
+commits_stay d (Write r) a H h = rw h refl
+commits_stay d _ a H h = refl
+
+acked_stays : (d : ℕ) (e : Event) (a : EventAnswer) (H : List Turn) → is_acked a ≡ false → acked d ((e, a) ∷ H) ≡ acked d H
+acked_stays d (Reply f n) a H h = rw h refl
+acked_stays d _ a H h = refl
+
+greatest_stays : (d : ℕ) (e : Event) (a : EventAnswer) (H : List Turn) → is_sent a ≡ false → greatest_sent d ((e, a) ∷ H) ≡ greatest_sent d H
+greatest_stays d (Send f n) a H h = rw h refl
+greatest_stays d _ a H h = refl
+
+accepted_stays : (d : ℕ) (l : Lane) (e : Event) (a : EventAnswer) (H : List Turn) → is_accepted a ≡ false → accepted d l ((e, a) ∷ H) ≡ accepted d l H
+accepted_stays d l (Effect f m k) a H h = rw h refl
+accepted_stays d l _ a H h = refl
+
+settled_stays : (d : ℕ) (l : Lane) (e : Event) (a : EventAnswer) (H : List Turn) → is_settled a ≡ false → settled d l ((e, a) ∷ H) ≡ settled d l H
+settled_stays d l (Settle f m k) a H h = rw h refl
+settled_stays d l _ a H h = refl
+
+messages_stay : (d n : ℕ) (e : Event) (a : EventAnswer) (H : List Turn) → is_sent a ≡ false → message_sent d n ((e, a) ∷ H) ≡ message_sent d n H
+messages_stay d n (Send f m) a H h = rw h refl
+messages_stay d n _ a H h = refl
+
+effects_stay : (d : ℕ) (l : Lane) (k : ℕ) (e : Event) (a : EventAnswer) (H : List Turn) → is_pushed a ≡ false → effect_pushed d l k ((e, a) ∷ H) ≡ effect_pushed d l k H
+effects_stay d l k (Push f m j) a H h = rw h refl
+effects_stay d l k _ a H h = refl
+
+pub quiet_stays : (H : List Turn) (e : Event) (a : EventAnswer) → is_quiet a ≡ true → HasSameCounts H ((e, a) ∷ H)
+quiet_stays H e a h =
+    let q = quiet a h in
+    record {
+      committed = λ d. commits_stay d e a H q.committed;
+      acknowledged = λ d. acked_stays d e a H q.acknowledged;
+      greatest = λ d. greatest_stays d e a H q.sent;
+      accepts = λ d l. accepted_stays d l e a H q.accepts;
+      settles = λ d l. settled_stays d l e a H q.settles;
+      messages = λ d n. messages_stay d n e a H q.sent;
+      effects = λ d l k. effects_stay d l k e a H q.pushed;
+    }
+
+-- ---- void events
+
+void_quiet : (a : EventAnswer) → is_void a ≡ true → is_quiet a ≡ true
+void_quiet told.VoidReplica h = refl
+void_quiet told.VoidWindow h = refl
+void_quiet told.VoidLink h = refl
+void_quiet told.VoidHand h = refl
+void_quiet told.VoidOutbox h = refl
+void_quiet _ h = absurd (cc)
+
+void_taken : (a : EventAnswer) → is_void a ≡ true → is_taken a ≡ false
+void_taken told.Taken h = absurd (cc)
+void_taken _ h = refl
+
+void_written : (a : EventAnswer) → is_void a ≡ true → is_written a ≡ false
+void_written (told.Committed v) h = absurd (cc)
+void_written (told.Stale v w) h = absurd (cc)
+void_written _ h = refl
+
+void_stopped : (a : EventAnswer) → is_void a ≡ true → is_stopped a ≡ false
+void_stopped told.Stopped h = absurd (cc)
+void_stopped _ h = refl
+
+void_received : (a : EventAnswer) → is_void a ≡ true → is_received a ≡ false
+void_received (told.Accepted k) h = absurd (cc)
+void_received (told.Repeat k) h = absurd (cc)
+void_received _ h = refl
 
 look_not_void : (v : ℕ) (l : Look) → is_void (look_answer v l) ≡ false
 look_not_void v look.Ready = refl
@@ -395,18 +439,31 @@ read_stays s H q r true a L e v same =
     let at : a ≡ on_replica s r (read_answer s H (hand r H)) = rw (same_number q r same) at e in
     void_read s H (hand r H) (nat_le r s.replicas) a (λ none. no_hand s r H L none) at v
 
+hand_stays : (s : Setting) (H : List Turn) (e : Event) (a : EventAnswer) (r : ℕ) → Lawful s H → a ≡ answer s H e → is_void a ≡ true → hand r ((e, a) ∷ H) ≡ hand r H
+hand_stays s H (Take q d n) a r L is v = rw (void_taken a v) refl
+hand_stays s H (Answer q d l k) a r L is v = rw (void_taken a v) refl
+hand_stays s H (Read q) a r L is v = read_stays s H q r (q == r) a L is v refl
+hand_stays s H (Write q) a r L is v = rw (void_written a v) refl
+hand_stays s H (Stop q) a r L is v = rw (void_stopped a v) refl
+hand_stays s H _ a r L is v = refl
+
+replies_stay : (d n : ℕ) (e : Event) (a : EventAnswer) (H : List Turn) → is_committed a ≡ false → reply_sent d n ((e, a) ∷ H) ≡ reply_sent d n H
+replies_stay d n (Write r) a H h = rw h refl
+replies_stay d n _ a H h = refl
+
+received_stays : (d : ℕ) (l : Lane) (k : ℕ) (e : Event) (a : EventAnswer) (H : List Turn) → is_received a ≡ false → effect_received d l k ((e, a) ∷ H) ≡ effect_received d l k H
+received_stays d l k (Effect f m j) a H h = rw h refl
+received_stays d l k _ a H h = refl
+
 -- a void event changes nothing
 pub void_stays : (s : Setting) (H : List Turn) (e : Event) (a : EventAnswer) → Lawful s H → a ≡ answer s H e → is_void a ≡ true → IsAsBefore H ((e, a) ∷ H)
-void_stays s H (Send d n) a L is v = let p = plain a v in record { hands = λ r. refl; committed = λ d. refl; acknowledged = λ d. refl; greatest = λ d. rw p.sent refl; accepts = λ d l. refl; settles = λ d l. refl; messages = λ d n. rw p.sent refl; replies = λ d n. refl; effects = λ d l k. refl; answers = λ d l k. refl }
-void_stays s H (Take q d n) a L is v = let p = plain a v in record { hands = λ r. rw p.taken refl; committed = λ d. refl; acknowledged = λ d. refl; greatest = λ d. refl; accepts = λ d l. refl; settles = λ d l. refl; messages = λ d n. refl; replies = λ d n. refl; effects = λ d l k. refl; answers = λ d l k. refl }
-void_stays s H (Answer q d l k) a L is v = let p = plain a v in record { hands = λ r. rw p.taken refl; committed = λ d. refl; acknowledged = λ d. refl; greatest = λ d. refl; accepts = λ d l. refl; settles = λ d l. refl; messages = λ d n. refl; replies = λ d n. refl; effects = λ d l k. refl; answers = λ d l k. refl }
-void_stays s H (Read q) a L is v = let p = plain a v in record { hands = λ r. read_stays s H q r (q == r) a L is v refl; committed = λ d. refl; acknowledged = λ d. refl; greatest = λ d. refl; accepts = λ d l. refl; settles = λ d l. refl; messages = λ d n. refl; replies = λ d n. refl; effects = λ d l k. refl; answers = λ d l k. refl }
-void_stays s H (Write q) a L is v = let p = plain a v in record { hands = λ r. rw p.written refl; committed = λ d. rw p.committed refl; acknowledged = λ d. refl; greatest = λ d. refl; accepts = λ d l. refl; settles = λ d l. refl; messages = λ d n. refl; replies = λ d n. rw p.committed refl; effects = λ d l k. refl; answers = λ d l k. refl }
-void_stays s H (Stop q) a L is v = let p = plain a v in record { hands = λ r. rw p.stopped refl; committed = λ d. refl; acknowledged = λ d. refl; greatest = λ d. refl; accepts = λ d l. refl; settles = λ d l. refl; messages = λ d n. refl; replies = λ d n. refl; effects = λ d l k. refl; answers = λ d l k. refl }
-void_stays s H (Reply d n) a L is v = let p = plain a v in record { hands = λ r. refl; committed = λ d. refl; acknowledged = λ d. rw p.acknowledged refl; greatest = λ d. refl; accepts = λ d l. refl; settles = λ d l. refl; messages = λ d n. refl; replies = λ d n. refl; effects = λ d l k. refl; answers = λ d l k. refl }
-void_stays s H (Push d l k) a L is v = let p = plain a v in record { hands = λ r. refl; committed = λ d. refl; acknowledged = λ d. refl; greatest = λ d. refl; accepts = λ d l. refl; settles = λ d l. refl; messages = λ d n. refl; replies = λ d n. refl; effects = λ d l k. rw p.pushed refl; answers = λ d l k. refl }
-void_stays s H (Effect d l k) a L is v = let p = plain a v in record { hands = λ r. refl; committed = λ d. refl; acknowledged = λ d. refl; greatest = λ d. refl; accepts = λ d l. rw p.accepts refl; settles = λ d l. refl; messages = λ d n. refl; replies = λ d n. refl; effects = λ d l k. refl; answers = λ d l k. rw p.received refl }
-void_stays s H (Settle d l k) a L is v = let p = plain a v in record { hands = λ r. refl; committed = λ d. refl; acknowledged = λ d. refl; greatest = λ d. refl; accepts = λ d l. refl; settles = λ d l. rw p.settles refl; messages = λ d n. refl; replies = λ d n. refl; effects = λ d l k. refl; answers = λ d l k. refl }
+void_stays s H e a L is v =
+    record {
+      counts = quiet_stays H e a (void_quiet a v);
+      hands = λ r. hand_stays s H e a r L is v;
+      replies = λ d n. replies_stay d n e a H (written_if a (void_written a v));
+      answers = λ d l k. received_stays d l k e a H (void_received a v);
+    }
 
 -- ---- tests and bounds
 

@@ -1,5 +1,5 @@
 -- Worked schedules: the answer to each event, computed.
-use Rattle.std.proofs.Common.{◌≡◌, ℕ, List, [], ◌∷◌, ◌++◌, refl}
+use Rattle.std.proofs.Common.{◌≡◌, ℕ, List, [], ◌∷◌, ◌++◌, take, Some, None, refl}
 use Rattle.device_types.specs.declared.event.Event.{Event}
 use Rattle.device_types.specs.declared.event.Event.TheVariants.{Send, Take, Answer, Read, Write, Stop, Reply, Push, Effect, Settle}
 use Rattle.device_types.specs.declared.event.EventAnswer.TheVariants as told
@@ -10,7 +10,15 @@ use Rattle.device_types.specs.declared.message.Message.{Message}
 use Rattle.device_types.specs.declared.subscriber.DeviceId.{DeviceId}
 use Rattle.device_types.specs.Acts.{moves_connection, drops_ue, frees_bearers}
 use Rattle.device_types.specs.StepTable.{step_table, step_of}
-use Rattle.link_schedule.specs.Answer.{answers}
+use Rattle.device_types.specs.declared.effect.Effect.TheVariants as effects
+use Rattle.device_types.specs.declared.effect.SubCall.TheVariants.{Vectors}
+use Rattle.device_types.specs.declared.input.Answer.TheVariants as answer
+use Rattle.device_types.specs.Alone.{alone_of}
+use Rattle.link_schedule.specs.Answer.{answers, history}
+use Rattle.link_schedule.specs.Counts.{Turn, hand, commits, acked, accepted, settled, greatest_sent}
+use Rattle.link_schedule.specs.Counts.Arrival.{TheMessage, TheAnswer}
+use Rattle.link_schedule.specs.Counts.Held.{Nothing, Taken, Ready}
+use Rattle.link_schedule.specs.World.{message_packet, effect_packet, answer_packet, reply_packet}
 use Rattle.link_schedule.specs.Setting.{Setting, no_row}
 
 from : ℕ → Body → Message
@@ -113,3 +121,43 @@ hands_answers : answers (with services 2) hands ≡
     ∷ told.VoidHand ∷ told.Taken ∷ told.Ready 1 ∷ told.Stopped ∷ told.VoidHand ∷ []
 unfolding step_table step_of moves_connection drops_ue frees_bearers from with services d hands
 hands_answers = refl
+
+-- ---- what the turns of the call leave
+
+after_call : List Turn
+after_call = history (with (attach ∷ []) 2) call
+
+call_counts : (commits 1 after_call ≡ 2) × (acked 1 after_call ≡ 0) × (accepted 1 Subscriber after_call ≡ 1) × (settled 1 Subscriber after_call ≡ 1) × (accepted 1 Down after_call ≡ 0) × (greatest_sent 1 after_call ≡ 1)
+unfolding step_table step_of moves_connection drops_ue frees_bearers from with attach d race call after_call
+call_counts = (refl, refl, refl, refl, refl, refl)
+
+call_hands : (hand 1 after_call ≡ Nothing) × (hand 2 after_call ≡ Taken 1 (TheAnswer Subscriber 1))
+unfolding step_table step_of moves_connection drops_ue frees_bearers from with attach d race call after_call
+call_hands = (refl, refl)
+
+-- the step that the first replica had before it wrote
+race_hand : hand 1 (history (with (attach ∷ []) 2) (take 5 race)) ≡ Ready 1 (TheMessage 1) 0
+unfolding step_table step_of moves_connection drops_ue frees_bearers from with attach d race
+race_hand = refl
+
+message_on : message_packet (with (attach ∷ []) 2) after_call 1 1 ≡ Some attach
+unfolding step_table step_of moves_connection drops_ue frees_bearers from with attach d race call after_call
+message_on = refl
+
+-- the message made no message to the device
+reply_on : reply_packet (with (attach ∷ []) 2) after_call 1 1 ≡ Some (record { number = 1; version = 1; downs = [] })
+unfolding alone_of step_table step_of moves_connection drops_ue frees_bearers from with attach d race call after_call
+reply_on = refl
+
+effect_on : effect_packet (with (attach ∷ []) 2) after_call 1 Subscriber 1 ≡ Some (effects.Subscriber Vectors)
+unfolding alone_of step_table step_of moves_connection drops_ue frees_bearers from with attach d race call after_call
+effect_on = refl
+
+-- none was pushed on this lane
+no_effect_on : effect_packet (with (attach ∷ []) 2) after_call 1 Down 1 ≡ None
+unfolding alone_of step_table step_of moves_connection drops_ue frees_bearers from with attach d race call after_call
+no_effect_on = refl
+
+answer_on : answer_packet (with (attach ∷ []) 2) after_call 1 Subscriber 1 ≡ Some (answer.Vectors [] [] (3 ∷ 4 ∷ []) [])
+unfolding alone_of step_table step_of moves_connection drops_ue frees_bearers from with attach d race call after_call
+answer_on = refl

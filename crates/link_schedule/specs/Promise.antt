@@ -21,17 +21,21 @@ is_void told.VoidHand = true
 is_void told.VoidOutbox = true
 is_void _ = false
 
--- no count, hand or link is another
-pub record IsAsBefore (old new : List Turn) : Type 0 where
-  pub hands : (r : ℕ) → hand r new ≡ hand r old
+-- no count is another, and no mark of what was sent or pushed
+pub record HasSameCounts (old new : List Turn) : Type 0 where
   pub committed : (d : ℕ) → commits d new ≡ commits d old
   pub acknowledged : (d : ℕ) → acked d new ≡ acked d old
   pub greatest : (d : ℕ) → greatest_sent d new ≡ greatest_sent d old
   pub accepts : (d : ℕ) (l : Lane) → accepted d l new ≡ accepted d l old
   pub settles : (d : ℕ) (l : Lane) → settled d l new ≡ settled d l old
   pub messages : (d n : ℕ) → message_sent d n new ≡ message_sent d n old
-  pub replies : (d n : ℕ) → reply_sent d n new ≡ reply_sent d n old
   pub effects : (d : ℕ) (l : Lane) (k : ℕ) → effect_pushed d l k new ≡ effect_pushed d l k old
+
+-- no count, hand or link is another
+pub record IsAsBefore (old new : List Turn) : Type 0 where
+  pub counts : HasSameCounts old new
+  pub hands : (r : ℕ) → hand r new ≡ hand r old
+  pub replies : (d n : ℕ) → reply_sent d n new ≡ reply_sent d n old
   pub answers : (d : ℕ) (l : Lane) (k : ℕ) → effect_received d l k new ≡ effect_received d l k old
 
 -- the hand has that of device d, with a step made of it or not
