@@ -1,0 +1,11 @@
+pub mod Calls
+pub mod Events
+pub mod Items
+pub mod Lanes
+pub mod Laws
+pub mod Links
+pub mod Promises
+pub mod Runs
+pub mod Tests
+pub mod Worked
+pub mod Worlds

@@ -1,0 +1,11 @@
+use Rattle.link_schedule.specs.Answer.{history}
+use Rattle.link_schedule.specs.Promise.{setting}
+use Rattle.link_schedule.proofs.Promises.{lawful, step_is_next}
+use Rattle.link_schedule.proofs.schedule_laws.write_commits_current.Goals as goal
+
+pub returns-clause-step : goal.returns-clause-step
+returns-clause-step c =
+    let s = setting c.args._rows.now c.args._book.now c.args._replicas in
+    let L = lawful s c.args._events.now c.requires in
+    let H = history s c.args._events.now in
+    λ r d v what h. step_is_next s H r d v what L h
