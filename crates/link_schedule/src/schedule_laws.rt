@@ -90,7 +90,7 @@ pub fn unacknowledged_is_not_settled(
 )
     requires { All (IsEvent (setting _rows.now _book.now _replicas)) _events.now }
     ensures { let s = setting _rows.now _book.now _replicas in let turns = history s _events.now in
-        (r d n : ℕ) → r ≤ _replicas → Holds d (TheMessage n) (hand r turns) → acked d turns < n
+        (r d n : ℕ) → Holds d (TheMessage n) (hand r turns) → acked d turns < n
         → answer s turns (happens.Read r) ≢ told.Settled n }
 {}
 
@@ -156,6 +156,6 @@ pub fn answers_are_of_made_calls(
 )
     requires { All (IsEvent (setting _rows.now _book.now _replicas)) _events.now }
     ensures { let s = setting _rows.now _book.now _replicas in let turns = history s _events.now in
-        (r d : ℕ) (l : Lane) (k m : ℕ) → r ≤ _replicas → Holds d (TheAnswer l k) (hand r turns)
+        (r d : ℕ) (l : Lane) (k m : ℕ) → Holds d (TheAnswer l k) (hand r turns)
         → answer s turns (happens.Read r) ≢ told.Ahead m }
 {}
