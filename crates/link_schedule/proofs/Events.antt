@@ -125,17 +125,17 @@ with_hand : (s : Setting) (H : List Turn) (p : Parts) (e : Event) (a : EventAnsw
 with_hand s H p e a r h of within is others m = with_hands s H ((e, a) ∷ H) p (set p.hands (r - 1) h) (hand_counts H e a of) (hands-set s H ((e, a) ∷ H) p.hands r h m.hands within is others) m
 
 -- a message arrives
-pub takes : (s : Setting) (H : List Turn) (p : Parts) (r : ℕ) (e : DeviceId) (n : ℕ) (message : Message) → message ≡ message_of s e.0 n → IsWithin s.replicas r → ArePartsOf s H p → ArePartsOf s ((Take r e n, told.Taken) ∷ H) (record p { hands = set p.hands (r - 1) (Holding e.0 (inputs.Message message)) })
+pub takes : (s : Setting) (H : List Turn) (p : Parts) (r : ℕ) (e : DeviceId) (n : ℕ) (message : Message) → message ≡ message_of s e.0 n → IsWithin s.replicas r → ArePartsOf s H p → ArePartsOf s ((Take r e n, told.Taken) ∷ H) (record p { hands = set p.hands (r - 1) (Holding e (inputs.Message message)) })
 takes s H p r e n message is within m =
-    with_hand s H p (Take r e n) told.Taken r (Holding e.0 (inputs.Message message)) refl within
+    with_hand s H p (Take r e n) told.Taken r (Holding e (inputs.Message message)) refl within
     (rw (here r, is) refl)
     (λ j ne. rw (nor_here r j ne) refl) m
 
 -- the answer to a call arrives: that to the first k of the calls that were accepted
-pub takes_answer : (s : Setting) (H : List Turn) (p : Parts) (r : ℕ) (e : DeviceId) (l : Lane) (k : ℕ) (value : AnswerValue) → value ≡ answer_of (row_of s e.0) (take k (accepted_effects s l H e.0)) → k ≤ accepted e.0 l H → IsWithin s.replicas r → ArePartsOf s H p → ArePartsOf s ((Answer r e l k, told.Taken) ∷ H) (record p { hands = set p.hands (r - 1) (Holding e.0 (inputs.Answer l k value)) })
+pub takes_answer : (s : Setting) (H : List Turn) (p : Parts) (r : ℕ) (e : DeviceId) (l : Lane) (k : ℕ) (value : AnswerValue) → value ≡ answer_of (row_of s e.0) (take k (accepted_effects s l H e.0)) → k ≤ accepted e.0 l H → IsWithin s.replicas r → ArePartsOf s H p → ArePartsOf s ((Answer r e l k, told.Taken) ∷ H) (record p { hands = set p.hands (r - 1) (Holding e (inputs.Answer l k value)) })
 takes_answer s H p r e l k value is low within m =
     let content : value ≡ answer_of (row_of s e.0) (take k (effects_of l (entries_of s e.0))) = is ∙ ap (answer_of (row_of s e.0)) (take-take k (accepted e.0 l H) (effects_of l (entries_of s e.0)) low) in
-    with_hand s H p (Answer r e l k) told.Taken r (Holding e.0 (inputs.Answer l k value)) refl within
+    with_hand s H p (Answer r e l k) told.Taken r (Holding e (inputs.Answer l k value)) refl within
     (rw (here r, content) refl)
     (λ j ne. rw (nor_here r j ne) refl) m
 
@@ -201,16 +201,16 @@ after_other d what v (look.Old l k) (Ready e other w) not i = rw (i.0, i.1) refl
 after_other d what v (look.NotAwaited k) (Ready e other w) not i = rw (i.0, i.1) refl
 
 -- the row says Ready: the hand has the step at that version
-pub reads_ready : (s : Setting) (H : List Turn) (p : Parts) (r d : ℕ) (what : Arrival) (v : ℕ) (entry : Entry) → Holds d what (hand r H) → v ≡ commits d H → entry ≡ entry_of (row_of s d) (journal s d H) (input_of s d what) → IsWithin s.replicas r → ArePartsOf s H p → ArePartsOf s ((Read r, told.Ready v) ∷ H) (record p { hands = set p.hands (r - 1) (Made d v entry) })
+pub reads_ready : (s : Setting) (H : List Turn) (p : Parts) (r d : ℕ) (what : Arrival) (v : ℕ) (entry : Entry) → Holds d what (hand r H) → v ≡ commits d H → entry ≡ entry_of (row_of s d) (journal s d H) (input_of s d what) → IsWithin s.replicas r → ArePartsOf s H p → ArePartsOf s ((Read r, told.Ready v) ∷ H) (record p { hands = set p.hands (r - 1) (Made (record { 0 = d }) v entry) })
 reads_ready s H p r d what v entry i now is within m =
-    with_hand s H p (Read r) (told.Ready v) r (Made d v entry) refl within
+    with_hand s H p (Read r) (told.Ready v) r (Made (record { 0 = d }) v entry) refl within
     (rw (here r, after_ready d what v (hand r H) i, is, now) refl)
     (λ j ne. rw (nor_here r j ne) refl) m
 
 -- it says something else: the hand has what arrived
-pub reads_other : (s : Setting) (H : List Turn) (p : Parts) (r d : ℕ) (what : Arrival) (v : ℕ) (l : Look) (input : Input) → Holds d what (hand r H) → (l ≡ look.Ready → ⊥) → input ≡ input_of s d what → IsWithin s.replicas r → ArePartsOf s H p → ArePartsOf s ((Read r, look_answer v l) ∷ H) (record p { hands = set p.hands (r - 1) (Holding d input) })
+pub reads_other : (s : Setting) (H : List Turn) (p : Parts) (r d : ℕ) (what : Arrival) (v : ℕ) (l : Look) (input : Input) → Holds d what (hand r H) → (l ≡ look.Ready → ⊥) → input ≡ input_of s d what → IsWithin s.replicas r → ArePartsOf s H p → ArePartsOf s ((Read r, look_answer v l) ∷ H) (record p { hands = set p.hands (r - 1) (Holding (record { 0 = d }) input) })
 reads_other s H p r d what v l input i not is within m =
-    with_hand s H p (Read r) (look_answer v l) r (Holding d input) refl within
+    with_hand s H p (Read r) (look_answer v l) r (Holding (record { 0 = d }) input) refl within
     (rw (here r, after_other d what v l (hand r H) not i, is) refl)
     (λ j ne. rw (nor_here r j ne) refl) m
 
@@ -281,17 +281,19 @@ writes s H p r d what v (commit.Stale a b) was now L h at k lt ld m =
       },
     )
 
-pub write_void : (s : Setting) (H : List Turn) (r : ℕ) (x : Held) → ((d v : ℕ) (entry : Entry) → hand_of s x ≡ Made d v entry → ⊥) → hand r H ≡ x → r ≤ s.replicas → told.VoidHand ≡ answer s H (Write r)
+pub write_void : (s : Setting) (H : List Turn) (r : ℕ) (x : Held) → ((d : DeviceId) (v : ℕ) (entry : Entry) → hand_of s x ≡ Made d v entry → ⊥) → hand r H ≡ x → r ≤ s.replicas → told.VoidHand ≡ answer s H (Write r)
 write_void s H r Nothing not e low = rw (le_true r s.replicas low, e) refl
 write_void s H r (Taken d what) not e low = rw (le_true r s.replicas low, e) refl
-write_void s H r (Ready d what v) not e low = absurd (not d v _ refl)
+write_void s H r (Ready d what v) not e low = absurd (not (record { 0 = d }) v _ refl)
 
 -- a hand that has a step holds this
-pub made_hand : (s : Setting) (x : Held) (d v : ℕ) (entry : Entry) → hand_of s x ≡ Made d v entry → (what : Arrival) × (x ≡ Ready d what v) × (entry ≡ entry_held s d what v)
+pub made_hand : (s : Setting) (x : Held) (d : DeviceId) (v : ℕ) (entry : Entry) → hand_of s x ≡ Made d v entry → (what : Arrival) × (x ≡ Ready d.0 what v) × (entry ≡ entry_held s d.0 what v)
 made_hand s Nothing d v entry h = absurd (cc)
 made_hand s (Taken f what) d v entry h = absurd (cc)
 made_hand s (Ready f what w) d v entry h =
-    let a : f ≡ d = cc in
+    let g : DeviceId = record { 0 = f } in
+    let a : g ≡ d = cc in
+    let n : f ≡ d.0 = ap (λ (x : DeviceId). x.0) a in
     let b : w ≡ v = cc in
     let e : entry_held s f what w ≡ entry = cc in
-    (what, (let q : Ready f what w ≡ Ready d what v = cc in q), sym e ∙ ap (λ x. entry_held s x what w) a ∙ ap (entry_held s d what) b)
+    (what, (let q : Ready f what w ≡ Ready d.0 what v = rw (n, b) refl in q), sym e ∙ ap (λ x. entry_held s x what w) n ∙ ap (entry_held s d.0 what) b)

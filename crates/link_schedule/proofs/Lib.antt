@@ -6,6 +6,7 @@ pub mod Laws
 pub mod Links
 pub mod Promises
 pub mod Runs
+pub mod Steps
 pub mod Tests
 pub mod Worked
 pub mod Worlds

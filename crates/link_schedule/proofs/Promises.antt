@@ -546,3 +546,22 @@ answer_not_ahead s H r d l k m L low i = λ h.
     let f = answer_look (commits d H) (is_call (awaited_call J) l k) (nat_lt (pushed_count l J) k) (pushed_count l J) l k test in
     let g = ap is_ahead (sym (read_is s H r d (TheAnswer l k) low i) ∙ h) in
     cc
+
+-- ---- at every replica
+
+read_void : (s : Setting) (H : List Turn) (r : ℕ) → s.replicas < r → answer s H (Read r) ≡ told.VoidReplica
+read_void s H r above = rw (le_false r s.replicas above) refl
+
+pub never_settled : (s : Setting) (H : List Turn) (r d n : ℕ) → Lawful s H → Holds d (TheMessage n) (hand r H) → acked d H < n → answer s H (Read r) ≢ told.Settled n
+never_settled s H r d n L i more = λ h.
+    ⊎_elim
+    (λ (above : s.replicas < r). let f = ap is_settled (sym (read_void s H r above) ∙ h) in cc)
+    (λ (low : r ≤ s.replicas). not_settled s H r d n L low i more h)
+    (cases_lt s.replicas r)
+
+pub never_ahead : (s : Setting) (H : List Turn) (r d : ℕ) (l : Lane) (k m : ℕ) → Lawful s H → Holds d (TheAnswer l k) (hand r H) → answer s H (Read r) ≢ told.Ahead m
+never_ahead s H r d l k m L i = λ h.
+    ⊎_elim
+    (λ (above : s.replicas < r). let f = ap is_ahead (sym (read_void s H r above) ∙ h) in cc)
+    (λ (low : r ≤ s.replicas). answer_not_ahead s H r d l k m L low i h)
+    (cases_lt s.replicas r)

@@ -122,6 +122,32 @@ hands_answers : answers (with services 2) hands ≡
 unfolding step_table step_of moves_connection drops_ue frees_bearers from with services d hands
 hands_answers = refl
 
+-- four messages are sent ahead, and no fifth before the first is acknowledged, which is then sent no more
+sends : List Event
+sends = Send d 4 ∷ Send d 5 ∷ served 1 ++ Reply d 1 ∷ Send d 5 ∷ Send d 1 ∷ []
+
+sends_answers : answers (with services 1) sends ≡ told.Sent ∷ told.VoidWindow ∷ told.Sent ∷ told.Taken ∷ told.Ready 0 ∷ told.Committed 1 ∷ told.Acked 1 ∷ told.Sent ∷ told.VoidWindow ∷ []
+unfolding step_table step_of moves_connection drops_ue frees_bearers from with services d served sends
+sends_answers = refl
+
+-- a second device, and what is the first's is not its own, nor is one lane the other
+e : DeviceId
+e = record { 0 = 2 }
+
+both : Setting
+both = record { rows = record no_row { number = 1 } ∷ record no_row { number = 2 } ∷ []; book = (attach ∷ []) ∷ (from 1 bodies.Service ∷ []) ∷ []; replicas = 2 }
+
+two : List Event
+two =
+    Send d 1 ∷ Take 1 e 1 ∷ Send e 1 ∷ Take 1 d 1 ∷ Take 2 e 1 ∷ Read 1 ∷ Read 2 ∷ Write 1 ∷ Write 2 ∷ Reply e 1 ∷ Reply d 2 ∷ Push e Subscriber 1 ∷ Push d Subscriber 1 ∷ Effect e Subscriber 1
+    ∷ Effect d Gateway 1 ∷ Effect d Subscriber 1 ∷ Answer 1 e Subscriber 1 ∷ Settle e Subscriber 1 ∷ Settle d Gateway 1 ∷ Settle d Subscriber 1 ∷ Push d Subscriber 1 ∷ Push e Down 1 ∷ Send d 1 ∷ Send e 1 ∷ []
+
+two_answers : answers both two ≡
+    told.Sent ∷ told.VoidLink ∷ told.Sent ∷ told.Taken ∷ told.Taken ∷ told.Ready 0 ∷ told.Ready 0 ∷ told.Committed 1 ∷ told.Committed 1 ∷ told.Acked 1 ∷ told.VoidLink ∷ told.VoidOutbox ∷ told.Pushed ∷ told.VoidLink
+    ∷ told.VoidLink ∷ told.Accepted 1 ∷ told.VoidLink ∷ told.VoidLink ∷ told.VoidLink ∷ told.Settled 1 ∷ told.VoidOutbox ∷ told.Pushed ∷ told.Sent ∷ told.VoidWindow ∷ []
+unfolding step_table step_of moves_connection drops_ue frees_bearers from both attach d e two
+two_answers = refl
+
 -- ---- what the turns of the call leave
 
 after_call : List Turn

@@ -4,6 +4,7 @@ use Rattle.std.specs.Prelude.{map, slice_get}
 use Rattle.std.proofs.lemmas.List.{get_or-map, length-map}
 use Rattle.std.proofs.lemmas.List.Elements.{All-get_or}
 use Rattle.std.proofs.lemmas.List.FromFn.{get_or-range_with_len}
+use Rattle.std.proofs.lemmas.Option.{slice_get-get_or}
 use Rattle.agent_resend.specs.Window.{WindowState}
 use Rattle.device_types.specs.declared.event.Event.{Event}
 use Rattle.device_types.specs.declared.event.EventAnswer.{EventAnswer}
@@ -12,6 +13,7 @@ use Rattle.device_types.specs.declared.event.Lane.TheVariants.{Down, Gateway, Su
 use Rattle.device_types.specs.declared.input.Input.{Input}
 use Rattle.device_types.specs.declared.message.Message.{Message}
 use Rattle.device_types.specs.declared.step.Entry.{Entry}
+use Rattle.device_types.specs.declared.subscriber.DeviceId.{DeviceId}
 use Rattle.device_types.specs.Journal.{version_of}
 use Rattle.device_types.specs.Line.{number_of, IsNumbered, IsLine}
 use Rattle.device_types.specs.Numbers.{IsWithin}
@@ -20,10 +22,10 @@ use Rattle.link_schedule.specs.Answer.{look_at, answer, turn, history, IsEvent, 
 use Rattle.link_schedule.specs.Counts.{Turn, Arrival, Held, hand, journal}
 use Rattle.link_schedule.specs.Counts.Arrival.{TheMessage, TheAnswer}
 use Rattle.link_schedule.specs.Counts.Held.{Nothing, Taken, Ready}
-use Rattle.link_schedule.specs.Input.{no_message, input_of, IsArrival, IsHand}
+use Rattle.link_schedule.specs.Input.{message_of, no_message, input_of, IsArrival, IsHand}
 use Rattle.link_schedule.specs.Lists.{has}
 use Rattle.link_schedule.specs.Promise.{Holds}
-use Rattle.link_schedule.specs.Setting.{Setting, messages_of, entries_of, window}
+use Rattle.link_schedule.specs.Setting.{Setting, messages_of, entries_of, window, no_row, row_of}
 use Rattle.link_schedule.specs.World.{Hand, Parts, WorldState, IsSetting, row_after, hand_of, IsWindowOf, AreGatewayCalls, AreSubscriberCalls, AreSent, ArePushed, marks_on, ArePartsOf, AreLinksOf, IsWorld, Answers}
 use Rattle.link_schedule.specs.World.Hand.{Empty, Holding, Made}
 use Rattle.link_schedule.proofs.Events.{history_more, entry_held}
@@ -94,15 +96,15 @@ answered w e a p told = record { same = refl; more = refl; answered = told }
 -- ---- hands
 
 -- of a hand with this input, what arrived
-abbrev pub IsWith : ℕ → Input → Hand → Type 0
+abbrev pub IsWith : DeviceId → Input → Hand → Type 0
 IsWith d input Empty = ⊥
 IsWith d input (Holding e other) = (e ≡ d) × (other ≡ input)
 IsWith d input (Made e v entry) = (e ≡ d) × (entry.input ≡ input)
 
-pub with_input : (s : Setting) (x : Held) (d : ℕ) (input : Input) → IsWith d input (hand_of s x) → (what : Arrival) × Holds d what x × (input ≡ input_of s d what)
+pub with_input : (s : Setting) (x : Held) (d : DeviceId) (input : Input) → IsWith d input (hand_of s x) → (what : Arrival) × Holds d.0 what x × (input ≡ input_of s d.0 what)
 with_input s Nothing d input i = absurd (i)
-with_input s (Taken e what) d input i = (what, (sym i.0, refl), sym i.1 ∙ ap (λ f. input_of s f what) i.0)
-with_input s (Ready e what v) d input i = (what, (sym i.0, refl), sym i.1 ∙ ap (λ f. input_of s f what) i.0)
+with_input s (Taken e what) d input i = (what, (ap (λ (x : DeviceId). x.0) (sym i.0), refl), sym i.1 ∙ ap (λ (f : DeviceId). input_of s f.0 what) i.0)
+with_input s (Ready e what v) d input i = (what, (ap (λ (x : DeviceId). x.0) (sym i.0), refl), sym i.1 ∙ ap (λ (f : DeviceId). input_of s f.0 what) i.0)
 
 -- what a replica holds was on its link, and is of a row
 pub held_arrival : (s : Setting) (H : List Turn) (r d : ℕ) (what : Arrival) → Lawful s H → Holds d what (hand r H) → IsArrival H d what × IsWithin (length s.rows) d
@@ -136,3 +138,21 @@ look_same s H J d (TheMessage n) is L i =
     let line = line_of s d is b.0 in
     ap (λ k. look_at J (TheMessage k)) (number_in (messages_of s d) n line.numbers b.1 b.2)
 look_same s H J d (TheAnswer l k) is L i = refl
+
+-- ---- what a store under the law of the machine that never fails asks
+
+pub row_there : (s : Setting) (d : ℕ) → IsWithin (length s.rows) d → slice_get s.rows (d - 1) ≡ Some (row_of s d)
+row_there s d within = slice_get-get_or s.rows (d - 1) no_row (omega (arith, within.0, within.1))
+
+pub line_there : (s : Setting) (d : ℕ) → IsSetting s → IsWithin (length s.rows) d → slice_get s.book (d - 1) ≡ Some (messages_of s d)
+line_there s d is within = slice_get-get_or s.book (d - 1) [] (omega (arith, is.each, within.0, within.1))
+
+-- the message of a hand stands in the line at its number
+pub message_own : (s : Setting) (H : List Turn) (d n : ℕ) → IsSetting s → Lawful s H → IsArrival H d (TheMessage n) → slice_get (messages_of s d) ((message_of s d n).number - 1) ≡ Some (message_of s d n)
+message_own s H d n is L i =
+    let b = sent_bound s d n H L i.1 in
+    let line = line_of s d is b.0 in
+    let low = b.1 in
+    let high = b.2 in
+    ap (λ k. slice_get (messages_of s d) (k - 1)) (number_in (messages_of s d) n line.numbers b.1 b.2)
+    ∙ slice_get-get_or (messages_of s d) (n - 1) no_message (omega arith)

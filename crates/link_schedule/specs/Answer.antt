@@ -36,17 +36,17 @@ look_answer v (look.NotAwaited k) = told.Ahead k
 
 -- of device d, what arrived
 abbrev pub looked : Setting → List Turn → ℕ → Arrival → EventAnswer
-looked s H d what = look_answer (commits d H) (look_at (journal s d H) what)
+looked s turns d what = look_answer (commits d turns) (look_at (journal s d turns) what)
 
 abbrev pub read_answer : Setting → List Turn → Held → EventAnswer
-read_answer s H Nothing = told.VoidHand
-read_answer s H (Taken d what) = looked s H d what
-read_answer s H (Ready d what v) = looked s H d what
+read_answer s turns Nothing = told.VoidHand
+read_answer s turns (Taken d what) = looked s turns d what
+read_answer s turns (Ready d what v) = looked s turns d what
 
 -- a step is committed exactly where the version that was read is current
 abbrev pub write_answer : List Turn → Held → EventAnswer
-write_answer H (Ready d what v) = if commits d H == v then told.Committed (v + 1) else told.Stale v (commits d H)
-write_answer H _ = told.VoidHand
+write_answer turns (Ready d what v) = if commits d turns == v then told.Committed (v + 1) else told.Stale v (commits d turns)
+write_answer turns _ = told.VoidHand
 
 -- where there is such a replica
 abbrev pub on_replica : Setting → ℕ → EventAnswer → EventAnswer
@@ -55,36 +55,36 @@ on_replica s r a = if nat_le r s.replicas then a else told.VoidReplica
 -- ---- every event
 
 abbrev pub answer : Setting → List Turn → Event → EventAnswer
-answer s H (Send d n) =
-    if nat_lt (acked d.0 H) n && nat_le n (acked d.0 H + window) && nat_le n (message_count s d.0)
+answer s turns (Send d n) =
+    if nat_lt (acked d.0 turns) n && nat_le n (acked d.0 turns + window) && nat_le n (message_count s d.0)
     then told.Sent
     else told.VoidWindow
-answer s H (Take r d n) = on_replica s r (if message_sent d.0 n H then told.Taken else told.VoidLink)
-answer s H (Answer r d lane k) = on_replica s r (if effect_received d.0 lane k H then told.Taken else told.VoidLink)
-answer s H (Read r) = on_replica s r (read_answer s H (hand r H))
-answer s H (Write r) = on_replica s r (write_answer H (hand r H))
-answer s H (Stop r) = on_replica s r told.Stopped
-answer s H (Reply d n) =
-    if reply_sent d.0 n H
-    then (if nat_lt (acked d.0 H) n then told.Acked n else told.Old n)
+answer s turns (Take r d n) = on_replica s r (if message_sent d.0 n turns then told.Taken else told.VoidLink)
+answer s turns (Answer r d lane k) = on_replica s r (if effect_received d.0 lane k turns then told.Taken else told.VoidLink)
+answer s turns (Read r) = on_replica s r (read_answer s turns (hand r turns))
+answer s turns (Write r) = on_replica s r (write_answer turns (hand r turns))
+answer s turns (Stop r) = on_replica s r told.Stopped
+answer s turns (Reply d n) =
+    if reply_sent d.0 n turns
+    then (if nat_lt (acked d.0 turns) n then told.Acked n else told.Old n)
     else told.VoidLink
-answer s H (Push d lane k) =
-    if nat_lt (settled d.0 lane H) k && nat_le k (pushed_count lane (journal s d.0 H))
+answer s turns (Push d lane k) =
+    if nat_lt (settled d.0 lane turns) k && nat_le k (pushed_count lane (journal s d.0 turns))
     then told.Pushed
     else told.VoidOutbox
-answer s H (Effect d lane k) =
-    if effect_pushed d.0 lane k H
-    then (if k == accepted d.0 lane H + 1 then told.Accepted k else if nat_le k (accepted d.0 lane H) then told.Repeat k else told.Ahead (accepted d.0 lane H))
+answer s turns (Effect d lane k) =
+    if effect_pushed d.0 lane k turns
+    then (if k == accepted d.0 lane turns + 1 then told.Accepted k else if nat_le k (accepted d.0 lane turns) then told.Repeat k else told.Ahead (accepted d.0 lane turns))
     else told.VoidLink
-answer s H (Settle d lane k) =
-    if effect_received d.0 lane k H
-    then (if nat_le k (settled d.0 lane H) then told.Old k else told.Settled k)
+answer s turns (Settle d lane k) =
+    if effect_received d.0 lane k turns
+    then (if nat_le k (settled d.0 lane turns) then told.Old k else told.Settled k)
     else told.VoidLink
 
 -- ---- a list of events
 
 abbrev pub turn : Setting → List Turn → Event → List Turn
-turn s H event = (event, answer s H event) ∷ H
+turn s turns event = (event, answer s turns event) ∷ turns
 
 -- the turns of these events, which came in this order; the newest turn stands first
 abbrev pub history : Setting → List Event → List Turn
@@ -112,4 +112,4 @@ IsEvent s (Settle d lane k) = IsWithin (length s.rows) d.0 × (1 ≤ k)
 -- each turn has such an event, with its answer
 abbrev pub Lawful : Setting → List Turn → Type 0
 Lawful s [] = Unit {0}
-Lawful s (t ∷ H) = IsEvent s t.0 × (t.1 ≡ answer s H t.0) × Lawful s H
+Lawful s (t ∷ turns) = IsEvent s t.0 × (t.1 ≡ answer s turns t.0) × Lawful s turns

@@ -93,7 +93,7 @@ held_after r _ a h = h
 -- what replica r holds
 abbrev pub hand : ℕ → List Turn → Held
 hand r [] = Nothing
-hand r (t ∷ H) = held_after r t.0 t.1 (hand r H)
+hand r (t ∷ turns) = held_after r t.0 t.1 (hand r turns)
 
 -- the hand has a step of device d
 abbrev pub is_ready_for : ℕ → Held → Bool
@@ -110,61 +110,61 @@ is_ready_with d n _ = false
 -- how many steps of device d were committed
 abbrev pub commits : ℕ → List Turn → ℕ
 commits d [] = 0
-commits d ((Write r, a) ∷ H) = if is_committed a && is_ready_for d (hand r H) then suc (commits d H) else commits d H
-commits d ((_, a) ∷ H) = commits d H
+commits d ((Write r, a) ∷ turns) = if is_committed a && is_ready_for d (hand r turns) then suc (commits d turns) else commits d turns
+commits d ((_, a) ∷ turns) = commits d turns
 
 -- the greatest message of device d that its agent learnt to be taken
 abbrev pub acked : ℕ → List Turn → ℕ
 acked d [] = 0
-acked d ((Reply e n, a) ∷ H) = if is_acked a && (d == e.0) then max n (acked d H) else acked d H
-acked d ((_, a) ∷ H) = acked d H
+acked d ((Reply e n, a) ∷ turns) = if is_acked a && (d == e.0) then max n (acked d turns) else acked d turns
+acked d ((_, a) ∷ turns) = acked d turns
 
 -- the greatest effect of a lane of device d that its receiver accepted
 abbrev pub accepted : ℕ → Lane → List Turn → ℕ
 accepted d l [] = 0
-accepted d l ((Effect e m k, a) ∷ H) = if is_accepted a && (d == e.0) && same_lane l m then max k (accepted d l H) else accepted d l H
-accepted d l ((_, a) ∷ H) = accepted d l H
+accepted d l ((Effect e m k, a) ∷ turns) = if is_accepted a && (d == e.0) && same_lane l m then max k (accepted d l turns) else accepted d l turns
+accepted d l ((_, a) ∷ turns) = accepted d l turns
 
 -- the greatest effect of a lane of device d that was settled
 abbrev pub settled : ℕ → Lane → List Turn → ℕ
 settled d l [] = 0
-settled d l ((Settle e m k, a) ∷ H) = if is_settled a && (d == e.0) && same_lane l m then max k (settled d l H) else settled d l H
-settled d l ((_, a) ∷ H) = settled d l H
+settled d l ((Settle e m k, a) ∷ turns) = if is_settled a && (d == e.0) && same_lane l m then max k (settled d l turns) else settled d l turns
+settled d l ((_, a) ∷ turns) = settled d l turns
 
 -- the greatest message of device d that its agent has sent
 abbrev pub greatest_sent : ℕ → List Turn → ℕ
 greatest_sent d [] = 0
-greatest_sent d ((Send e n, a) ∷ H) = if is_sent a && (d == e.0) then max n (greatest_sent d H) else greatest_sent d H
-greatest_sent d ((_, a) ∷ H) = greatest_sent d H
+greatest_sent d ((Send e n, a) ∷ turns) = if is_sent a && (d == e.0) then max n (greatest_sent d turns) else greatest_sent d turns
+greatest_sent d ((_, a) ∷ turns) = greatest_sent d turns
 
 -- ---- what is on a link
 
 -- message n of device d
 abbrev pub message_sent : ℕ → ℕ → List Turn → Bool
 message_sent d n [] = false
-message_sent d n ((Send e m, a) ∷ H) = (is_sent a && (d == e.0) && (n == m)) || message_sent d n H
-message_sent d n ((_, a) ∷ H) = message_sent d n H
+message_sent d n ((Send e m, a) ∷ turns) = (is_sent a && (d == e.0) && (n == m)) || message_sent d n turns
+message_sent d n ((_, a) ∷ turns) = message_sent d n turns
 
 -- the reply to message n of device d
 abbrev pub reply_sent : ℕ → ℕ → List Turn → Bool
 reply_sent d n [] = false
-reply_sent d n ((Write r, a) ∷ H) = (is_committed a && is_ready_with d n (hand r H)) || reply_sent d n H
-reply_sent d n ((_, a) ∷ H) = reply_sent d n H
+reply_sent d n ((Write r, a) ∷ turns) = (is_committed a && is_ready_with d n (hand r turns)) || reply_sent d n turns
+reply_sent d n ((_, a) ∷ turns) = reply_sent d n turns
 
 -- effect k of a lane of device d
 abbrev pub effect_pushed : ℕ → Lane → ℕ → List Turn → Bool
 effect_pushed d l k [] = false
-effect_pushed d l k ((Push e m j, a) ∷ H) = (is_pushed a && (d == e.0) && same_lane l m && (k == j)) || effect_pushed d l k H
-effect_pushed d l k ((_, a) ∷ H) = effect_pushed d l k H
+effect_pushed d l k ((Push e m j, a) ∷ turns) = (is_pushed a && (d == e.0) && same_lane l m && (k == j)) || effect_pushed d l k turns
+effect_pushed d l k ((_, a) ∷ turns) = effect_pushed d l k turns
 
 -- the acknowledgement of effect k of a lane of device d, and the answer to it, if it is a call
 abbrev pub effect_received : ℕ → Lane → ℕ → List Turn → Bool
 effect_received d l k [] = false
-effect_received d l k ((Effect e m j, a) ∷ H) = (is_received a && (d == e.0) && same_lane l m && (k == j)) || effect_received d l k H
-effect_received d l k ((_, a) ∷ H) = effect_received d l k H
+effect_received d l k ((Effect e m j, a) ∷ turns) = (is_received a && (d == e.0) && same_lane l m && (k == j)) || effect_received d l k turns
+effect_received d l k ((_, a) ∷ turns) = effect_received d l k turns
 
 -- ---- the journal
 
 -- the journal of device d: so many entries of the machine that never fails as steps were committed
 abbrev pub journal : Setting → ℕ → List Turn → List Entry
-journal s d H = entries_to s d (commits d H)
+journal s d turns = entries_to s d (commits d turns)

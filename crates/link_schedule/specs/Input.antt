@@ -30,15 +30,15 @@ input_of s d (TheAnswer lane k) = inputs.Answer lane k (answer_of (row_of s d) (
 
 -- it is on its link
 abbrev pub IsArrival : List Turn → ℕ → Arrival → Type 0
-IsArrival H d (TheMessage n) = (1 ≤ n) × (message_sent d n H ≡ true)
-IsArrival H d (TheAnswer lane k) = IsCallLane lane × (1 ≤ k) × (effect_received d lane k H ≡ true)
+IsArrival turns d (TheMessage n) = (1 ≤ n) × (message_sent d n turns ≡ true)
+IsArrival turns d (TheAnswer lane k) = IsCallLane lane × (1 ≤ k) × (effect_received d lane k turns ≡ true)
 
 -- a step is of an input that comes next behind the version that was read, as the row said
 abbrev pub IsHand : Setting → List Turn → Held → Type 0
-IsHand s H Nothing = Unit {0}
-IsHand s H (Taken d what) = IsArrival H d what
-IsHand s H (Ready d what v) =
-    IsArrival H d what
-    × (v ≤ commits d H)
+IsHand s turns Nothing = Unit {0}
+IsHand s turns (Taken d what) = IsArrival turns d what
+IsHand s turns (Ready d what v) =
+    IsArrival turns d what
+    × (v ≤ commits d turns)
     × (look_at (entries_to s d v) what ≡ look.Ready)
     × (next_input (row_of s d) (messages_of s d) (entries_to s d v) ≡ Some (input_of s d what))

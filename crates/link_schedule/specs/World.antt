@@ -15,6 +15,7 @@ use Rattle.device_types.specs.declared.input.Input.{Input}
 use Rattle.device_types.specs.declared.message.Message.{Message}
 use Rattle.device_types.specs.declared.step.Entry.{Entry}
 use Rattle.device_types.specs.declared.step.Reply.{Reply}
+use Rattle.device_types.specs.declared.subscriber.DeviceId.{DeviceId}
 use Rattle.device_types.specs.Alone.{entry_of}
 use Rattle.device_types.specs.Journal.{effects_of, taken_count, reply_of}
 use Rattle.device_types.specs.Line.{IsLine}
@@ -36,8 +37,8 @@ use Rattle.link_schedule.specs.Setting.{Setting, row_of, messages_of, entries_to
 -- the hand of a replica: with the input that arrived for device d, or the entry that was made of it at a version
 pub data Hand : Type 0 where
   Empty : Hand
-  Holding : (d : ℕ) (input : Input) → Hand
-  Made : (d version : ℕ) (entry : Entry) → Hand
+  Holding : (d : DeviceId) (input : Input) → Hand
+  Made : (d : DeviceId) (version : ℕ) (entry : Entry) → Hand
 
 -- a mark for each effect, by its lane
 pub record LaneMarks : Type 0 where
@@ -86,21 +87,21 @@ pub record IsSetting (s : Setting) : Type 0 where
 
 -- of each lane of device d, how many effects are settled
 abbrev pub settled_numbers : ℕ → List Turn → LaneNumbers
-settled_numbers d H = record { down = settled d Down H; gateway = settled d Gateway H; subscriber = settled d Subscriber H }
+settled_numbers d turns = record { down = settled d Down turns; gateway = settled d Gateway turns; subscriber = settled d Subscriber turns }
 
 -- the row of device d
 abbrev pub row_after : Setting → List Turn → ℕ → RowState
-row_after s H d = record { journal = journal s d H; settled = settled_numbers d H }
+row_after s turns d = record { journal = journal s d turns; settled = settled_numbers d turns }
 
 -- the hand of a replica that holds this: what arrived with its content, and the step of the machine that never fails
 abbrev pub hand_of : Setting → Held → Hand
 hand_of s Nothing = Empty
-hand_of s (Taken d what) = Holding d (input_of s d what)
-hand_of s (Ready d what v) = Made d v (entry_of (row_of s d) (entries_to s d v) (input_of s d what))
+hand_of s (Taken d what) = Holding (record { 0 = d }) (input_of s d what)
+hand_of s (Ready d what v) = Made (record { 0 = d }) v (entry_of (row_of s d) (entries_to s d v) (input_of s d what))
 
 -- what the receiver of a lane of device d has accepted: the first effects of that lane of the machine that never fails
 abbrev pub accepted_effects : Setting → Lane → List Turn → ℕ → List Effect
-accepted_effects s l H d = take (accepted d l H) (effects_of l (entries_of s d))
+accepted_effects s l turns d = take (accepted d l turns) (effects_of l (entries_of s d))
 
 -- a window over these messages, so many of them acknowledged and sent, that has accepted these
 pub record IsWindow (messages : List Message) (last highest : ℕ) (accepts : List Effect) (window : WindowState) : Type 0 where
@@ -110,31 +111,31 @@ pub record IsWindow (messages : List Message) (last highest : ℕ) (accepts : Li
 
 -- the window of device d
 abbrev pub IsWindowOf : Setting → List Turn → ℕ → WindowState → Type 0
-IsWindowOf s H d window = IsWindow (messages_of s d) (acked d H) (greatest_sent d H) (accepted_effects s Down H d) window
+IsWindowOf s turns d window = IsWindow (messages_of s d) (acked d turns) (greatest_sent d turns) (accepted_effects s Down turns d) window
 
 abbrev pub AreGatewayCalls : Setting → List Turn → ℕ → List GwCall → Type 0
-AreGatewayCalls s H d calls = map effects.Gateway calls ≡ accepted_effects s Gateway H d
+AreGatewayCalls s turns d calls = map effects.Gateway calls ≡ accepted_effects s Gateway turns d
 
 abbrev pub AreSubscriberCalls : Setting → List Turn → ℕ → List SubCall → Type 0
-AreSubscriberCalls s H d calls = map effects.Subscriber calls ≡ accepted_effects s Subscriber H d
+AreSubscriberCalls s turns d calls = map effects.Subscriber calls ≡ accepted_effects s Subscriber turns d
 
 -- the messages of device d that were sent
 abbrev pub AreSent : List Turn → ℕ → List Bool → Type 0
-AreSent H d marks = (n : ℕ) → 1 ≤ n → has n marks ≡ message_sent d n H
+AreSent turns d marks = (n : ℕ) → 1 ≤ n → has n marks ≡ message_sent d n turns
 
 -- the effects of device d that were pushed
 abbrev pub ArePushed : List Turn → ℕ → LaneMarks → Type 0
-ArePushed H d marks = (l : Lane) (k : ℕ) → 1 ≤ k → has k (marks_on marks l) ≡ effect_pushed d l k H
+ArePushed turns d marks = (l : Lane) (k : ℕ) → 1 ≤ k → has k (marks_on marks l) ≡ effect_pushed d l k turns
 
 -- each part is what the turns make of it
-pub record ArePartsOf (s : Setting) (H : List Turn) (p : Parts) : Type 0 where
-  pub rows : Each p.rows (length s.rows) (λ d row. row ≡ row_after s H d)
-  pub hands : Each p.hands s.replicas (λ r held. held ≡ hand_of s (hand r H))
-  pub windows : Each p.windows (length s.rows) (IsWindowOf s H)
-  pub gateway : Each p.gateway (length s.rows) (AreGatewayCalls s H)
-  pub subscriber : Each p.subscriber (length s.rows) (AreSubscriberCalls s H)
-  pub sent : Each p.sent (length s.rows) (AreSent H)
-  pub pushed : Each p.pushed (length s.rows) (ArePushed H)
+pub record ArePartsOf (s : Setting) (turns : List Turn) (p : Parts) : Type 0 where
+  pub rows : Each p.rows (length s.rows) (λ d row. row ≡ row_after s turns d)
+  pub hands : Each p.hands s.replicas (λ r held. held ≡ hand_of s (hand r turns))
+  pub windows : Each p.windows (length s.rows) (IsWindowOf s turns)
+  pub gateway : Each p.gateway (length s.rows) (AreGatewayCalls s turns)
+  pub subscriber : Each p.subscriber (length s.rows) (AreSubscriberCalls s turns)
+  pub sent : Each p.sent (length s.rows) (AreSent turns)
+  pub pushed : Each p.pushed (length s.rows) (ArePushed turns)
 
 -- ---- the packets on the links, with their contents
 
@@ -143,17 +144,17 @@ if_so b o = if b then o else None
 
 -- the turns say which there are; the contents are of the book and of the machine that never fails
 abbrev pub message_packet : Setting → List Turn → ℕ → ℕ → Option Message
-message_packet s H d n = if_so (message_sent d n H) (Some (message_of s d n))
+message_packet s turns d n = if_so (message_sent d n turns) (Some (message_of s d n))
 
 abbrev pub reply_packet : Setting → List Turn → ℕ → ℕ → Option Reply
-reply_packet s H d n = if_so (reply_sent d n H) (reply_of (entries_of s d) n)
+reply_packet s turns d n = if_so (reply_sent d n turns) (reply_of (entries_of s d) n)
 
 abbrev pub effect_packet : Setting → List Turn → ℕ → Lane → ℕ → Option Effect
-effect_packet s H d l k = if_so (effect_pushed d l k H) (slice_get (effects_of l (entries_of s d)) (k - 1))
+effect_packet s turns d l k = if_so (effect_pushed d l k turns) (slice_get (effects_of l (entries_of s d)) (k - 1))
 
 -- the answer to a call; it comes with the acknowledgement
 abbrev pub answer_packet : Setting → List Turn → ℕ → Lane → ℕ → Option Answer
-answer_packet s H d l k = if_so (effect_received d l k H) (Some (answer_of (row_of s d) (take k (effects_of l (entries_of s d)))))
+answer_packet s turns d l k = if_so (effect_received d l k turns) (Some (answer_of (row_of s d) (take k (effects_of l (entries_of s d)))))
 
 -- the parts of device d
 abbrev pub row_in : Parts → ℕ → RowState
@@ -193,11 +194,11 @@ abbrev pub answer_found : Setting → Parts → ℕ → Lane → ℕ → Option 
 answer_found s p d l k = if_so (nat_le k (length (accepted_in p l d))) (Some (answer_of (row_of s d) (take k (accepted_in p l d))))
 
 -- each packet is found with its content
-pub record AreLinksOf (s : Setting) (H : List Turn) (p : Parts) : Type 0 where
-  pub messages : (d n : ℕ) → IsWithin (length s.rows) d → 1 ≤ n → message_found p d n ≡ message_packet s H d n
-  pub replies : (d n : ℕ) → IsWithin (length s.rows) d → 1 ≤ n → reply_found p d n ≡ reply_packet s H d n
-  pub effects : (d : ℕ) (l : Lane) (k : ℕ) → IsWithin (length s.rows) d → 1 ≤ k → effect_found p d l k ≡ effect_packet s H d l k
-  pub answers : (d : ℕ) (l : Lane) (k : ℕ) → IsWithin (length s.rows) d → 1 ≤ k → answer_found s p d l k ≡ answer_packet s H d l k
+pub record AreLinksOf (s : Setting) (turns : List Turn) (p : Parts) : Type 0 where
+  pub messages : (d n : ℕ) → IsWithin (length s.rows) d → 1 ≤ n → message_found p d n ≡ message_packet s turns d n
+  pub replies : (d n : ℕ) → IsWithin (length s.rows) d → 1 ≤ n → reply_found p d n ≡ reply_packet s turns d n
+  pub effects : (d : ℕ) (l : Lane) (k : ℕ) → IsWithin (length s.rows) d → 1 ≤ k → effect_found p d l k ≡ effect_packet s turns d l k
+  pub answers : (d : ℕ) (l : Lane) (k : ℕ) → IsWithin (length s.rows) d → 1 ≤ k → answer_found s p d l k ≡ answer_packet s turns d l k
 
 -- ---- what holds of a world
 
