@@ -1,0 +1,13 @@
+//! The replicas of the core, which keep nothing that is needed after they stop.
+#![tactic(auto)]
+
+mod hand;
+mod laws;
+mod replica;
+mod replies;
+//#[cfg(test)]
+//mod tests;
+
+pub use hand::Hand;
+pub use laws::more_known_keeps;
+pub use replica::{Looked, Replica, Wrote};
