@@ -88,6 +88,17 @@ def case(lines, devices, name):
     return ("\n".join(text) + "\n").encode()
 
 
+def write_case(path, lines, devices, name):
+    """Writes a case text in a process of its own, since what this one holds would count as the program's memory."""
+    child = os.fork()
+    if child == 0:
+        with open(path, "wb") as text:
+            text.write(case(lines, devices, name))
+        os._exit(0)
+    assert os.waitpid(child, 0)[1] == 0, "no case text was written"
+    return os.path.getsize(path)
+
+
 def run(program, word, path):
     """Seconds and KiB of one run, and how many octets it wrote."""
     with open(path, "rb") as text, tempfile.TemporaryFile() as out:
@@ -116,8 +127,7 @@ def main():
     ]:
         for lines in (options.l // 4, options.l // 2, options.l):
             with tempfile.NamedTemporaryFile() as text:
-                size = text.write(case(lines, options.d, name))
-                text.flush()
+                size = write_case(text.name, lines, options.d, name)
                 runs = [run(options.program, word, text.name) for _ in range(options.r)]
                 seconds, memory, out = min(runs)
                 print("%-24s %8d %10d %8.0f %10d %10d" % (label, lines, size, seconds * 1000, memory, out), flush=True)

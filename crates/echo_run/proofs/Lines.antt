@@ -41,9 +41,9 @@ pub few_in_book : (n : ℕ) (rows : List Subscriber) (trace : List TraceLine) �
 few_in_book n rows trace most =
     All-map (λ (messages : List Message). length messages ≤ 100000) (λ d. messages_of d (history rows trace)) (range_with_len 1 n)
     (λ k d within.
-        let few = few_messages (get_or (range_with_len 1 n) k d) (history rows trace) in
-        let lines = turns rows [] trace in
-        omega arith)
+    let few = few_messages (get_or (range_with_len 1 n) k d) (history rows trace) in
+    let lines = turns rows [] trace in
+    omega arith)
 
 -- ---- what becomes of the devices can be printed
 

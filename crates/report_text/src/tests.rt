@@ -238,7 +238,10 @@ fn lines_of_statuses(rt: HostRuntime) -> Result<(), Fail> {
     let (number, line) = (22, 3);
     let refused = Status::CaseRefused { number, line };
     let text = status_line(alloc, &refused)?;
-    assert_eq!(rt; text.octets(), b"echo: case refused 22 RepeatedImsi line 3\n".as_slice());
+    assert_eq!(rt;
+        text.octets(),
+        b"echo: case refused 22 RepeatedImsi line 3\n".as_slice()
+    );
     let text = status_line(alloc, &Status::OutOfMemory)?;
     assert_eq!(rt; text.octets(), b"echo: out of memory\n".as_slice());
     Ok(())
