@@ -3,10 +3,12 @@
 
 mod awaiting;
 mod course;
+mod ends;
 mod stepping;
 #[cfg(test)]
 mod tests;
 
 pub use awaiting::awaited;
 pub use course::alone;
+pub use ends::{end_can_be_written, end_has_the_lanes, end_of};
 pub use stepping::step;

@@ -2,8 +2,9 @@
 //! it writes one line to standard error; it ends with the status's code.
 #![tactic(auto)]
 
-use echo_base::{RealSink, RealSource, Status};
+use echo_base::{RealSink, RealSource, Status, write_all};
 use echo_run::replay_top;
+use report_text::status_line;
 use std::env;
 use std::io::ErrorKind;
 use std::process::ExitCode;
@@ -32,10 +33,31 @@ fn run(rt: &HostRuntime) -> Status {
     }
 }
 
+/// Prints the line of a status to standard error.
+fn print_line(rt: &HostRuntime, status: &Status) {
+    match status_line(rt.alloc(), status) {
+        Ok(line) => {
+            let mut errors = RealSink::new(rt.stderr());
+            let _ = write_all(&mut errors, line.octets());
+        }
+        Err(_) => print_bare_line(rt, status),
+    }
+}
+
+/// Prints the line of a status to standard error without the name of a reason. It takes no memory.
+fn print_bare_line(rt: &HostRuntime, status: &Status) {
+    let _ = match status {
+        Status::CaseRefused { number, line } => {
+            eprintln!(rt; "echo: case refused {number} line {line}")
+        }
+        _ => eprintln!(rt; "{status}"),
+    };
+}
+
 fn main(rt: HostRuntime) -> ExitCode {
     let status = run(&rt);
     if status != Status::Done {
-        let _ = eprintln!(rt; "{status}");
+        print_line(&rt, &status);
     }
     ExitCode::from(status.code())
 }

@@ -1,4 +1,3 @@
 pub mod Answer
 pub mod Command
-pub mod Ends
 pub mod Top

@@ -1,13 +1,14 @@
 //! What a command makes of a case text.
 
-ghost use Rattle.std.specs.Prelude.{◌≡◌, IfErr, All};
+ghost use Rattle.std.specs.Prelude.{◌≡◌, ◌≤◌, length, IfOk, IfErr, All};
 ghost use Rattle.echo_base.specs.Reason.{reason_number};
 ghost use Rattle.device_types.specs.Numbers.{IsWithin};
+ghost use Rattle.case_form.specs.Case.{most_lines};
 ghost use Rattle.entry_edge.specs.Trace.{history};
-ghost use Rattle.echo_run.specs.Answer.{plain_of, made_of, answer_of, IsAnswer, IsOfCase};
+ghost use Rattle.echo_run.specs.Answer.{plain_of, text_of, answer_of, IsAnswer, IsOfLine};
 
 use crate::command::Command;
-use crate::ends::{all_service, ends_of};
+use crate::ends::finals_of;
 use case_form::{Case, CaseBad, read_case};
 use device_types::Octets;
 use echo_base::{OutOfMemory, Reason};
@@ -50,37 +51,28 @@ fn refused(reason: Reason, line: u32) -> NoText
     }
 }
 
-/// The final text of a case whose messages are Service Requests.
-fn plain(alloc: Global, case: &Case) -> Result<Octets, NoText>
-    requires { All (λ line. IsWithin 65535 line.station) case.now.trace.items }
-    ensures made { IsAnswer result (plain_of case.now.table (history case.now.table case.now.trace.items)) }
-    ensures of_case { IfErr result IsOfCase }
+/// What becomes of the devices of a case.
+fn plain(alloc: Global, case: &Case) -> Result<Octets, OutOfMemory>
+    requires stations { All (λ line. IsWithin 65535 line.station) case.now.trace.items }
+    requires lines { length case.now.trace.items ≤ most_lines }
+    ensures { IfOk result (λ text. text ≡ plain_of case.now.table (history case.now.table case.now.trace.items)) }
 {
+    let _rows = case.table.rows();
     let admitted = admit(alloc, &case.table, &case.trace)?;
-    if !all_service(admitted.book.items()) {
-        return Err(NoText::Refused {
-            number: 33,
-            line: 0,
-        });
-    }
-    let finals = ends_of(alloc, admitted.book.items())?;
-    let text = final_text(alloc, &case.table, &admitted.refused, &finals)?;
-    Ok(text)
+    let finals = finals_of(alloc, &case.table, &admitted.book)?;
+    final_text(alloc, &case.table, &admitted.refused, &finals)
 }
 
-/// What a command makes of a case.
-#[tactic(auto, unfolding(crate::specs::Answer::made_of))]
-fn made(alloc: Global, command: Command, case: &Case) -> Result<Octets, NoText>
-    requires { All (λ line. IsWithin 65535 line.station) case.now.trace.items }
-    ensures made { IsAnswer result (made_of command case.now.table case.now.trace.items) }
-    ensures of_case { IfErr result IsOfCase }
+/// The text that a command makes of a case.
+#[tactic(auto, unfolding(crate::specs::Answer::text_of))]
+fn text_of(alloc: Global, command: Command, case: &Case) -> Result<Octets, OutOfMemory>
+    requires stations { All (λ line. IsWithin 65535 line.station) case.now.trace.items }
+    requires lines { length case.now.trace.items ≤ most_lines }
+    ensures { IfOk result (λ text. text ≡ text_of command case.now.table case.now.trace.items) }
 {
     match command {
         Command::Plain => plain(alloc, case),
-        Command::Show => {
-            let text = show_text(alloc, &case.trace)?;
-            Ok(text)
-        }
+        Command::Show => show_text(alloc, &case.trace),
     }
 }
 
@@ -88,12 +80,13 @@ fn made(alloc: Global, command: Command, case: &Case) -> Result<Octets, NoText>
 #[tactic(auto, unfolding(crate::specs::Answer::answer_of))]
 pub fn answer(alloc: Global, command: Command, octets: &[u8]) -> Result<Octets, NoText>
     ensures answer { IsAnswer result (answer_of command octets.now) }
-    ensures of_case { IfErr result IsOfCase }
+    ensures of_line { IfErr result IsOfLine }
 {
     let case = match read_case(alloc, octets) {
         Ok(case) => case,
         Err(CaseBad::Refused { reason, line }) => return Err(refused(reason, line)),
         Err(CaseBad::OutOfMemory) => return Err(NoText::OutOfMemory),
     };
-    made(alloc, command, &case)
+    let text = text_of(alloc, command, &case)?;
+    Ok(text)
 }

@@ -5,28 +5,83 @@ use echo_base::{Give, MemSink, MemSource, Status, SureSource};
 use std::alloc::{AllocError, Global};
 use std::test::Fail;
 
-/// Rows and messages by their names.
+/// Rows, messages from a base station, and messages to it, by their names. Those from `reject` on go down. Where no other is named a
+/// message is of eNB-UE-S1AP-ID 1.
 const NAMES: &str = "\
 row {\"imsi\":\"208930000000001\",\"tmsi\":1,\"rand\":\"000102030405060708090a0b0c0d0e0f\",\"autn\":\"101112131415161718191a1b1c1d1e1f\",\"res\":\"a0a1a2a3a4a5a6a7\",\"key\":\"1111111111111111111111111111111111111111111111111111111111111111\",\"apn\":\"internet\",\"ip\":\"0a2d0001\",\"sgw\":\"c0a80001\",\"teid\":1,\"ambr_dl\":1000000000,\"ambr_ul\":1000000000,\"forbidden\":[9]}
+second-row {\"imsi\":\"208930000000002\",\"tmsi\":2,\"rand\":\"000102030405060708090a0b0c0d0e0f\",\"autn\":\"101112131415161718191a1b1c1d1e1f\",\"res\":\"a0a1a2a3a4a5a6a7\",\"key\":\"1111111111111111111111111111111111111111111111111111111111111111\",\"apn\":\"internet\",\"ip\":\"0a2d0002\",\"sgw\":\"c0a80001\",\"teid\":2,\"ambr_dl\":1000000000,\"ambr_ul\":1000000000,\"forbidden\":[]}
 short-row {\"imsi\":\"20893000000001\",\"rand\":\"000102030405060708090a0b0c0d0e0f\",\"autn\":\"101112131415161718191a1b1c1d1e1f\",\"res\":\"a0a1a2a3a4a5a6a7\",\"key\":\"1111111111111111111111111111111111111111111111111111111111111111\",\"apn\":\"internet\",\"ip\":\"0a2d0001\",\"sgw\":\"c0a80001\",\"teid\":1,\"ambr_dl\":1000000000,\"ambr_ul\":1000000000,\"forbidden\":[9]}
 row-without-gateway {\"imsi\":\"208930000000001\",\"tmsi\":1,\"rand\":\"000102030405060708090a0b0c0d0e0f\",\"autn\":\"101112131415161718191a1b1c1d1e1f\",\"res\":\"a0a1a2a3a4a5a6a7\",\"key\":\"1111111111111111111111111111111111111111111111111111111111111111\",\"apn\":\"internet\",\"ip\":\"0a2d0001\",\"sgw\":\"c0a80001\",\"teid\":0,\"ambr_dl\":1000000000,\"ambr_ul\":1000000000,\"forbidden\":[9]}
 attach 000c403e000005000800020001001a00161507417108298039000000001002e0e000040201d011004300060002f8390001006440080002f839000000100086400130
 wide 000c40400000050008000480ffffff001a00161507417108298039000000001002e0e000040201d011004300060002f8390001006440080002f839000000100086400130
 zero-in-front 000c40400000050008000480000001001a00161507417108298039000000001002e0e000040201d011004300060002f8390001006440080002f839000000100086400130
 attach-and-more 000c4046000006000800020001001a00161507417108298039000000001002e0e000040201d011004300060002f8390001006440080002f839000000100086400130004b000400000000
-request 00124015000003000000020001000800020001000240020280
 no-cause 0012400f000002000000020001000800020001
+other 000c403e000005000800020001001a00161507417108298039000000002002e0e000040201d011004300060002f8390001006440080002f839000000100086400130
+moved 000c403e000005000800020002001a00161507417108298039000000001002e0e000040201d011004300060002f8390001006440080002f839000000100086400130
 service 000c4037000006000800020001001a000504c7000000004300060002f8390001006440080002f83900000010008640014000600006004000000001
+area 000c4038000005000800020002001a00100f0748700bf602f83900010100000001004300060002f8390009006440080002f839000000100086400130
+detach 000c4035000005000800020001001a000d0c074509082980390000000010004300060002f8390001006440080002f839000000100086400130
+response 000d4035000005000000020001000800020001001a000c0b075308a0a1a2a3a4a5a6a7006440080002f83900000010004340060002f8390001
+secured 000d4032000005000000020001000800020001001a000908470000000000075e006440080002f83900000010004340060002f8390001
+rejected 000d402d000005000000020001000800020001001a000403075f17006440080002f83900000010004340060002f8390001
+complete 000d4037000005000000020001000800020001001a000e0d270000000001074300035200c2006440080002f83900000010004340060002f8390001
+later-area 000d4039000005000000020001000800020001001a00100f0748700bf602f83900010100000001006440080002f83900000010004340060002f8390009
+later-detach 000d4036000005000000020001000800020001001a000d0c074501082980390000000010006440080002f83900000010004340060002f8390001
+done 200900220000030000400200010008400200010033400f000032400a0a1fc0a8000200000002
+done-six 200900220000030000400200010008400200010033400f000032400a0c1fc0a8000200000002
+done-second 200900300000030000400200010008400200010033401d010032400a0c1fc0a80001000000010032400a0a1fc0a8000200000002
+done-twice 200900300000030000400200010008400200010033401d010032400a0a1fc0a80002000000020032400a0a1fc0a8000300000003
+failure 40090015000003000040020001000840020001000240020280
+capability 00164016000003000000020001000800020001004a4003020102
+request 00124015000003000000020001000800020001000240020280
+two 00124015000003000000020001000800020002000240020280
+released 2017000f000002000040020001000840020001
+attach-away 000c403e000005000800020001001a00161507417108298039000000001002e0e000040201d011004300060002f8390009006440080002f839000000100086400130
+wrong-response 000d4035000005000000020001000800020001001a000c0b075308a0a1a2a3a4a5a600006440080002f83900000010004340060002f8390001
+area-next 000c4038000005000800020002001a00100f0748700bf602f83900010100000001004300060002f8390002006440080002f839000000100086400130
+later-area-next 000d4039000005000000020001000800020001001a00100f0748700bf602f83900010100000001006440080002f83900000010004340060002f8390002
+detach-on 000c4035000005000800020001001a000d0c074501082980390000000010004300060002f8390001006440080002f839000000100086400130
+detach-moved 000c4035000005000800020002001a000d0c074501082980390000000010004300060002f8390001006440080002f839000000100086400130
+later-off 000d4036000005000000020001000800020001001a000d0c074509082980390000000010006440080002f83900000010004340060002f8390001
 reject 000b4017000003000000020001000800020001001a000403074e0a
+authentication 000b4038000003000000020001000800020001001a002524075200000102030405060708090a0b0c0d0e0f10101112131415161718191a1b1c1d1e1f
+authentication-two 000b4038000003000000020001000800020002001a002524075200000102030405060708090a0b0c0d0e0f10101112131415161718191a1b1c1d1e1f
+authentication-other 000b4038000003000000020002000800020001001a002524075200000102030405060708090a0b0c0d0e0f10101112131415161718191a1b1c1d1e1f
+security 000b401b000003000000020001000800020001001a000807075d000002e0e0
+setup 00090080840000060000000200010008000200010042000a183b9aca00603b9aca00001800360000340031450009200f80c0a800010000000122074201e0060002f839000100155201c101090908696e7465726e657405010a2d0001006b000518000c0000004900201111111111111111111111111111111111111111111111111111111111111111
+setup-again 000900610000060000000200010008000200010042000a183b9aca00603b9aca0000180013000034000e050009200f80c0a8000100000001006b000518000c0000004900201111111111111111111111111111111111111111111111111111111111111111
+attach-reject 000b4017000003000000020001000800020001001a00040307440c
+no-authentication 000b4016000003000000020001000800020001001a0003020754
+area-accept 000b4017000003000000020001000800020001001a000403074900
+area-accept-two 000b4017000003000000020001000800020002001a000403074900
+area-reject 000b4017000003000000020001000800020001001a000403074b0c
+area-reject-two 000b4017000003000000020001000800020002001a000403074b0c
+area-unknown-two 000b4017000003000000020001000800020002001a000403074b09
+detach-accept 000b4016000003000000020001000800020001001a0003020746
+detach-accept-two 000b4016000003000000020001000800020002001a0003020746
+release-normal 0017001000000200630004000100010002400120
+release-normal-two 0017001000000200630004000100020002400120
+release-failed 0017001000000200630004000100010002400122
+release-detach 0017001000000200630004000100010002400124
+release-detach-two 0017001000000200630004000100020002400124
+release-other 0017001000000200630004000100010002400126
+release-inactivity 001700110000020063000400010001000240020280
+release-inactivity-two 001700110000020063000400010002000240020280
 ";
 
 /// A command, a case text, and what is written, or the status line. A bar stands for the end of a line, and the name of a row or
 /// a message at the end of a line for it.
 const CASES: &str = "\
 plain = [subscribers]|row|[trace]|1 service = device 208930000000001 messages 1 steps 1|down 1 1 reject|session detached link off area 000000 0 bearer none radio 0
+plain = [subscribers]|row|[trace]|1 attach|1 response|1 secured|1 done|1 capability|1 complete = device 208930000000001 messages 6 steps 10|down 1 1 authentication|down 2 1 security|down 3 1 setup|gateway 1 create|gateway 2 modify c0a80002 2|subscriber 1 vectors|subscriber 2 location|session connected link 1/1 area 02f839 1 bearer active radio 2
+plain = [subscribers]|row|[trace]|1 attach|1 wrong-response = device 208930000000001 messages 2 steps 3|down 1 1 authentication|down 2 1 no-authentication|down 3 1 release-failed|subscriber 1 vectors|session releasing link 1/1 area 02f839 1 bearer none radio 0
 plain = [subscribers]|row = device 208930000000001 messages 0 steps 0|session detached link off area 000000 0 bearer none radio 0
+plain = [subscribers]|row|[trace]|1 attach|1 response|1 secured|1 done|1 capability|1 complete|1 request|1 released|1 area = device 208930000000001 messages 9 steps 14|down 1 1 authentication|down 2 1 security|down 3 1 setup|down 4 1 release-inactivity|down 5 1 area-reject-two|down 6 1 release-normal-two|gateway 1 create|gateway 2 modify c0a80002 2|gateway 3 release|subscriber 1 vectors|subscriber 2 location|session releasing link 1/2 area 02f839 1 bearer made radio 2
+plain = [subscribers]|row|[trace]|1 attach|2 service|1 request = refused 6 31 UnknownPair 1 1|device 208930000000001 messages 2 steps 3|down 1 1 authentication|down 2 2 reject|subscriber 1 vectors|session authenticating link 1/1 area 02f839 1 bearer none radio 0
+plain = [subscribers]|row|[trace]|1 service|2 request|1 two|1 released = refused 5 31 UnknownPair 2 1|refused 6 31 UnknownPair 1 2|device 208930000000001 messages 2 steps 2|down 1 1 reject|session detached link off area 000000 0 bearer none radio 0
+plain = [subscribers]|row|second-row|[trace]|1 service|1 other|1 request = refused 7 31 UnknownPair 1 1|device 208930000000001 messages 1 steps 1|down 1 1 reject|session detached link off area 000000 0 bearer none radio 0|device 208930000000002 messages 1 steps 2|down 1 1 authentication-other|subscriber 1 vectors|session authenticating link 1/1 area 02f839 1 bearer none radio 0
 plain = [subscribers]|row|[trace]|1 0g = refused 4 29 BadHex|device 208930000000001 messages 0 steps 0|session detached link off area 000000 0 bearer none radio 0
-plain = [subscribers]|row|[trace]|1 attach = echo: case refused 33 NotYet line 0
 show = [subscribers]|row|[trace]|1 attach = line 4 InitialUEMessage attach
 show = [trace]|1 attach = line 2 InitialUEMessage attach
 show = [trace]|1 request|1 no-cause = line 2 UEContextReleaseRequest request|line 3 refused 11 MissingIe 2 at 19
@@ -38,6 +93,54 @@ plain = [subscribers]|row-without-gateway = echo: case refused 21 BadColumn line
 show = [subscribers]|{ = echo: case refused 19 BadJson line 2
 show = [subscribers]|row|[schedule]|take 1 2 1 = echo: case refused 26 BadLine line 4
 plain = [schedule]|[trace] = echo: case refused 25 BadSection line 2
+";
+
+/// The messages of the first subscriber from base station 1, and what becomes of the device: each row of the step table
+/// (3GPP TS 23.401, 5.3; an answer follows its call at once), and then messages that fit no row.
+const TRACES: &str = "\
+attach-away = device 208930000000001 messages 1 steps 1|down 1 1 attach-reject|down 2 1 release-normal|session releasing link 1/1 area 000000 0 bearer none radio 0
+attach = device 208930000000001 messages 1 steps 2|down 1 1 authentication|subscriber 1 vectors|session authenticating link 1/1 area 02f839 1 bearer none radio 0
+attach response = device 208930000000001 messages 2 steps 3|down 1 1 authentication|down 2 1 security|subscriber 1 vectors|session securing link 1/1 area 02f839 1 bearer none radio 0
+attach wrong-response = device 208930000000001 messages 2 steps 3|down 1 1 authentication|down 2 1 no-authentication|down 3 1 release-failed|subscriber 1 vectors|session releasing link 1/1 area 02f839 1 bearer none radio 0
+attach response secured = device 208930000000001 messages 3 steps 6|down 1 1 authentication|down 2 1 security|down 3 1 setup|gateway 1 create|subscriber 1 vectors|subscriber 2 location|session accepting link 1/1 area 02f839 1 bearer made radio 0
+attach response rejected = device 208930000000001 messages 3 steps 4|down 1 1 authentication|down 2 1 security|down 3 1 release-other|subscriber 1 vectors|session releasing link 1/1 area 02f839 1 bearer none radio 0
+attach response secured done = device 208930000000001 messages 4 steps 7|down 1 1 authentication|down 2 1 security|down 3 1 setup|gateway 1 create|subscriber 1 vectors|subscriber 2 location|session accepting-context link 1/1 area 02f839 1 bearer made radio 0
+attach response secured complete = device 208930000000001 messages 4 steps 7|down 1 1 authentication|down 2 1 security|down 3 1 setup|gateway 1 create|subscriber 1 vectors|subscriber 2 location|session accepting-done link 1/1 area 02f839 1 bearer made radio 0
+attach response secured complete done = device 208930000000001 messages 5 steps 9|down 1 1 authentication|down 2 1 security|down 3 1 setup|gateway 1 create|gateway 2 modify c0a80002 2|subscriber 1 vectors|subscriber 2 location|session connected link 1/1 area 02f839 1 bearer active radio 0
+attach response secured done complete = device 208930000000001 messages 5 steps 9|down 1 1 authentication|down 2 1 security|down 3 1 setup|gateway 1 create|gateway 2 modify c0a80002 2|subscriber 1 vectors|subscriber 2 location|session connected link 1/1 area 02f839 1 bearer active radio 0
+attach response secured failure = device 208930000000001 messages 4 steps 8|down 1 1 authentication|down 2 1 security|down 3 1 setup|down 4 1 release-other|gateway 1 create|gateway 2 delete|subscriber 1 vectors|subscriber 2 location|subscriber 3 purge|session releasing link 1/1 area 02f839 1 bearer none radio 0
+attach response secured complete failure = device 208930000000001 messages 5 steps 9|down 1 1 authentication|down 2 1 security|down 3 1 setup|down 4 1 release-other|gateway 1 create|gateway 2 delete|subscriber 1 vectors|subscriber 2 location|subscriber 3 purge|session releasing link 1/1 area 02f839 1 bearer none radio 0
+attach request = device 208930000000001 messages 2 steps 3|down 1 1 authentication|down 2 1 release-inactivity|subscriber 1 vectors|session releasing link 1/1 area 02f839 1 bearer none radio 0
+attach request released = device 208930000000001 messages 3 steps 4|down 1 1 authentication|down 2 1 release-inactivity|subscriber 1 vectors|session detached link off area 02f839 1 bearer none radio 0
+attach capability = device 208930000000001 messages 2 steps 3|down 1 1 authentication|subscriber 1 vectors|session authenticating link 1/1 area 02f839 1 bearer none radio 2
+service = device 208930000000001 messages 1 steps 1|down 1 1 reject|session detached link off area 000000 0 bearer none radio 0
+attach response secured done complete request = device 208930000000001 messages 6 steps 11|down 1 1 authentication|down 2 1 security|down 3 1 setup|down 4 1 release-inactivity|gateway 1 create|gateway 2 modify c0a80002 2|gateway 3 release|subscriber 1 vectors|subscriber 2 location|session releasing link 1/1 area 02f839 1 bearer made radio 0
+attach response secured done complete request released = device 208930000000001 messages 7 steps 12|down 1 1 authentication|down 2 1 security|down 3 1 setup|down 4 1 release-inactivity|gateway 1 create|gateway 2 modify c0a80002 2|gateway 3 release|subscriber 1 vectors|subscriber 2 location|session idle link off area 02f839 1 bearer made radio 0
+attach response secured done complete request released service = device 208930000000001 messages 8 steps 13|down 1 1 authentication|down 2 1 security|down 3 1 setup|down 4 1 release-inactivity|down 5 1 setup-again|gateway 1 create|gateway 2 modify c0a80002 2|gateway 3 release|subscriber 1 vectors|subscriber 2 location|session connecting link 1/1 area 02f839 1 bearer made radio 0
+attach response secured done complete request released service done = device 208930000000001 messages 9 steps 15|down 1 1 authentication|down 2 1 security|down 3 1 setup|down 4 1 release-inactivity|down 5 1 setup-again|gateway 1 create|gateway 2 modify c0a80002 2|gateway 3 release|gateway 4 modify c0a80002 2|subscriber 1 vectors|subscriber 2 location|session connected link 1/1 area 02f839 1 bearer active radio 0
+attach response secured done complete request released service failure = device 208930000000001 messages 9 steps 14|down 1 1 authentication|down 2 1 security|down 3 1 setup|down 4 1 release-inactivity|down 5 1 setup-again|down 6 1 release-other|gateway 1 create|gateway 2 modify c0a80002 2|gateway 3 release|subscriber 1 vectors|subscriber 2 location|session releasing link 1/1 area 02f839 1 bearer made radio 0
+attach response secured done complete request released service request = device 208930000000001 messages 9 steps 14|down 1 1 authentication|down 2 1 security|down 3 1 setup|down 4 1 release-inactivity|down 5 1 setup-again|down 6 1 release-inactivity|gateway 1 create|gateway 2 modify c0a80002 2|gateway 3 release|subscriber 1 vectors|subscriber 2 location|session releasing link 1/1 area 02f839 1 bearer made radio 0
+attach response secured done complete area-next = device 208930000000001 messages 6 steps 11|down 1 1 authentication|down 2 1 security|down 3 1 setup|down 4 1 release-normal|down 5 1 area-accept-two|down 6 1 release-normal-two|gateway 1 create|gateway 2 modify c0a80002 2|gateway 3 release|subscriber 1 vectors|subscriber 2 location|session releasing link 1/2 area 02f839 2 bearer made radio 0
+attach response secured done complete request released area = device 208930000000001 messages 8 steps 13|down 1 1 authentication|down 2 1 security|down 3 1 setup|down 4 1 release-inactivity|down 5 1 area-reject-two|down 6 1 release-normal-two|gateway 1 create|gateway 2 modify c0a80002 2|gateway 3 release|subscriber 1 vectors|subscriber 2 location|session releasing link 1/2 area 02f839 1 bearer made radio 0
+area = device 208930000000001 messages 1 steps 1|down 1 1 area-unknown-two|session detached link off area 000000 0 bearer none radio 0
+attach response secured done complete later-area = device 208930000000001 messages 6 steps 10|down 1 1 authentication|down 2 1 security|down 3 1 setup|down 4 1 area-reject|gateway 1 create|gateway 2 modify c0a80002 2|subscriber 1 vectors|subscriber 2 location|session connected link 1/1 area 02f839 1 bearer active radio 0
+attach response secured done complete later-area-next = device 208930000000001 messages 6 steps 10|down 1 1 authentication|down 2 1 security|down 3 1 setup|down 4 1 area-accept|gateway 1 create|gateway 2 modify c0a80002 2|subscriber 1 vectors|subscriber 2 location|session connected link 1/1 area 02f839 2 bearer active radio 0
+detach-on = device 208930000000001 messages 1 steps 1|down 1 1 detach-accept|session detached link off area 000000 0 bearer none radio 0
+detach = device 208930000000001 messages 1 steps 1|session detached link off area 000000 0 bearer none radio 0
+attach detach-moved = device 208930000000001 messages 2 steps 3|down 1 1 authentication|down 2 1 release-normal|down 3 1 detach-accept-two|down 4 1 release-detach-two|subscriber 1 vectors|session releasing link 1/2 area 02f839 1 bearer none radio 0
+attach later-detach = device 208930000000001 messages 2 steps 3|down 1 1 authentication|down 2 1 detach-accept|down 3 1 release-detach|subscriber 1 vectors|session releasing link 1/1 area 02f839 1 bearer none radio 0
+attach later-off = device 208930000000001 messages 2 steps 3|down 1 1 authentication|down 2 1 release-detach|subscriber 1 vectors|session releasing link 1/1 area 02f839 1 bearer none radio 0
+attach response secured done complete later-detach = device 208930000000001 messages 6 steps 11|down 1 1 authentication|down 2 1 security|down 3 1 setup|down 4 1 detach-accept|down 5 1 release-detach|gateway 1 create|gateway 2 modify c0a80002 2|gateway 3 delete|subscriber 1 vectors|subscriber 2 location|subscriber 3 purge|session releasing link 1/1 area 02f839 1 bearer none radio 0
+attach response secured done complete later-off = device 208930000000001 messages 6 steps 11|down 1 1 authentication|down 2 1 security|down 3 1 setup|down 4 1 release-detach|gateway 1 create|gateway 2 modify c0a80002 2|gateway 3 delete|subscriber 1 vectors|subscriber 2 location|subscriber 3 purge|session releasing link 1/1 area 02f839 1 bearer none radio 0
+service area detach = device 208930000000001 messages 3 steps 3|down 1 1 reject|down 2 1 area-unknown-two|session detached link off area 000000 0 bearer none radio 0
+service response secured = device 208930000000001 messages 3 steps 3|down 1 1 reject|session detached link off area 000000 0 bearer none radio 0
+service rejected complete = device 208930000000001 messages 3 steps 3|down 1 1 reject|session detached link off area 000000 0 bearer none radio 0
+service later-area later-detach = device 208930000000001 messages 3 steps 3|down 1 1 reject|session detached link off area 000000 0 bearer none radio 0
+service done done-six = device 208930000000001 messages 3 steps 3|down 1 1 reject|session detached link off area 000000 0 bearer none radio 0
+service done-second done-twice failure = device 208930000000001 messages 4 steps 4|down 1 1 reject|session detached link off area 000000 0 bearer none radio 0
+service request capability = device 208930000000001 messages 3 steps 3|down 1 1 reject|session detached link off area 000000 0 bearer none radio 0
+service released released request = refused 6 31 UnknownPair 1 1|refused 7 31 UnknownPair 1 1|device 208930000000001 messages 2 steps 2|down 1 1 reject|session detached link off area 000000 0 bearer none radio 0
+service moved request two = refused 6 31 UnknownPair 1 1|device 208930000000001 messages 3 steps 4|down 1 1 reject|down 2 1 authentication-two|down 3 1 release-inactivity-two|subscriber 1 vectors|session releasing link 1/2 area 02f839 1 bearer none radio 0
 ";
 
 /// The row or the message of that name, or the text itself.
@@ -117,6 +220,24 @@ fn cases_give_their_texts(rt: HostRuntime) -> Result<(), Fail> {
     let (status, out) = run(alloc, &["plain"], "", &[], &[])?;
     assert_eq!(rt; status, Status::Done);
     assert!(rt; out.held().is_empty());
+    Ok(())
+}
+
+#[test]
+fn traces_give_their_ends(rt: HostRuntime) -> Result<(), Fail> {
+    let alloc = rt.alloc();
+    for trace in TRACES.lines() {
+        if let Some((names, wanted)) = trace.split_once(" = ") {
+            let mut text = lines(alloc, "[subscribers]|row|[trace]")?;
+            for name in names.split(' ') {
+                let octets = named(name);
+                writeln!(text, "1 {octets}")?;
+            }
+            let (status, out) = run(alloc, &["plain"], text.as_str(), &[], &[])?;
+            assert_eq!(rt; status, Status::Done);
+            assert_eq!(rt; out.held(), lines(alloc, wanted)?.as_bytes(), "for {names}");
+        }
+    }
     Ok(())
 }
 

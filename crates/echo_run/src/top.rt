@@ -14,14 +14,13 @@ use std::alloc::Global;
 const MOST_OCTETS: usize = 67_108_864;
 
 /// Reads a case text from the source, and writes what the command makes of it to the sink. The command is the words, without the
-/// program's name. `plain` tells what becomes of the devices: so far where they send nothing but Service Requests, of which each
-/// is rejected. `show` tells what the lines of the trace are.
+/// program's name. `plain` tells which lines of the trace are refused, and what becomes of the devices, whose calls are answered at
+/// once. `show` tells what the lines of the trace are.
 ///
 /// The statuses, in the order in which they are found: `Usage`, before anything is read; `ReadFault`, where the source failed;
-/// `CaseRefused` with the number 6 (TooLong) and the line 0 for more than 67,108,864 octets, with the number of the reason and
-/// the line for the first bad line, and of `plain` with 33 (NotYet) and 0 where a device sends another message; `WriteFault`,
-/// where the sink failed, and then a front of the text was written; `Done`. `OutOfMemory` may stand in place of any but
-/// `WriteFault`. On a status but `Done` and `WriteFault` nothing was written.
+/// `CaseRefused` with the number 6 (TooLong) and the line 0 for more than 67,108,864 octets, and with the number of the reason and
+/// the line for the first bad line; `WriteFault`, where the sink failed, and then a front of the text was written; `Done`.
+/// `OutOfMemory` may stand in place of any but `WriteFault`. On a status but `Done` and `WriteFault` nothing was written.
 pub fn replay_top<S: Source, K: Sink>(
     alloc: Global,
     words: &[String],
@@ -41,7 +40,7 @@ pub fn replay_top<S: Source, K: Sink>(
     ensures short { result ≢ Status.CaseRefused 6 0
         → IsTakenBy (λ n. n ≤ most_octets) (S.left input.old) (S.left input.new) }
 
-    // Any other refusal comes only where the source was read to its end, and it is what the command makes of the text.
+    // Any other refusal comes only where the source was read to its end, and it is that of the first bad line.
     ensures refused { (number line : ℕ) → result ≡ Status.CaseRefused number line → result ≢ Status.CaseRefused 6 0
         → (octets : List ℕ) × ReadWhole (S.left input.old) octets (S.left input.new)
         × Answers words.now octets (Err (number, line)) }

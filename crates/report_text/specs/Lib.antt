@@ -3,3 +3,4 @@ pub mod Final
 pub mod Lines
 pub mod Session
 pub mod Show
+pub mod Status

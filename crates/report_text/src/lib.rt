@@ -1,12 +1,14 @@
-//! The texts that are printed: what became of the devices, and what the lines of a trace are.
+//! The texts that are printed: what became of the devices, what the lines of a trace are, and how a program ended.
 #![tactic(auto)]
 
 mod device;
 mod session;
 mod show;
+mod status;
 #[cfg(test)]
 mod tests;
 mod whole;
 
 pub use show::show_text;
+pub use status::status_line;
 pub use whole::final_text;

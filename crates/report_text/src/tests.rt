@@ -4,10 +4,10 @@ ghost use Rattle.device_types.specs.Cause.{IsCauseCode};
 ghost use Rattle.device_types.specs.Down.{IsDown};
 ghost use Rattle.device_types.specs.Subscriber.{IsSubscriber};
 
-use crate::{final_text, show_text};
+use crate::{final_text, show_text, status_line};
 use case_form::TraceLine;
 use device_types::*;
-use echo_base::{Reason, Refusal};
+use echo_base::{Reason, Refusal, Status};
 use entry_edge::RefusedLine;
 use std::alloc::Global;
 use std::test::Fail;
@@ -229,5 +229,20 @@ line 9 refused 29 BadHex
 "
             .as_slice()
     );
+    Ok(())
+}
+
+#[test]
+fn lines_of_statuses(rt: HostRuntime) -> Result<(), Fail> {
+    let alloc = rt.alloc();
+    let (number, line) = (22, 3);
+    let refused = Status::CaseRefused { number, line };
+    let text = status_line(alloc, &refused)?;
+    assert_eq!(rt;
+        text.octets(),
+        b"echo: case refused 22 RepeatedImsi line 3\n".as_slice()
+    );
+    let text = status_line(alloc, &Status::OutOfMemory)?;
+    assert_eq!(rt; text.octets(), b"echo: out of memory\n".as_slice());
     Ok(())
 }
