@@ -4,3 +4,4 @@ pub mod Lines
 pub mod Session
 pub mod Show
 pub mod Status
+pub mod Transcript

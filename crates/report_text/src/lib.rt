@@ -7,8 +7,12 @@ mod show;
 mod status;
 #[cfg(test)]
 mod tests;
+mod transcript;
+#[cfg(test)]
+mod transcript_tests;
 mod whole;
 
 pub use show::show_text;
 pub use status::status_line;
+pub use transcript::transcript_line;
 pub use whole::final_text;

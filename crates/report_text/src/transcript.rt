@@ -1,0 +1,86 @@
+//! The lines of a transcript.
+
+ghost use Rattle.std.specs.Prelude.{◌≡◌, ◌++◌, Some, IfOk, OnOk, string_bytes};
+ghost use Rattle.case_form.specs.Event.{lane_word};
+ghost use Rattle.report_text.specs.Transcript.{answer_text, transcript_line};
+
+use device_types::{EventAnswer, Lane, Octets};
+use echo_base::OutOfMemory;
+use std::alloc::Global;
+use std::fmt;
+
+/// The name of a lane.
+#[derive(Clone, Copy)]
+struct LaneName(Lane);
+
+impl fmt::Display for LaneName {
+    ghost output = { λ lane. Some (lane_word lane.0) };
+
+    fn fmt<W: fmt::Write>(&self, f: &mut fmt::Formatter<W>) -> fmt::Result {
+        match self.0 {
+            Lane::Down => write!(f, "down"),
+            Lane::Gateway => write!(f, "gateway"),
+            Lane::Subscriber => write!(f, "subscriber"),
+        }
+    }
+}
+
+/// What an event comes to.
+#[derive(Clone, Copy)]
+struct AnswerText(EventAnswer);
+
+impl fmt::Display for AnswerText {
+    ghost output = { λ answer. Some (answer_text answer.0) };
+
+    fn fmt<W: fmt::Write>(&self, f: &mut fmt::Formatter<W>) -> fmt::Result {
+        match self.0 {
+            EventAnswer::Sent => write!(f, "sent"),
+            EventAnswer::Taken => write!(f, "taken"),
+            EventAnswer::Stopped => write!(f, "stopped"),
+            EventAnswer::Pushed => write!(f, "pushed"),
+            EventAnswer::VoidReplica => write!(f, "void replica"),
+            EventAnswer::VoidWindow => write!(f, "void window"),
+            EventAnswer::VoidLink => write!(f, "void link"),
+            EventAnswer::VoidHand => write!(f, "void hand"),
+            EventAnswer::VoidOutbox => write!(f, "void outbox"),
+            EventAnswer::Ready(version) => write!(f, "ready {version}"),
+            EventAnswer::Waiting(lane, k) => {
+                let lane = LaneName(lane);
+                write!(f, "waiting {lane} {k}")
+            }
+            EventAnswer::Repeat(n) => write!(f, "repeat {n}"),
+            EventAnswer::Settled(n) => write!(f, "settled {n}"),
+            EventAnswer::Ahead(n) => write!(f, "ahead {n}"),
+            EventAnswer::OldCall(lane, k) => {
+                let lane = LaneName(lane);
+                write!(f, "old {lane} {k}")
+            }
+            EventAnswer::Committed(version) => write!(f, "committed {version}"),
+            EventAnswer::Stale { read, current } => write!(f, "stale {read} {current}"),
+            EventAnswer::Acked(n) => write!(f, "acked {n}"),
+            EventAnswer::Accepted(k) => write!(f, "accepted {k}"),
+            EventAnswer::Old(n) => write!(f, "old {n}"),
+        }
+    }
+}
+
+/// Puts the line of an event behind a text.
+fn put_line(text: &mut String, index: u64, answer: AnswerText) -> Result<(), OutOfMemory>
+    ensures { OnOk result (string_bytes text.new ≡ string_bytes text.old ++ transcript_line index answer.0) }
+{
+    writeln!(text, "event {index}: {answer}")
+}
+
+/// The line of event number `index` in a transcript, with the LF that ends it: `event INDEX: ` and what the event comes to, its numbers
+/// in decimal.
+pub fn transcript_line(
+    alloc: Global,
+    index: u64,
+    answer: &EventAnswer,
+) -> Result<Octets, OutOfMemory>
+    ensures { IfOk result (λ line. line ≡ transcript_line index answer.now) }
+{
+    let mut text = String::new(alloc);
+    put_line(&mut text, index, AnswerText(*answer))?;
+    Ok(Octets::from(text.into_bytes()))
+}
