@@ -1,12 +1,14 @@
 pub mod Calls
+pub mod Comparisons
 pub mod Events
+pub mod Flags
 pub mod Items
 pub mod Lanes
 pub mod Laws
 pub mod Links
+pub mod Noted
 pub mod Promises
 pub mod Runs
 pub mod Steps
-pub mod Tests
 pub mod Worked
 pub mod Worlds
