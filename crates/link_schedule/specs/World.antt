@@ -11,11 +11,8 @@ use Rattle.device_types.specs.declared.event.EventAnswer.{EventAnswer}
 use Rattle.device_types.specs.declared.event.Lane.{Lane}
 use Rattle.device_types.specs.declared.event.Lane.TheVariants.{Down, Gateway, Subscriber}
 use Rattle.device_types.specs.declared.input.Answer.{Answer}
-use Rattle.device_types.specs.declared.input.Input.{Input}
 use Rattle.device_types.specs.declared.message.Message.{Message}
-use Rattle.device_types.specs.declared.step.Entry.{Entry}
 use Rattle.device_types.specs.declared.step.Reply.{Reply}
-use Rattle.device_types.specs.declared.subscriber.DeviceId.{DeviceId}
 use Rattle.device_types.specs.Alone.{entry_of}
 use Rattle.device_types.specs.Journal.{effects_of, taken_count, reply_of}
 use Rattle.device_types.specs.Line.{IsLine}

@@ -1,4 +1,4 @@
-use Rattle.std.proofs.Common.{◌≤◌, length, ◌≡◌, sym}
+use Rattle.std.proofs.Common.{◌≤◌, length}
 use Rattle.subs_table.proofs.DeviceLaws.{number_here}
 use Rattle.link_schedule.proofs.world.row_at.Goals as goal
 
