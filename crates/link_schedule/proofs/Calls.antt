@@ -31,6 +31,7 @@ use Rattle.link_schedule.specs.Counts.{Turn, Arrival, hand, commits, acked, acce
 use Rattle.link_schedule.specs.Input.{input_of}
 use Rattle.link_schedule.specs.Promise.{Holds}
 use Rattle.link_schedule.specs.Setting.{Setting, window, row_of, messages_of, entries_of}
+use Rattle.link_schedule.specs.Told.{settle_answer, down_answer}
 use Rattle.link_schedule.specs.World.{Parts, IsSetting, IsShort, row_after, IsWindowOf, AreGatewayCalls, AreSubscriberCalls, ArePartsOf}
 use Rattle.link_schedule.proofs.Events.{stays, acknowledges, reply_old, reply_new}
 use Rattle.link_schedule.proofs.Lanes.{settled_is, accepted_length, accepts_down, effect_next, effect_repeat, effect_ahead, settle_old, settle_new, settles}
@@ -74,11 +75,6 @@ replies s H p e n was now L low high at then within m =
         rw says (reply_new s H e n L low high new, acknowledges s H p e n was now at (then ∙ ap (after_reply was) says) new within m)
 
 -- ---- a message to the device at the window
-
-abbrev pub down_answer : DownTaken → EventAnswer
-down_answer (down.Accepted k) = told.Accepted k
-down_answer (down.Repeat k) = told.Repeat k
-down_answer (down.Ahead k) = told.Ahead k
 
 pub downs_count : (s : Setting) (H : List Turn) (d : ℕ) (w : WindowState) → Lawful s H → IsWindowOf s H d w → length w.downs ≡ accepted d Down H
 downs_count s H d w L i = sym (length-map w.downs effects.Down) ∙ ap length i.downs ∙ accepted_length s H d Down L
@@ -125,10 +121,6 @@ read_told s H r d what input is L h same low =
     read_is s H r d what low h ∙ ap (look_answer (commits d H)) (sym (look_same s H (journal s d H) d what is L i.0) ∙ ap (row_look window (journal s d H)) (sym same))
 
 -- ---- an acknowledgement at the row
-
-abbrev pub settle_answer : ℕ → Settled → EventAnswer
-settle_answer k (upto.Upto j) = told.Settled j
-settle_answer k (upto.Old j) = told.Old k
 
 most_on : (numbers : LaneNumbers) (l : Lane) (k : ℕ) → k ≤ number_on numbers l → with_number numbers l k ≡ numbers
 most_on numbers Down k low = let e : max k numbers.down ≡ numbers.down = omega arith in rw e refl

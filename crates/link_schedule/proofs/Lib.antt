@@ -1,9 +1,11 @@
 pub mod Calls
+pub mod Contents
 pub mod Events
 pub mod Items
 pub mod Lanes
 pub mod Laws
 pub mod Links
+pub mod Offers
 pub mod Promises
 pub mod Runs
 pub mod Steps
