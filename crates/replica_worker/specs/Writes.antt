@@ -50,6 +50,11 @@ abbrev pub IsWritten : Hand → (ℕ → List Entry) → Commit → Type 0
 IsWritten (Ready d version entry) known commit = IsKnownAfter (known d.0) version entry commit
 IsWritten _ known commit = ⊥
 
+-- a write of the hand, where such is a write of an entry for a version of a device
+abbrev pub WritesHeld : {S : Type 0} → (S → S → ℕ → ℕ → Entry → Commit → Type 0) → Hand → S → S → Commit → Type 0
+WritesHeld writes (Ready d version entry) old new commit = writes old new d.0 version entry commit
+WritesHeld writes _ old new commit = ⊥
+
 -- the reply to the message that was committed, if one was
 abbrev pub committed_reply : Input → List Entry → Commit → Option Reply
 committed_reply (inputs.Message message) journal (Committed version) = reply_of journal message.number

@@ -2,7 +2,7 @@
 ghost use Rattle.std.specs.Prelude.{◌≡◌, ◌↔◌, ℕ, IfOk, OnOk, OnErr, IsSome, IsSomeAnd};
 ghost use Rattle.device_types.specs.Input.{IsInput};
 ghost use Rattle.replica_worker.specs.Hands.{held_in, CanBeRead, step_at, hand_after};
-ghost use Rattle.replica_worker.specs.Writes.{OwnsHeld, MayWrite, IsReady, IsWritten, written_reply, TookMessage};
+ghost use Rattle.replica_worker.specs.Writes.{OwnsHeld, MayWrite, IsReady, IsWritten, WritesHeld, written_reply, TookMessage};
 ghost use Rattle.session_store.specs.Rows.{Begins};
 ghost use Rattle.session_store.specs.Seen.{IsRepeat, asked_of, look_to, repeated_reply};
 
@@ -105,6 +105,7 @@ impl Replica {
         ensures charter { S.charter store.new ≡ S.charter store.old }
         ensures devices { S.devices store.new ≡ S.devices store.old }
         ensures extends { (i : ℕ) → Begins (S.known store.old i) (S.known store.new i) }
+        ensures store { S.reads store.old store.new }
         ensures look { IfOk result (λ looked. IsSomeAnd (held_in self.old) (λ held. looked.look ≡ look_to (S.known store.new held.0.0) (asked_of held.1))) }
         ensures reply { IfOk result (λ looked. IsSomeAnd (held_in self.old) (λ held. looked.reply ≡ repeated_reply (S.known store.new held.0.0) looked.look)) }
         ensures told { IfOk result (λ looked. IsSome looked.reply ↔ IsRepeat looked.look) }
@@ -135,6 +136,8 @@ impl Replica {
         ensures charter { S.charter store.new ≡ S.charter store.old }
         ensures devices { S.devices store.new ≡ S.devices store.old }
         ensures extends { (i : ℕ) → Begins (S.known store.old i) (S.known store.new i) }
+        ensures store { IfOk result (λ wrote. WritesHeld S.writes self.old store.old store.new wrote.commit) }
+        ensures store_err { OnErr result (S.reads store.old store.new) }
         ensures commit { IfOk result (λ wrote. IsWritten self.old (S.known store.new) wrote.commit) }
         ensures reply { IfOk result (λ wrote. wrote.reply ≡ written_reply self.old (S.known store.new) wrote.commit) }
         ensures told { IfOk result (λ wrote. IsSome wrote.reply ↔ TookMessage self.old wrote.commit) }

@@ -1,5 +1,5 @@
 -- The rows of all devices.
-use Rattle.std.specs.Prelude.{◌≡◌, ◌≢◌, ◌≤◌, ℕ, ◌+◌, ◌-◌, List, [], ◌++◌, length, Option, Some, slice_get, slice_index_or}
+use Rattle.std.specs.Prelude.{◌≡◌, ◌≢◌, ◌≤◌, ℕ, ◌+◌, ◌-◌, List, [], ◌++◌, length, Option, Some, slice_get, slice_index_or, slice_set}
 use Rattle.device_types.specs.declared.effect.Effect.{Effect}
 use Rattle.device_types.specs.declared.event.Lane.{Lane}
 use Rattle.device_types.specs.declared.step.Entry.{Entry}
@@ -7,7 +7,7 @@ use Rattle.device_types.specs.Journal.{effects_of}
 use Rattle.effect_outbox.specs.Outbox.{number_on, with_number, unsettled_at}
 use Rattle.session_row.specs.declared.commit.Commit.{Commit}
 use Rattle.session_row.specs.declared.commit.Commit.TheVariants.{Committed, Stale}
-use Rattle.session_row.specs.Row.{RowState}
+use Rattle.session_row.specs.Row.{RowState, Commits}
 use Rattle.session_store.specs.Charter.{CharterState}
 use Rattle.session_store.specs.Law.{IsLawful}
 
@@ -44,7 +44,12 @@ with_settled row lane k = record row { settled = with_number row.settled lane k 
 abbrev pub AreLawful : (ℕ → List Entry → Entry → Type 0) → List RowState → Type 0
 AreLawful follows rows = (d : ℕ) → IsDevice (length rows) d → IsLawful (follows d) (journal_of rows d)
 
--- the one list begins with the other
+-- a write of the store: that of the device's row, and all else is as before
+abbrev pub WritesRow : StoreState → StoreState → ℕ → ℕ → Entry → Commit → Type 0
+WritesRow old new d read entry commit =
+    Commits (row_of old.rows d) (row_of new.rows d) read entry commit × (new ≡ record old { rows = slice_set old.rows (d - 1) (row_of new.rows d) })
+
+-- the second list begins with the first
 abbrev pub Begins : {X : Type 0} → List X → List X → Type 0
 Begins {X} xs ys = (rest : List X) × (ys ≡ xs ++ rest)
 

@@ -1,6 +1,7 @@
 //! Any store of rows.
-ghost use Rattle.std.specs.Prelude.{◌≡◌, ◌≤◌, ℕ, List, length, take, IfOk, IfErr};
+ghost use Rattle.std.specs.Prelude.{◌≡◌, ◌≤◌, ℕ, List, length, take, IfOk, OnErr, IfErr};
 ghost use Rattle.device_types.specs.declared.step.Entry.{Entry};
+ghost use Rattle.session_row.specs.declared.commit.Commit.{Commit};
 ghost use Rattle.session_store.specs.Charter.{CharterState, IsCharter};
 ghost use Rattle.session_store.specs.Law.{IsLawful};
 ghost use Rattle.session_store.specs.Rows.{IsDevice, Begins, IsKnownAfter};
@@ -27,6 +28,12 @@ pub trait RowStore {
     /// What is known of the journal of the device of that number. Calls only extend it.
     ghost known: { Self → ℕ → List Entry };
 
+    /// What a read may leave of a store.
+    ghost reads: { Self → Self → Type 0 };
+
+    /// What a write of an entry, for a version of a device that was read, may leave of a store, by what it comes to.
+    ghost writes: { Self → Self → ℕ → ℕ → Entry → Commit → Type 0 };
+
     /// What is seen of the row of a device, about an input. It fails for want of memory alone.
     fn read(&mut self, d: DeviceId, asked: Asked) -> Result<Seen, AllocError>
         requires device { IsDevice (devices self.old) d.0 }
@@ -36,7 +43,8 @@ pub trait RowStore {
         ensures extends { (i : ℕ) → Begins (known self.old i) (known self.new i) }
         ensures in_form { IsCharter (charter self.new) }
         ensures lawful { IsLawful (Self.Law.follows (charter self.new) d.0) (known self.new d.0) }
-        ensures ok { IfOk result (λ seen. seen ≡ seen_of (known self.new d.0) asked) };
+        ensures ok { IfOk result (λ seen. seen ≡ seen_of (known self.new d.0) asked) }
+        ensures state { reads self.old self.new };
 
     /// Writes an entry, where the row still has the version that was read. For want of memory it is not written, and given back.
     fn commit(&mut self, d: DeviceId, read: u64, entry: Entry) -> Result<Commit, NoRoom<Entry>>
@@ -49,5 +57,10 @@ pub trait RowStore {
         ensures in_form { IsCharter (charter self.new) }
         ensures lawful { IsLawful (Self.Law.follows (charter self.new) d.0) (known self.new d.0) }
         ensures ok { IfOk result (IsKnownAfter (known self.new d.0) read entry) }
+        ensures state { IfOk result (writes self.old self.new d.0 read entry) }
+        ensures err { OnErr result (reads self.old self.new) }
         ensures back { IfErr result (λ room. room.0 ≡ entry) };
+
+    /// A store of which nothing was read is one that a read may leave.
+    ghost unread: { (store : Self) → reads store store };
 }

@@ -1,12 +1,12 @@
 //! The store: a row for each device.
-ghost use Rattle.std.specs.Prelude.{◌≡◌, ◌≤◌, ◌<◌, ◌-◌, ◌↔◌, ℕ, length, take, IfOk, OnErr, IfErr, IsSome, replicate, slice_set};
+ghost use Rattle.std.specs.Prelude.{◌≡◌, ◌≤◌, ◌<◌, ◌-◌, ◌↔◌, ℕ, length, take, refl, IfOk, OnErr, IfErr, IsSome, replicate, slice_set};
 ghost use Rattle.device_types.specs.declared.step.Entry.{Entry};
 ghost use Rattle.device_types.specs.Journal.{version_of, pushed_count};
 ghost use Rattle.effect_outbox.specs.Outbox.{number_on, settled_by};
 ghost use Rattle.session_row.specs.Row.{RowState, Commits};
 ghost use Rattle.session_store.specs.Charter.{CharterState, IsCharter};
 ghost use Rattle.session_store.specs.Law.{IsLawful};
-ghost use Rattle.session_store.specs.Rows.{StoreState, IsDevice, opening_row, row_of, journal_of, AreLawful, unsettled_effect, with_settled};
+ghost use Rattle.session_store.specs.Rows.{StoreState, IsDevice, opening_row, row_of, journal_of, AreLawful, unsettled_effect, with_settled, WritesRow};
 ghost use Rattle.session_store.specs.Seen.{IsAsked, IsRepeat, look_to, repeated_reply, seen_of};
 
 use crate::asked::{Asked, Seen};
@@ -160,6 +160,12 @@ impl<L: RowLaw> RowStore for Store<L> {
     ghost devices = { λ store. length store.rows };
 
     ghost known = { λ store d. journal_of store.rows d };
+
+    ghost reads = { λ old new. new ≡ old };
+
+    ghost writes = { WritesRow };
+
+    ghost unread = { λ store. refl };
 
     fn read(&mut self, d: DeviceId, asked: Asked) -> Result<Seen, AllocError> {
         Store::read(self, d, asked)

@@ -1,5 +1,5 @@
 //! Stores of two devices, under a law that allows whatever a row takes.
-ghost use Rattle.std.specs.Prelude.{◌≡◌, ◌≤◌, [], length, IfOk};
+ghost use Rattle.std.specs.Prelude.{◌≡◌, ◌≤◌, [], length, refl, IfOk};
 ghost use Rattle.std.specs.Arc.{arc_value};
 ghost use Rattle.session_store.specs.Law.{CanFollow};
 ghost use Rattle.session_store.specs.Rows.{IsDevice, journal_of};
@@ -52,6 +52,12 @@ impl RowStore for Raced {
     ghost devices = { λ store. length store.rows.rows };
 
     ghost known = { λ store d. journal_of store.rows.rows d };
+
+    ghost reads = { λ old new. new.rows ≡ old.rows };
+
+    ghost writes = { λ old new d read entry commit. length new.rows.rows ≡ length old.rows.rows };
+
+    ghost unread = { λ store. refl };
 
     fn read(&mut self, d: DeviceId, asked: Asked) -> Result<Seen, AllocError> {
         RowStore::read(&mut self.rows, d, asked)
