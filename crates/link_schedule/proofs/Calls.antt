@@ -38,7 +38,7 @@ use Rattle.link_schedule.proofs.Lanes.{settled_is, accepted_length, accepts_down
 use Rattle.link_schedule.proofs.Laws.{taken_sent, version_is}
 use Rattle.link_schedule.proofs.Promises.{read_is, quiet_stays}
 use Rattle.link_schedule.proofs.Runs.{Begins-length, to_alone}
-use Rattle.link_schedule.proofs.Tests.{here, lt_false, le_of, gt_of, same_number}
+use Rattle.link_schedule.proofs.Comparisons.{here, lt_false, le_of, gt_of, same_number}
 use Rattle.link_schedule.proofs.Worlds.{held_arrival, look_same}
 
 -- an item is written that is the same

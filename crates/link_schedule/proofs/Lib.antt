@@ -1,14 +1,16 @@
 pub mod Calls
+pub mod Comparisons
 pub mod Contents
 pub mod Events
+pub mod Flags
 pub mod Items
 pub mod Lanes
 pub mod Laws
 pub mod Links
+pub mod Noted
 pub mod Offers
 pub mod Promises
 pub mod Runs
 pub mod Steps
-pub mod Tests
 pub mod Worked
 pub mod Worlds

@@ -24,7 +24,7 @@ use Rattle.link_schedule.proofs.Lanes.{accepted_length, settled_is}
 use Rattle.link_schedule.proofs.Laws.{sent_bound, pushed_bound, received_is, reply_is, settled_bound}
 use Rattle.link_schedule.proofs.Promises.{reply_alone}
 use Rattle.link_schedule.proofs.Runs.{effects_begin, to_alone}
-use Rattle.link_schedule.proofs.Tests.{le_true, le_false, lt_true, le_of}
+use Rattle.link_schedule.proofs.Comparisons.{le_true, le_false, lt_true, le_of}
 
 -- ---- lists
 

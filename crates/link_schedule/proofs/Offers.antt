@@ -25,7 +25,7 @@ use Rattle.link_schedule.proofs.Calls.{gateway_count, subscriber_count}
 use Rattle.link_schedule.proofs.Events.{stays}
 use Rattle.link_schedule.proofs.Lanes.{effect_next, effect_repeat, effect_ahead, accepts_gateway, accepts_subscriber}
 use Rattle.link_schedule.proofs.Promises.{quiet_stays}
-use Rattle.link_schedule.proofs.Tests.{here, le_of, gt_of, same_number}
+use Rattle.link_schedule.proofs.Comparisons.{here, le_of, gt_of, same_number}
 
 -- of any peer, whose calls are these: they are as before unless the call is the next one
 offers : {C : Type 0} (s : Setting) (H : List Turn) (e : DeviceId) (l : Lane) (k : ℕ) (call : C) (reply : List C → Answer) (lists : List (List C)) (parts : List (List C) → Parts) → effect_pushed e.0 l k H ≡ true → length (calls_of lists e.0) ≡ accepted e.0 l H → ArePartsOf s H (parts lists) → (k ≡ accepted e.0 l H + 1 → ArePartsOf s ((Effect e l k, told.Accepted k) ∷ H) (parts (with_call lists e.0 call))) → (offer_answer k (offer_of reply (calls_of lists e.0) k call) ≡ answer s H (Effect e l k)) × ArePartsOf s ((Effect e l k, offer_answer k (offer_of reply (calls_of lists e.0) k call)) ∷ H) (parts (after_offer lists e.0 k call))

@@ -17,6 +17,8 @@ use Rattle.device_types.specs.declared.subscriber.DeviceId.{DeviceId}
 use Rattle.device_types.specs.Journal.{version_of}
 use Rattle.device_types.specs.Line.{number_of, IsNumbered, IsLine}
 use Rattle.device_types.specs.Numbers.{IsWithin}
+use Rattle.replica_worker.specs.declared.hand.Hand.{Hand}
+use Rattle.replica_worker.specs.declared.hand.Hand.TheVariants as hands
 use Rattle.session_row.specs.Row.{look_at as row_look}
 use Rattle.link_schedule.specs.Answer.{look_at, answer, turn, history, IsEvent, Lawful}
 use Rattle.link_schedule.specs.Counts.{Turn, Arrival, Held, hand, journal}
@@ -26,8 +28,7 @@ use Rattle.link_schedule.specs.Input.{message_of, no_message, input_of, IsArriva
 use Rattle.link_schedule.specs.Lists.{has}
 use Rattle.link_schedule.specs.Promise.{Holds}
 use Rattle.link_schedule.specs.Setting.{Setting, messages_of, entries_of, window, no_row, row_of}
-use Rattle.link_schedule.specs.World.{Hand, Parts, WorldState, IsSetting, row_after, hand_of, IsWindowOf, AreGatewayCalls, AreSubscriberCalls, AreSent, ArePushed, marks_on, ArePartsOf, AreLinksOf, IsWorld, Answers}
-use Rattle.link_schedule.specs.World.Hand.{Empty, Holding, Made}
+use Rattle.link_schedule.specs.World.{Parts, WorldState, IsSetting, row_after, hand_of, IsWindowOf, AreGatewayCalls, AreSubscriberCalls, AreSent, ArePushed, marks_on, ArePartsOf, AreLinksOf, IsWorld, Answers}
 use Rattle.link_schedule.proofs.Events.{history_more, entry_held}
 use Rattle.link_schedule.proofs.Items.{Each-same}
 use Rattle.link_schedule.proofs.Laws.{version_is, hand_ok, arrival_device, sent_bound}
@@ -43,7 +44,7 @@ fresh_window messages = record { line = record { messages = messages; acked = 0 
 abbrev pub fresh_parts : Setting → Parts
 fresh_parts s = record {
   rows = replicate (length s.rows) (record { journal = []; settled = record { down = 0; gateway = 0; subscriber = 0 } });
-  hands = replicate s.replicas Empty;
+  hands = replicate s.replicas hands.Empty;
   windows = map fresh_window s.book;
   gateway = replicate (length s.rows) [];
   subscriber = replicate (length s.rows) [];
@@ -63,7 +64,7 @@ pub starts : (s : Setting) → length s.book ≡ length s.rows → ArePartsOf s 
 starts s each =
     record {
       rows = Each-same (length s.rows) _ (λ d row. row ≡ row_after s [] d) (λ d. refl);
-      hands = Each-same s.replicas Empty (λ r held. held ≡ hand_of s (hand r [])) (λ r. refl);
+      hands = Each-same s.replicas hands.Empty (λ r held. held ≡ hand_of s (hand r [])) (λ r. refl);
       windows = record {
         long = length-map s.book fresh_window ∙ each;
         at = λ d w within. rw (get_or-map fresh_window s.book (d - 1) [] w (omega (arith, each, within.0, within.1))) (fresh_is s d);
@@ -97,9 +98,9 @@ answered w e a p told = record { same = refl; more = refl; answered = told }
 
 -- of a hand with this input, what arrived
 abbrev pub IsWith : DeviceId → Input → Hand → Type 0
-IsWith d input Empty = ⊥
-IsWith d input (Holding e other) = (e ≡ d) × (other ≡ input)
-IsWith d input (Made e v entry) = (e ≡ d) × (entry.input ≡ input)
+IsWith d input hands.Empty = ⊥
+IsWith d input (hands.Taken e other) = (e ≡ d) × (other ≡ input)
+IsWith d input (hands.Ready e v entry) = (e ≡ d) × (entry.input ≡ input)
 
 pub with_input : (s : Setting) (x : Held) (d : DeviceId) (input : Input) → IsWith d input (hand_of s x) → (what : Arrival) × Holds d.0 what x × (input ≡ input_of s d.0 what)
 with_input s Nothing d input i = absurd (i)

@@ -5,4 +5,5 @@ pub mod Lists
 pub mod Promise
 pub mod Setting
 pub mod Told
+pub mod View
 pub mod World

@@ -11,11 +11,8 @@ use Rattle.device_types.specs.declared.event.EventAnswer.{EventAnswer}
 use Rattle.device_types.specs.declared.event.Lane.{Lane}
 use Rattle.device_types.specs.declared.event.Lane.TheVariants.{Down, Gateway, Subscriber}
 use Rattle.device_types.specs.declared.input.Answer.{Answer}
-use Rattle.device_types.specs.declared.input.Input.{Input}
 use Rattle.device_types.specs.declared.message.Message.{Message}
-use Rattle.device_types.specs.declared.step.Entry.{Entry}
 use Rattle.device_types.specs.declared.step.Reply.{Reply}
-use Rattle.device_types.specs.declared.subscriber.DeviceId.{DeviceId}
 use Rattle.device_types.specs.Alone.{entry_of}
 use Rattle.device_types.specs.Journal.{effects_of, taken_count, reply_of}
 use Rattle.device_types.specs.Line.{IsLine}
@@ -24,6 +21,8 @@ use Rattle.device_types.specs.Numbers.{IsWithin}
 use Rattle.device_types.specs.PeerAnswer.{answer_of}
 use Rattle.device_types.specs.Subscriber.{IsSubscriber}
 use Rattle.effect_outbox.specs.Outbox.{LaneNumbers, number_on, unsettled_at}
+use Rattle.replica_worker.specs.declared.hand.Hand.{Hand}
+use Rattle.replica_worker.specs.declared.hand.Hand.TheVariants as hands
 use Rattle.session_row.specs.Row.{RowState}
 use Rattle.link_schedule.specs.Answer.{answer, history, Lawful}
 use Rattle.link_schedule.specs.Counts.{Turn, Held, hand, acked, accepted, settled, greatest_sent, message_sent, reply_sent, effect_pushed, effect_received, journal}
@@ -33,12 +32,6 @@ use Rattle.link_schedule.specs.Lists.{Each, has}
 use Rattle.link_schedule.specs.Setting.{Setting, row_of, messages_of, entries_to, entries_of}
 
 -- ---- what a world is made of
-
--- the hand of a replica: with the input that arrived for device d, or the entry that was made of it at a version
-pub data Hand : Type 0 where
-  Empty : Hand
-  Holding : (d : DeviceId) (input : Input) → Hand
-  Made : (d : DeviceId) (version : ℕ) (entry : Entry) → Hand
 
 -- a mark for each effect, by its lane
 pub record LaneMarks : Type 0 where
@@ -95,9 +88,9 @@ row_after s turns d = record { journal = journal s d turns; settled = settled_nu
 
 -- the hand of a replica that holds this: what arrived with its content, and the step of the machine that never fails
 abbrev pub hand_of : Setting → Held → Hand
-hand_of s Nothing = Empty
-hand_of s (Taken d what) = Holding (record { 0 = d }) (input_of s d what)
-hand_of s (Ready d what v) = Made (record { 0 = d }) v (entry_of (row_of s d) (entries_to s d v) (input_of s d what))
+hand_of s Nothing = hands.Empty
+hand_of s (Taken d what) = hands.Taken (record { 0 = d }) (input_of s d what)
+hand_of s (Ready d what v) = hands.Ready (record { 0 = d }) v (entry_of (row_of s d) (entries_to s d v) (input_of s d what))
 
 -- what the receiver of a lane of device d has accepted: the first effects of that lane of the machine that never fails
 abbrev pub accepted_effects : Setting → Lane → List Turn → ℕ → List Effect

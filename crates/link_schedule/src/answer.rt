@@ -1,0 +1,1 @@
+//! The answer to a call arrives at a replica.

@@ -1,0 +1,1 @@
+//! An effect arrives at its receiver.

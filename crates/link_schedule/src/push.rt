@@ -1,0 +1,1 @@
+//! The row puts an effect on the link.

@@ -1,0 +1,1 @@
+//! A replica reads the row of what it has taken.

@@ -1,0 +1,1 @@
+//! The reply to a message arrives at the agent.

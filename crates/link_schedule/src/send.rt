@@ -1,0 +1,1 @@
+//! The agent of a device puts a message on the link.

@@ -1,0 +1,1 @@
+//! The acknowledgement of an effect arrives.

@@ -1,0 +1,1 @@
+//! A message arrives at a replica.

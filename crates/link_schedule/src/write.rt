@@ -1,0 +1,1 @@
+//! A replica writes its step.
