@@ -1,5 +1,5 @@
 -- What the calls of the parts say, as the answer to the event, with the parts after it.
-use Rattle.std.proofs.Common.{◌≡◌, ◌==◌, ℕ, ◌+◌, ◌-◌, ◌≤◌, ◌<◌, max, Bool, true, false, cond, List, [], ◌∷◌, length, set, get_or, Some, refl, sym, ap, ◌∙◌, arith}
+use Rattle.std.proofs.Common.{◌≡◌, ◌==◌, ℕ, ◌+◌, ◌-◌, ◌≤◌, ◌<◌, max, Bool, true, false, cond, List, [], ◌∷◌, length, set, get_or, Some, refl, sym, ap, ◌∙◌, subst, arith}
 use Rattle.std.specs.Prelude.{nat_le, slice_get}
 use Rattle.std.proofs.lemmas.List.{length-map, set-get_or}
 use Rattle.std.proofs.lemmas.List.Elements.{All-get_or}
@@ -12,7 +12,7 @@ use Rattle.device_types.specs.declared.down.Down.{Down as DownMessage}
 use Rattle.device_types.specs.declared.effect.Effect.TheVariants as effects
 use Rattle.device_types.specs.declared.effect.GwCall.{GwCall}
 use Rattle.device_types.specs.declared.effect.SubCall.{SubCall}
-use Rattle.device_types.specs.declared.event.Event.TheVariants.{Read, Reply, Effect, Settle}
+use Rattle.device_types.specs.declared.event.Event.TheVariants.{Read, Reply, Push, Effect, Settle}
 use Rattle.device_types.specs.declared.event.EventAnswer.{EventAnswer}
 use Rattle.device_types.specs.declared.event.EventAnswer.TheVariants as told
 use Rattle.device_types.specs.declared.event.Lane.{Lane}
@@ -31,9 +31,10 @@ use Rattle.link_schedule.specs.Counts.{Turn, Arrival, hand, commits, acked, acce
 use Rattle.link_schedule.specs.Input.{input_of}
 use Rattle.link_schedule.specs.Promise.{Holds}
 use Rattle.link_schedule.specs.Setting.{Setting, window, row_of, messages_of, entries_of}
+use Rattle.link_schedule.specs.Told.{settle_answer, down_answer}
 use Rattle.link_schedule.specs.World.{Parts, IsSetting, IsShort, row_after, IsWindowOf, AreGatewayCalls, AreSubscriberCalls, ArePartsOf}
 use Rattle.link_schedule.proofs.Events.{stays, acknowledges, reply_old, reply_new}
-use Rattle.link_schedule.proofs.Lanes.{settled_is, accepted_length, accepts_down, effect_next, effect_repeat, effect_ahead, settle_old, settle_new, settles}
+use Rattle.link_schedule.proofs.Lanes.{settled_is, push_told, push_void, accepted_length, accepts_down, effect_next, effect_repeat, effect_ahead, settle_old, settle_new, settles}
 use Rattle.link_schedule.proofs.Laws.{taken_sent, version_is}
 use Rattle.link_schedule.proofs.Promises.{read_is, quiet_stays}
 use Rattle.link_schedule.proofs.Runs.{Begins-length, to_alone}
@@ -74,11 +75,6 @@ replies s H p e n was now L low high at then within m =
         rw says (reply_new s H e n L low high new, acknowledges s H p e n was now at (then ∙ ap (after_reply was) says) new within m)
 
 -- ---- a message to the device at the window
-
-abbrev pub down_answer : DownTaken → EventAnswer
-down_answer (down.Accepted k) = told.Accepted k
-down_answer (down.Repeat k) = told.Repeat k
-down_answer (down.Ahead k) = told.Ahead k
 
 pub downs_count : (s : Setting) (H : List Turn) (d : ℕ) (w : WindowState) → Lawful s H → IsWindowOf s H d w → length w.downs ≡ accepted d Down H
 downs_count s H d w L i = sym (length-map w.downs effects.Down) ∙ ap length i.downs ∙ accepted_length s H d Down L
@@ -124,11 +120,22 @@ read_told s H r d what input is L h same low =
     let i = held_arrival s H r d what L h in
     read_is s H r d what low h ∙ ap (look_answer (commits d H)) (sym (look_same s H (journal s d H) d what is L i.0) ∙ ap (row_look window (journal s d H)) (sym same))
 
--- ---- an acknowledgement at the row
+-- ---- an effect in the row
 
-abbrev pub settle_answer : ℕ → Settled → EventAnswer
-settle_answer k (upto.Upto j) = told.Settled j
-settle_answer k (upto.Old j) = told.Old k
+-- it was made, and is not settled
+abbrev pub IsInRow : RowState → Lane → ℕ → Type 0
+IsInRow row l k = (number_on row.settled l < k) × (k ≤ pushed_count l row.journal)
+
+pub in_row_told : (s : Setting) (H : List Turn) (e : DeviceId) (l : Lane) (k : ℕ) (row : RowState) → row ≡ row_after s H e.0 → IsInRow row l k → told.Pushed ≡ answer s H (Push e l k)
+in_row_told s H e l k row is there =
+    let a : IsInRow (row_after s H e.0) l k = rw is at there in
+    push_told s H e l k (subst (λ n. n < k) (settled_is e.0 l H) a.0) a.1
+
+pub in_row_void : (s : Setting) (H : List Turn) (e : DeviceId) (l : Lane) (k : ℕ) (row : RowState) → row ≡ row_after s H e.0 → (IsInRow row l k → ⊥) → told.VoidOutbox ≡ answer s H (Push e l k)
+in_row_void s H e l k row is none =
+    push_void s H e l k (λ low high. none (rw is (subst (λ n. n < k) (sym (settled_is e.0 l H)) low, high)))
+
+-- ---- an acknowledgement at the row
 
 most_on : (numbers : LaneNumbers) (l : Lane) (k : ℕ) → k ≤ number_on numbers l → with_number numbers l k ≡ numbers
 most_on numbers Down k low = let e : max k numbers.down ≡ numbers.down = omega arith in rw e refl

@@ -35,6 +35,7 @@ use Rattle.link_schedule.specs.Input.{message_of, input_of, IsHand}
 use Rattle.link_schedule.specs.Lists.{AddsMark, Each}
 use Rattle.link_schedule.specs.Promise.{Holds, HasSameCounts}
 use Rattle.link_schedule.specs.Setting.{Setting, row_of, messages_of, entries_to, entries_of}
+use Rattle.link_schedule.specs.Told.{commit_answer}
 use Rattle.link_schedule.specs.World.{Parts, settled_numbers, row_after, hand_of, accepted_effects, IsWindowOf, AreGatewayCalls, AreSubscriberCalls, AreSent, ArePushed, ArePartsOf}
 use Rattle.link_schedule.proofs.Items.{Each-set, Each-keep}
 use Rattle.link_schedule.proofs.Laws.{version_is, hand_ok, reply_is}
@@ -223,11 +224,6 @@ entry_held s d what v = entry_of (row_of s d) (entries_to s d v) (input_of s d w
 
 write_told : (s : Setting) (H : List Turn) (r d : ℕ) (what : Arrival) (v : ℕ) (b : Bool) → hand r H ≡ Ready d what v → r ≤ s.replicas → (commits d H == v) ≡ b → answer s H (Write r) ≡ cond b (told.Committed (v + 1)) (told.Stale v (commits d H))
 write_told s H r d what v b h low e = rw (le_true r s.replicas low, h, e) refl
-
--- the answer to a write, as the row gives it
-abbrev pub commit_answer : Commit → EventAnswer
-commit_answer (commit.Committed v) = told.Committed v
-commit_answer (commit.Stale read current) = told.Stale read current
 
 with_entry : (was : RowState) (entry : Entry) (J : List Entry) (numbers : LaneNumbers) → was ≡ record { journal = J; settled = numbers } → ◌≡◌ {A = RowState} (record was { journal = was.journal ++ entry ∷ [] }) (record { journal = J ++ entry ∷ []; settled = numbers })
 with_entry was entry J numbers e = rw e refl

@@ -1,5 +1,6 @@
 pub mod Calls
 pub mod Comparisons
+pub mod Contents
 pub mod Events
 pub mod Flags
 pub mod Items
@@ -7,6 +8,7 @@ pub mod Lanes
 pub mod Laws
 pub mod Links
 pub mod Noted
+pub mod Offers
 pub mod Promises
 pub mod Runs
 pub mod Steps

@@ -83,23 +83,29 @@ replies_found s H p d n L m within low =
 pushed_is : (s : Setting) (H : List Turn) (p : Parts) (d : ℕ) (l : Lane) (k : ℕ) → ArePartsOf s H p → IsWithin (length s.rows) d → 1 ≤ k → has k (marks_on (pushed_in p d) l) ≡ effect_pushed d l k H
 pushed_is s H p d l k m within low = m.pushed.at d (record { down = []; gateway = []; subscriber = [] }) within l k low
 
--- an effect that was accepted is with its receiver, one that was not is not settled
-effect_content : (s : Setting) (H : List Turn) (d : ℕ) (l : Lane) (k : ℕ) → Lawful s H → 1 ≤ k → k ≤ pushed_count l (journal s d H) → cond (nat_le k (length (accepted_effects s l H d))) (slice_get (accepted_effects s l H d) (k - 1)) (unsettled_at (effects_of l (journal s d H)) (number_on (settled_numbers d H) l) k) ≡ slice_get (effects_of l (entries_of s d)) (k - 1)
-effect_content s H d l k L low made =
+-- one that was not accepted is not settled
+pub in_row : (s : Setting) (H : List Turn) (d : ℕ) (l : Lane) (k : ℕ) → Lawful s H → k ≤ pushed_count l (journal s d H) → accepted d l H < k → unsettled_at (effects_of l (journal s d H)) (number_on (settled_numbers d H) l) k ≡ slice_get (effects_of l (entries_of s d)) (k - 1)
+in_row s H d l k L made more =
     let A = effects_of l (entries_of s d) in
     let J = effects_of l (journal s d H) in
-    let long = accepted_length s H d l L in
     let begins = effects_begin l (journal s d H) (entries_of s d) (to_alone (row_of s d) (messages_of s d) (commits d H)) in
-    ⊎_elim
-    (λ (more : accepted d l H < k).
     let after = settled_bound s d l H L in
-    ap (λ b. cond b (slice_get (accepted_effects s l H d) (k - 1)) (unsettled_at J (number_on (settled_numbers d H) l) k)) (le_false k (length (accepted_effects s l H d)) (omega arith))
-    ∙ ap (λ n. unsettled_at J n k) (settled_is d l H)
+    ap (λ n. unsettled_at J n k) (settled_is d l H)
     ∙ ap (λ b. cond b (slice_get J (k - 1)) None) (lt_true (settled d l H) k (omega arith))
-    ∙ get_begun J A (k - 1) begins (omega arith))
-    (λ (less : k ≤ accepted d l H).
-    ap (λ b. cond b (slice_get (accepted_effects s l H d) (k - 1)) (unsettled_at J (number_on (settled_numbers d H) l) k)) (le_true k (length (accepted_effects s l H d)) (omega arith))
-    ∙ get_taken A (accepted d l H) (k - 1) (omega arith))
+    ∙ get_begun J A (k - 1) begins (omega arith)
+
+-- one that was accepted is with its receiver
+pub with_receiver : (s : Setting) (H : List Turn) (d : ℕ) (l : Lane) (k : ℕ) → 1 ≤ k → k ≤ accepted d l H → slice_get (accepted_effects s l H d) (k - 1) ≡ slice_get (effects_of l (entries_of s d)) (k - 1)
+with_receiver s H d l k low less = get_taken (effects_of l (entries_of s d)) (accepted d l H) (k - 1) (omega arith)
+
+effect_content : (s : Setting) (H : List Turn) (d : ℕ) (l : Lane) (k : ℕ) → Lawful s H → 1 ≤ k → k ≤ pushed_count l (journal s d H) → cond (nat_le k (length (accepted_effects s l H d))) (slice_get (accepted_effects s l H d) (k - 1)) (unsettled_at (effects_of l (journal s d H)) (number_on (settled_numbers d H) l) k) ≡ slice_get (effects_of l (entries_of s d)) (k - 1)
+effect_content s H d l k L low made =
+    let there = slice_get (accepted_effects s l H d) (k - 1) in
+    let left = unsettled_at (effects_of l (journal s d H)) (number_on (settled_numbers d H) l) k in
+    let long = accepted_length s H d l L in
+    ⊎_elim
+    (λ (more : accepted d l H < k). ap (λ b. cond b there left) (le_false k (length (accepted_effects s l H d)) (omega arith)) ∙ in_row s H d l k L made more)
+    (λ (less : k ≤ accepted d l H). ap (λ b. cond b there left) (le_true k (length (accepted_effects s l H d)) (omega arith)) ∙ with_receiver s H d l k low less)
     (cases_lt (accepted d l H) k)
 
 abbrev content_of : RowState → List Effect → Lane → ℕ → Option Effect
