@@ -10,6 +10,7 @@ pub mod Links
 pub mod Noted
 pub mod Offers
 pub mod Promises
+pub mod Replicas
 pub mod Runs
 pub mod Steps
 pub mod Worked

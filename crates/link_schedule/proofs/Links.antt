@@ -19,7 +19,7 @@ use Rattle.link_schedule.specs.Counts.{Turn, accepted, settled, message_sent, re
 use Rattle.link_schedule.specs.Input.{no_message, message_of}
 use Rattle.link_schedule.specs.Lists.{Begins, has}
 use Rattle.link_schedule.specs.Setting.{Setting, row_of, messages_of, entries_of}
-use Rattle.link_schedule.specs.World.{marks_on, Parts, settled_numbers, row_after, accepted_effects, IsWindowOf, ArePartsOf, if_so, message_packet, reply_packet, effect_packet, answer_packet, row_in, window_in, sent_in, pushed_in, accepted_in, message_found, reply_found, effect_found, answer_found, AreLinksOf}
+use Rattle.link_schedule.specs.World.{marks_on, Parts, settled_numbers, row_after, accepted_effects, IsWindowOf, ArePartsOf, if_so, message_packet, reply_packet, effect_packet, answer_packet, row_in, window_in, sent_in, pushed_in, accepted_in, message_found, reply_found, effect_at, effect_found, answer_found, AreLinksOf}
 use Rattle.link_schedule.proofs.Lanes.{accepted_length, settled_is}
 use Rattle.link_schedule.proofs.Laws.{sent_bound, pushed_bound, received_is, reply_is, settled_bound}
 use Rattle.link_schedule.proofs.Promises.{reply_alone}
@@ -98,7 +98,7 @@ in_row s H d l k L made more =
 pub with_receiver : (s : Setting) (H : List Turn) (d : ℕ) (l : Lane) (k : ℕ) → 1 ≤ k → k ≤ accepted d l H → slice_get (accepted_effects s l H d) (k - 1) ≡ slice_get (effects_of l (entries_of s d)) (k - 1)
 with_receiver s H d l k low less = get_taken (effects_of l (entries_of s d)) (accepted d l H) (k - 1) (omega arith)
 
-effect_content : (s : Setting) (H : List Turn) (d : ℕ) (l : Lane) (k : ℕ) → Lawful s H → 1 ≤ k → k ≤ pushed_count l (journal s d H) → cond (nat_le k (length (accepted_effects s l H d))) (slice_get (accepted_effects s l H d) (k - 1)) (unsettled_at (effects_of l (journal s d H)) (number_on (settled_numbers d H) l) k) ≡ slice_get (effects_of l (entries_of s d)) (k - 1)
+pub effect_content : (s : Setting) (H : List Turn) (d : ℕ) (l : Lane) (k : ℕ) → Lawful s H → 1 ≤ k → k ≤ pushed_count l (journal s d H) → cond (nat_le k (length (accepted_effects s l H d))) (slice_get (accepted_effects s l H d) (k - 1)) (unsettled_at (effects_of l (journal s d H)) (number_on (settled_numbers d H) l) k) ≡ slice_get (effects_of l (entries_of s d)) (k - 1)
 effect_content s H d l k L low made =
     let there = slice_get (accepted_effects s l H d) (k - 1) in
     let left = unsettled_at (effects_of l (journal s d H)) (number_on (settled_numbers d H) l) k in
@@ -108,15 +108,12 @@ effect_content s H d l k L low made =
     (λ (less : k ≤ accepted d l H). ap (λ b. cond b there left) (le_true k (length (accepted_effects s l H d)) (omega arith)) ∙ with_receiver s H d l k low less)
     (cases_lt (accepted d l H) k)
 
-abbrev content_of : RowState → List Effect → Lane → ℕ → Option Effect
-content_of row accepts l k = cond (nat_le k (length accepts)) (slice_get accepts (k - 1)) (unsettled_at (effects_of l row.journal) (number_on row.settled l) k)
-
 effects_found : (s : Setting) (H : List Turn) (p : Parts) (d : ℕ) (l : Lane) (k : ℕ) → Lawful s H → ArePartsOf s H p → IsWithin (length s.rows) d → 1 ≤ k → effect_found p d l k ≡ effect_packet s H d l k
 effects_found s H p d l k L m within low =
-    ap (λ b. if_so b (content_of (row_in p d) (accepted_in p l d) l k)) (pushed_is s H p d l k m within low)
-    ∙ ap (λ (row : RowState). if_so (effect_pushed d l k H) (content_of row (accepted_in p l d) l k)) (row_is s H p d within m)
-    ∙ ap (λ (accepts : List Effect). if_so (effect_pushed d l k H) (content_of (row_after s H d) accepts l k)) (accepted_is s H p l d within m)
-    ∙ so_both (effect_pushed d l k H) (content_of (row_after s H d) (accepted_effects s l H d) l k) (slice_get (effects_of l (entries_of s d)) (k - 1))
+    ap (λ b. if_so b (effect_at (row_in p d) (accepted_in p l d) l k)) (pushed_is s H p d l k m within low)
+    ∙ ap (λ (row : RowState). if_so (effect_pushed d l k H) (effect_at row (accepted_in p l d) l k)) (row_is s H p d within m)
+    ∙ ap (λ (accepts : List Effect). if_so (effect_pushed d l k H) (effect_at (row_after s H d) accepts l k)) (accepted_is s H p l d within m)
+    ∙ so_both (effect_pushed d l k H) (effect_at (row_after s H d) (accepted_effects s l H d) l k) (slice_get (effects_of l (entries_of s d)) (k - 1))
     (λ on. effect_content s H d l k L low (pushed_bound s d l k H L on).2)
 
 -- ---- answers

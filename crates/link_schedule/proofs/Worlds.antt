@@ -121,10 +121,10 @@ made_follows s H r d v what L h =
 
 -- ---- numbers of messages
 
-line_of : (s : Setting) (d : ℕ) → IsSetting s → IsWithin (length s.rows) d → IsLine (messages_of s d)
+pub line_of : (s : Setting) (d : ℕ) → IsSetting s → IsWithin (length s.rows) d → IsLine (messages_of s d)
 line_of s d is within = All-get_or IsLine s.book (d - 1) [] (omega (arith, is.each, within.0, within.1)) is.lines
 
-number_in : (messages : List Message) (n : ℕ) → IsNumbered messages → 1 ≤ n → n ≤ length messages → number_of (get_or messages (n - 1) no_message) ≡ n
+pub number_in : (messages : List Message) (n : ℕ) → IsNumbered messages → 1 ≤ n → n ≤ length messages → number_of (get_or messages (n - 1) no_message) ≡ n
 number_in messages n numbers low high =
     let count = length messages in
     sym (get_or-map number_of messages (n - 1) no_message 0 (omega arith))

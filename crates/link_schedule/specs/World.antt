@@ -1,5 +1,5 @@
 -- A world, and what its parts are after its events.
-use Rattle.std.specs.Prelude.{◌≡◌, ◌==◌, ◌&&◌, ◌||◌, ℕ, ◌-◌, ◌≤◌, Bool, List, [], ◌∷◌, ◌++◌, length, map, take, All, Option, Some, None, if◌then◌else◌, nat_le, slice_get, slice_index_or}
+use Rattle.std.specs.Prelude.{◌≡◌, ◌==◌, ◌&&◌, ◌||◌, ℕ, ◌-◌, ◌≤◌, Bool, List, [], ◌∷◌, ◌++◌, length, map, take, All, Option, Some, None, if◌then◌else◌, nat_le, slice_get, slice_index_or, true, IsSomeAnd}
 use Rattle.agent_order.specs.Order.{message_at}
 use Rattle.agent_resend.specs.Window.{WindowState}
 use Rattle.device_types.specs.declared.effect.Effect.{Effect}
@@ -14,7 +14,7 @@ use Rattle.device_types.specs.declared.input.Answer.{Answer}
 use Rattle.device_types.specs.declared.message.Message.{Message}
 use Rattle.device_types.specs.declared.step.Reply.{Reply}
 use Rattle.device_types.specs.Alone.{entry_of}
-use Rattle.device_types.specs.Journal.{effects_of, taken_count, reply_of}
+use Rattle.device_types.specs.Journal.{is_on, effects_of, taken_count, reply_of}
 use Rattle.device_types.specs.Line.{IsLine}
 use Rattle.device_types.specs.Look.{same_lane}
 use Rattle.device_types.specs.Numbers.{IsWithin}
@@ -175,13 +175,19 @@ message_found p d n = if_so (has n (sent_in p d)) (message_at (window_in p d).li
 abbrev pub reply_found : Parts → ℕ → ℕ → Option Reply
 reply_found p d n = if_so (nat_le n (taken_count (row_in p d).journal)) (reply_of (row_in p d).journal n)
 
--- an effect that was accepted is with its receiver, and one that was not is in the row
+-- effect k of a lane: with its receiver where that has accepted it, else in the row
+abbrev pub effect_at : RowState → List Effect → Lane → ℕ → Option Effect
+effect_at row accepts l k =
+    if nat_le k (length accepts)
+    then slice_get accepts (k - 1)
+    else unsettled_at (effects_of l row.journal) (number_on row.settled l) k
+
+-- there is one, of the kind of its lane
+abbrev pub IsOnLane : Lane → Option Effect → Type 0
+IsOnLane l effect = IsSomeAnd effect (λ x. is_on l x ≡ true)
+
 abbrev pub effect_found : Parts → ℕ → Lane → ℕ → Option Effect
-effect_found p d l k =
-    if_so (has k (marks_on (pushed_in p d) l))
-    (if nat_le k (length (accepted_in p l d))
-    then slice_get (accepted_in p l d) (k - 1)
-    else unsettled_at (effects_of l (row_in p d).journal) (number_on (row_in p d).settled l) k)
+effect_found p d l k = if_so (has k (marks_on (pushed_in p d) l)) (effect_at (row_in p d) (accepted_in p l d) l k)
 
 abbrev pub answer_found : Setting → Parts → ℕ → Lane → ℕ → Option Answer
 answer_found s p d l k = if_so (nat_le k (length (accepted_in p l d))) (Some (answer_of (row_of s d) (take k (accepted_in p l d))))
