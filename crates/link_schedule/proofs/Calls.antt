@@ -5,7 +5,6 @@ use Rattle.std.proofs.lemmas.List.{length-map, set-get_or}
 use Rattle.std.proofs.lemmas.List.Elements.{All-get_or}
 use Rattle.agent_resend.specs.declared.taken.DownTaken.{DownTaken}
 use Rattle.agent_resend.specs.declared.taken.DownTaken.TheVariants as down
-use Rattle.agent_resend.specs.declared.taken.Taken.{Taken}
 use Rattle.agent_resend.specs.declared.taken.Taken.TheVariants as taken
 use Rattle.agent_resend.specs.Window.{WindowState, reply_taken, after_reply, down_taken, after_down}
 use Rattle.device_types.specs.declared.down.Down.{Down as DownMessage}
@@ -31,7 +30,7 @@ use Rattle.link_schedule.specs.Counts.{Turn, Arrival, hand, commits, acked, acce
 use Rattle.link_schedule.specs.Input.{input_of}
 use Rattle.link_schedule.specs.Promise.{Holds}
 use Rattle.link_schedule.specs.Setting.{Setting, window, row_of, messages_of, entries_of}
-use Rattle.link_schedule.specs.Told.{settle_answer, down_answer}
+use Rattle.link_schedule.specs.Told.{settle_answer, reply_answer, down_answer}
 use Rattle.link_schedule.specs.World.{Parts, IsSetting, IsShort, row_after, IsWindowOf, AreGatewayCalls, AreSubscriberCalls, ArePartsOf}
 use Rattle.link_schedule.proofs.Events.{stays, acknowledges, reply_old, reply_new}
 use Rattle.link_schedule.proofs.Lanes.{settled_is, push_told, push_void, accepted_length, accepts_down, effect_next, effect_repeat, effect_ahead, settle_old, settle_new, settles}
@@ -46,12 +45,6 @@ same_items : {X : Type 0} (xs : List X) (i : ℕ) (was now : X) → was ≡ get_
 same_items xs i was now at e = ap (set xs i) (e ∙ at) ∙ set-get_or xs i was
 
 -- ---- a reply at the window
-
--- a reply on its link is of a message that was sent
-abbrev pub reply_answer : ℕ → Taken → EventAnswer
-reply_answer n (taken.Acked m) = told.Acked m
-reply_answer n (taken.Old m) = told.Old n
-reply_answer n (taken.Stranger m) = told.VoidLink
 
 -- what the window makes of it
 reply_at : (w : WindowState) (n : ℕ) (b : Bool) → n ≤ w.sent → nat_le n w.line.acked ≡ b → reply_taken w n ≡ cond b (taken.Old w.line.acked) (taken.Acked n)
