@@ -1,9 +1,8 @@
 -- What the calls of the parts say, as the answer to the event, with the parts after it.
 use Rattle.std.proofs.Common.{◌≡◌, ◌==◌, ℕ, ◌+◌, ◌-◌, ◌≤◌, ◌<◌, max, Bool, true, false, cond, List, [], ◌∷◌, length, set, get_or, Some, refl, sym, ap, ◌∙◌, subst, arith}
 use Rattle.std.specs.Prelude.{nat_le, slice_get}
-use Rattle.std.proofs.lemmas.List.{length-map, set-get_or}
+use Rattle.std.proofs.lemmas.List.{get_or_default, length-map, set-get_or}
 use Rattle.std.proofs.lemmas.List.Elements.{All-get_or}
-use Rattle.agent_resend.specs.declared.taken.DownTaken.{DownTaken}
 use Rattle.agent_resend.specs.declared.taken.DownTaken.TheVariants as down
 use Rattle.agent_resend.specs.declared.taken.Taken.TheVariants as taken
 use Rattle.agent_resend.specs.Window.{WindowState, reply_taken, after_reply, down_taken, after_down}
@@ -12,7 +11,6 @@ use Rattle.device_types.specs.declared.effect.Effect.TheVariants as effects
 use Rattle.device_types.specs.declared.effect.GwCall.{GwCall}
 use Rattle.device_types.specs.declared.effect.SubCall.{SubCall}
 use Rattle.device_types.specs.declared.event.Event.TheVariants.{Read, Reply, Push, Effect, Settle}
-use Rattle.device_types.specs.declared.event.EventAnswer.{EventAnswer}
 use Rattle.device_types.specs.declared.event.EventAnswer.TheVariants as told
 use Rattle.device_types.specs.declared.event.Lane.{Lane}
 use Rattle.device_types.specs.declared.event.Lane.TheVariants.{Down, Gateway, Subscriber}
@@ -21,17 +19,16 @@ use Rattle.device_types.specs.declared.subscriber.DeviceId.{DeviceId}
 use Rattle.device_types.specs.Journal.{effects_of, pushed_count, taken_count}
 use Rattle.device_types.specs.Numbers.{IsWithin}
 use Rattle.device_types.proofs.Courses.{few_pushed, few_entries}
-use Rattle.effect_outbox.specs.declared.settled.Settled.{Settled}
-use Rattle.effect_outbox.specs.declared.settled.Settled.TheVariants as upto
 use Rattle.effect_outbox.specs.Outbox.{LaneNumbers, number_on, with_number, settled_by}
 use Rattle.session_row.specs.Row.{RowState, look_at as row_look}
+use Rattle.session_store.specs.Rows.{opening_row, with_settled}
 use Rattle.link_schedule.specs.Answer.{look_answer, answer, Lawful}
 use Rattle.link_schedule.specs.Counts.{Turn, Arrival, hand, commits, acked, accepted, settled, effect_pushed, journal}
 use Rattle.link_schedule.specs.Input.{input_of}
 use Rattle.link_schedule.specs.Promise.{Holds}
 use Rattle.link_schedule.specs.Setting.{Setting, window, row_of, messages_of, entries_of}
 use Rattle.link_schedule.specs.Told.{settle_answer, reply_answer, down_answer}
-use Rattle.link_schedule.specs.World.{Parts, IsSetting, IsShort, row_after, IsWindowOf, AreGatewayCalls, AreSubscriberCalls, ArePartsOf}
+use Rattle.link_schedule.specs.World.{Parts, IsSetting, IsShort, row_in, row_after, IsWindowOf, AreGatewayCalls, AreSubscriberCalls, ArePartsOf}
 use Rattle.link_schedule.proofs.Events.{stays, acknowledges, reply_old, reply_new}
 use Rattle.link_schedule.proofs.Lanes.{settled_is, push_told, push_void, accepted_length, accepts_down, effect_next, effect_repeat, effect_ahead, settle_old, settle_new, settles}
 use Rattle.link_schedule.proofs.Laws.{taken_sent, version_is}
@@ -152,6 +149,14 @@ settles_at s H p e l k was now L low high at then within m =
         let f = gt_of k (number_on was.settled l) test in
         let new : settled e.0 l H < k = omega arith in
         rw test (settle_new s H e l k L low high new, settles s H p e l k was now at then within m)
+
+-- the same at the store, whose rows these are then
+pub settles_stored : (s : Setting) (H : List Turn) (p : Parts) (e : DeviceId) (l : Lane) (k : ℕ) (rows : List RowState) → Lawful s H → 1 ≤ k → k ≤ accepted e.0 l H → rows ≡ set p.rows (e.0 - 1) (with_settled (row_in p e.0) l k) → IsWithin (length s.rows) e.0 → ArePartsOf s H p → (settle_answer k (settled_by (number_on (row_in p e.0).settled l) k) ≡ answer s H (Settle e l k)) × ArePartsOf s ((Settle e l k, settle_answer k (settled_by (number_on (row_in p e.0).settled l) k)) ∷ H) (record p { rows = rows })
+settles_stored s H p e l k rows L low high then within m =
+    let was = row_in p e.0 in
+    let at : was ≡ get_or p.rows (e.0 - 1) was = get_or_default p.rows (e.0 - 1) opening_row was (omega (arith, m.rows.long, within.0, within.1)) in
+    let both = settles_at s H p e l k was (with_settled was l k) L low high at refl within m in
+    (both.0, subst (λ (xs : List RowState). ArePartsOf s ((Settle e l k, settle_answer k (settled_by (number_on was.settled l) k)) ∷ H) (record p { rows = xs })) (sym then) both.1)
 
 -- ---- how many there may be
 

@@ -1,6 +1,5 @@
-use Rattle.std.proofs.Common.{◌≡◌, ◌-◌, ◌≤◌, ◌++◌, [], ◌∷◌, List, true, false, cond, length, take, Option, Some, None, refl, sym, ap, ◌∙◌, subst, arith}
+use Rattle.std.proofs.Common.{◌≡◌, cond, take, Some, None, refl, sym, ap, ◌∙◌, subst, arith}
 use Rattle.std.specs.Prelude.{nat_le}
-use Rattle.device_types.specs.declared.event.Event.{Event}
 use Rattle.device_types.specs.declared.event.Event.TheVariants.{Answer}
 use Rattle.device_types.specs.declared.event.EventAnswer.TheVariants as told
 use Rattle.device_types.specs.declared.input.Input.TheVariants as inputs

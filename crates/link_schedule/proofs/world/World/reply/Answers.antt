@@ -1,16 +1,15 @@
-use Rattle.std.proofs.Common.{◌≡◌, ◌-◌, ◌≤◌, ◌++◌, [], ◌∷◌, ℕ, List, set, Option, Some, None, refl, sym, ap, ◌∙◌, subst, arith}
+use Rattle.std.proofs.Common.{◌≡◌, ◌≤◌, Option, Some, None, refl, sym, ap, ◌∙◌, subst}
 use Rattle.std.specs.Prelude.{IsSome}
-use Rattle.device_types.specs.declared.event.Event.{Event}
 use Rattle.device_types.specs.declared.event.Event.TheVariants.{Reply}
 use Rattle.device_types.specs.declared.event.EventAnswer.TheVariants as told
 use Rattle.device_types.specs.declared.look.Look.TheVariants as look
 use Rattle.device_types.specs.declared.step.Reply.{Reply as ReplyValue}
 use Rattle.device_types.specs.Journal.{taken_count}
 use Rattle.device_types.specs.Look.{look_of}
-use Rattle.agent_resend.specs.Window.{WindowState, reply_taken, after_reply}
+use Rattle.agent_resend.specs.Window.{reply_taken, after_reply}
 use Rattle.session_store.specs.declared.asked.Seen.{Seen}
-use Rattle.session_store.specs.Rows.{StoreState, journal_of}
-use Rattle.session_store.specs.Seen.{IsRepeat, repeated_reply}
+use Rattle.session_store.specs.Rows.{journal_of}
+use Rattle.session_store.specs.Seen.{IsRepeat}
 use Rattle.link_schedule.specs.Answer.{answer, history, IsEvent}
 use Rattle.link_schedule.specs.Counts.{journal}
 use Rattle.link_schedule.specs.Told.{reply_answer}
