@@ -103,6 +103,10 @@ pub record IsWindow (messages : List Message) (last highest : ℕ) (accepts : Li
   pub greatest : window.sent ≡ highest
   pub downs : map effects.Down window.downs ≡ accepts
 
+-- the window over these messages before any event
+abbrev pub fresh_window : List Message → WindowState
+fresh_window messages = record { line = record { messages = messages; acked = 0 }; sent = 0; downs = [] }
+
 -- the window of device d
 abbrev pub IsWindowOf : Setting → List Turn → ℕ → WindowState → Type 0
 IsWindowOf s turns d window = IsWindow (messages_of s d) (acked d turns) (greatest_sent d turns) (accepted_effects s Down turns d) window
