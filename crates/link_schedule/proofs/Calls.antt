@@ -3,9 +3,7 @@ use Rattle.std.proofs.Common.{◌≡◌, ◌==◌, ℕ, ◌+◌, ◌-◌, ◌≤
 use Rattle.std.specs.Prelude.{nat_le, slice_get}
 use Rattle.std.proofs.lemmas.List.{get_or_default, length-map, set-get_or}
 use Rattle.std.proofs.lemmas.List.Elements.{All-get_or}
-use Rattle.agent_resend.specs.declared.taken.DownTaken.{DownTaken}
 use Rattle.agent_resend.specs.declared.taken.DownTaken.TheVariants as down
-use Rattle.agent_resend.specs.declared.taken.Taken.{Taken}
 use Rattle.agent_resend.specs.declared.taken.Taken.TheVariants as taken
 use Rattle.agent_resend.specs.Window.{WindowState, reply_taken, after_reply, down_taken, after_down}
 use Rattle.device_types.specs.declared.down.Down.{Down as DownMessage}
@@ -13,7 +11,6 @@ use Rattle.device_types.specs.declared.effect.Effect.TheVariants as effects
 use Rattle.device_types.specs.declared.effect.GwCall.{GwCall}
 use Rattle.device_types.specs.declared.effect.SubCall.{SubCall}
 use Rattle.device_types.specs.declared.event.Event.TheVariants.{Read, Reply, Push, Effect, Settle}
-use Rattle.device_types.specs.declared.event.EventAnswer.{EventAnswer}
 use Rattle.device_types.specs.declared.event.EventAnswer.TheVariants as told
 use Rattle.device_types.specs.declared.event.Lane.{Lane}
 use Rattle.device_types.specs.declared.event.Lane.TheVariants.{Down, Gateway, Subscriber}
@@ -22,8 +19,6 @@ use Rattle.device_types.specs.declared.subscriber.DeviceId.{DeviceId}
 use Rattle.device_types.specs.Journal.{effects_of, pushed_count, taken_count}
 use Rattle.device_types.specs.Numbers.{IsWithin}
 use Rattle.device_types.proofs.Courses.{few_pushed, few_entries}
-use Rattle.effect_outbox.specs.declared.settled.Settled.{Settled}
-use Rattle.effect_outbox.specs.declared.settled.Settled.TheVariants as upto
 use Rattle.effect_outbox.specs.Outbox.{LaneNumbers, number_on, with_number, settled_by}
 use Rattle.session_row.specs.Row.{RowState, look_at as row_look}
 use Rattle.session_store.specs.Rows.{opening_row, with_settled}
@@ -32,7 +27,7 @@ use Rattle.link_schedule.specs.Counts.{Turn, Arrival, hand, commits, acked, acce
 use Rattle.link_schedule.specs.Input.{input_of}
 use Rattle.link_schedule.specs.Promise.{Holds}
 use Rattle.link_schedule.specs.Setting.{Setting, window, row_of, messages_of, entries_of}
-use Rattle.link_schedule.specs.Told.{settle_answer, down_answer}
+use Rattle.link_schedule.specs.Told.{settle_answer, reply_answer, down_answer}
 use Rattle.link_schedule.specs.World.{Parts, IsSetting, IsShort, row_in, row_after, IsWindowOf, AreGatewayCalls, AreSubscriberCalls, ArePartsOf}
 use Rattle.link_schedule.proofs.Events.{stays, acknowledges, reply_old, reply_new}
 use Rattle.link_schedule.proofs.Lanes.{settled_is, push_told, push_void, accepted_length, accepts_down, effect_next, effect_repeat, effect_ahead, settle_old, settle_new, settles}
@@ -47,12 +42,6 @@ same_items : {X : Type 0} (xs : List X) (i : ℕ) (was now : X) → was ≡ get_
 same_items xs i was now at e = ap (set xs i) (e ∙ at) ∙ set-get_or xs i was
 
 -- ---- a reply at the window
-
--- a reply on its link is of a message that was sent
-abbrev pub reply_answer : ℕ → Taken → EventAnswer
-reply_answer n (taken.Acked m) = told.Acked m
-reply_answer n (taken.Old m) = told.Old n
-reply_answer n (taken.Stranger m) = told.VoidLink
 
 -- what the window makes of it
 reply_at : (w : WindowState) (n : ℕ) (b : Bool) → n ≤ w.sent → nat_le n w.line.acked ≡ b → reply_taken w n ≡ cond b (taken.Old w.line.acked) (taken.Acked n)

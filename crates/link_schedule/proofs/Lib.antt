@@ -3,6 +3,7 @@ pub mod Comparisons
 pub mod Contents
 pub mod Events
 pub mod Flags
+pub mod Given
 pub mod Items
 pub mod Lanes
 pub mod Laws
@@ -11,6 +12,7 @@ pub mod Noted
 pub mod Offers
 pub mod Promises
 pub mod Replicas
+pub mod Replied
 pub mod Runs
 pub mod Steps
 pub mod Worked

@@ -5,12 +5,13 @@ use Rattle.device_types.specs.declared.event.EventAnswer.{EventAnswer}
 use Rattle.device_types.specs.declared.event.EventAnswer.TheVariants as told
 use Rattle.replica_worker.specs.declared.hand.Hand.{Hand}
 use Rattle.link_schedule.specs.Answer.{on_replica, answer, history, IsEvent}
+use Rattle.link_schedule.specs.Counts.{hand}
 use Rattle.link_schedule.specs.Promise.{is_void}
 use Rattle.link_schedule.specs.Setting.{Setting}
 use Rattle.link_schedule.specs.World.{Parts, WorldState, ArePartsOf, IsWorld, Answers}
 use Rattle.link_schedule.proofs.Comparisons.{le_false}
 use Rattle.link_schedule.proofs.Events.{stays}
-use Rattle.link_schedule.proofs.Promises.{void_stays}
+use Rattle.link_schedule.proofs.Promises.{is_quiet, quiet_stays, void_stays}
 use Rattle.link_schedule.proofs.Worlds.{goes_on, answered}
 
 -- what it is, whatever the list that has the event at its end
@@ -40,3 +41,9 @@ notes_hand w e a r now held es same more is i given parts =
 -- there is no such replica
 pub no_replica : (s : Setting) (r : ℕ) (a : EventAnswer) → s.replicas < r → told.VoidReplica ≡ on_replica s r a
 no_replica s r a high = rw (le_false r s.replicas high) refl
+
+-- an event whose answer changes nothing: the counts and the hands are as before
+pub notes_quiet : (w : WorldState) (e : Event) (a : EventAnswer) (es : List Event) → es ≡ w.events ++ e ∷ [] → IsWorld w → IsEvent w.setting e → a ≡ answer w.setting (history w.setting w.events) e → is_quiet a ≡ true → ((r : ℕ) → hand r ((e, a) ∷ history w.setting w.events) ≡ hand r (history w.setting w.events)) → IsWorld (record { setting = w.setting; events = es; parts = w.parts })
+notes_quiet w e a es more is i given quiet hands =
+    let H = history w.setting w.events in
+    notes w e a w.parts es more is i given (stays w.setting H ((e, a) ∷ H) w.parts (quiet_stays H e a quiet) hands is.parts)

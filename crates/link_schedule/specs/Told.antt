@@ -2,6 +2,8 @@
 use Rattle.std.specs.Prelude.{ℕ, List, Option, Some, None}
 use Rattle.agent_resend.specs.declared.taken.DownTaken.{DownTaken}
 use Rattle.agent_resend.specs.declared.taken.DownTaken.TheVariants as down
+use Rattle.agent_resend.specs.declared.taken.Taken.{Taken}
+use Rattle.agent_resend.specs.declared.taken.Taken.TheVariants as taken
 use Rattle.device_types.specs.declared.event.EventAnswer.{EventAnswer}
 use Rattle.device_types.specs.declared.event.EventAnswer.TheVariants as told
 use Rattle.device_types.specs.declared.input.Input.{Input}
@@ -43,6 +45,12 @@ commit_answer (commit.Stale read current) = told.Stale read current
 abbrev pub settle_answer : ℕ → Settled → EventAnswer
 settle_answer k (upto.Upto j) = told.Settled j
 settle_answer k (upto.Old j) = told.Old k
+
+-- the agent to the reply to message n; one on its link is of a message that was sent
+abbrev pub reply_answer : ℕ → Taken → EventAnswer
+reply_answer n (taken.Acked m) = told.Acked m
+reply_answer n (taken.Old m) = told.Old n
+reply_answer n (taken.Stranger m) = told.VoidLink
 
 -- the device to a message to it
 abbrev pub down_answer : DownTaken → EventAnswer

@@ -13,6 +13,7 @@ use Rattle.device_types.specs.declared.event.Lane.TheVariants.{Down, Gateway, Su
 use Rattle.device_types.specs.declared.input.Answer.{Answer}
 use Rattle.device_types.specs.declared.message.Message.{Message}
 use Rattle.device_types.specs.declared.step.Reply.{Reply}
+use Rattle.device_types.specs.declared.subscriber.Subscriber.{Subscriber as SubscriberRow}
 use Rattle.device_types.specs.Alone.{entry_of}
 use Rattle.device_types.specs.Journal.{is_on, effects_of, taken_count, reply_of}
 use Rattle.device_types.specs.Line.{IsLine}
@@ -102,6 +103,10 @@ pub record IsWindow (messages : List Message) (last highest : ℕ) (accepts : Li
   pub greatest : window.sent ≡ highest
   pub downs : map effects.Down window.downs ≡ accepts
 
+-- the window over these messages before any event
+abbrev pub fresh_window : List Message → WindowState
+fresh_window messages = record { line = record { messages = messages; acked = 0 }; sent = 0; downs = [] }
+
 -- the window of device d
 abbrev pub IsWindowOf : Setting → List Turn → ℕ → WindowState → Type 0
 IsWindowOf s turns d window = IsWindow (messages_of s d) (acked d turns) (greatest_sent d turns) (accepted_effects s Down turns d) window
@@ -162,6 +167,12 @@ sent_in p d = slice_index_or p.sent (d - 1) []
 abbrev pub pushed_in : Parts → ℕ → LaneMarks
 pushed_in p d = slice_index_or p.pushed (d - 1) (record { down = []; gateway = []; subscriber = [] })
 
+-- the calls of device d that the peer of a lane has accepted
+abbrev pub accepted_calls : List (List GwCall) → List (List SubCall) → Lane → ℕ → List Effect
+accepted_calls gateway subscriber Down d = []
+accepted_calls gateway subscriber Gateway d = map effects.Gateway (slice_index_or gateway (d - 1) [])
+accepted_calls gateway subscriber Subscriber d = map effects.Subscriber (slice_index_or subscriber (d - 1) [])
+
 -- what the receiver of a lane of device d has accepted
 abbrev pub accepted_in : Parts → Lane → ℕ → List Effect
 accepted_in p Down d = map effects.Down (window_in p d).downs
@@ -189,8 +200,12 @@ IsOnLane l effect = IsSomeAnd effect (λ x. is_on l x ≡ true)
 abbrev pub effect_found : Parts → ℕ → Lane → ℕ → Option Effect
 effect_found p d l k = if_so (has k (marks_on (pushed_in p d) l)) (effect_at (row_in p d) (accepted_in p l d) l k)
 
+-- the answer that a peer which has accepted these calls has given to call k
+abbrev pub answer_given : SubscriberRow → List Effect → ℕ → Option Answer
+answer_given row calls k = if_so (nat_le k (length calls)) (Some (answer_of row (take k calls)))
+
 abbrev pub answer_found : Setting → Parts → ℕ → Lane → ℕ → Option Answer
-answer_found s p d l k = if_so (nat_le k (length (accepted_in p l d))) (Some (answer_of (row_of s d) (take k (accepted_in p l d))))
+answer_found s p d l k = answer_given (row_of s d) (accepted_in p l d) k
 
 -- each packet is found with its content
 pub record AreLinksOf (s : Setting) (turns : List Turn) (p : Parts) : Type 0 where

@@ -4,6 +4,7 @@
 mod answer;
 mod effect;
 mod marks;
+mod opening;
 mod push;
 mod read;
 mod reply;

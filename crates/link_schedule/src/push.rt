@@ -13,12 +13,7 @@ use session_store::{EchoLaw, Store};
 use std::alloc::AllocError;
 
 /// Is effect `k` of a lane in the row of the device? It was made, then, and is not settled. It fails for want of memory alone.
-fn is_in_row(
-    store: &Store<EchoLaw>,
-    d: DeviceId,
-    lane: Lane,
-    k: u64,
-) -> Result<bool, AllocError>
+fn is_in_row(store: &Store<EchoLaw>, d: DeviceId, lane: Lane, k: u64) -> Result<bool, AllocError>
     requires { IsDevice (length store.now.rows) d.0 }
     ensures { IfOk result (λ is. IsTrue is ↔ ((number_on (row_of store.now.rows d.0).settled lane < k) × (k ≤ pushed_count lane (journal_of store.now.rows d.0)))) }
 {

@@ -3,6 +3,7 @@ ghost use Rattle.std.specs.Prelude.{◌≡◌, ◌≤◌, ◌-◌, ◌+◌, ◌+
 ghost use Rattle.std.specs.Arc.{arc_value};
 ghost use Rattle.device_types.specs.Numbers.{IsWithin};
 ghost use Rattle.link_schedule.specs.Setting.{no_row};
+ghost use Rattle.link_schedule.specs.World.{IsWorld};
 
 use crate::marks::{LaneMarks, Marks};
 use agent_resend::Window;
@@ -46,6 +47,16 @@ impl Model for World {
     ghost view = { view_of };
 
     ghost invariant = { IsInside };
+}
+
+impl World {
+    /// The events that the world has taken, in order. It takes no memory.
+    pub fn events(&self) -> &[Event]
+        ensures events { result.now ≡ self.now.events }
+        ensures world { IsWorld self.now }
+    {
+        &self.taken
+    }
 }
 
 /// The row of a device. It takes no memory.

@@ -1,7 +1,6 @@
-use Rattle.std.proofs.Common.{◌≡◌, sym, subst, refl, ◌∙◌}
+use Rattle.std.proofs.Common.{sym, subst, refl}
 use Rattle.device_types.specs.declared.event.Event.TheVariants.{Push}
 use Rattle.device_types.specs.declared.event.EventAnswer.TheVariants as told
-use Rattle.effect_outbox.specs.Outbox.{number_on}
 use Rattle.session_store.specs.Rows.{opening_row}
 use Rattle.link_schedule.specs.Answer.{IsEvent, history}
 use Rattle.link_schedule.specs.View.{view_of}

@@ -1,5 +1,4 @@
-use Rattle.std.proofs.Common.{◌≡◌, ◌-◌, ◌++◌, [], ◌∷◌, List, set, cond, refl, sym, ap, ◌∙◌, subst}
-use Rattle.device_types.specs.declared.event.Event.{Event}
+use Rattle.std.proofs.Common.{◌≡◌, cond, refl, sym, ap, ◌∙◌, subst}
 use Rattle.device_types.specs.declared.event.Event.TheVariants.{Send}
 use Rattle.device_types.specs.declared.event.EventAnswer.TheVariants as told
 use Rattle.link_schedule.specs.Answer.{answer, history, IsEvent}

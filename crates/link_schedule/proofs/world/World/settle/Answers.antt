@@ -1,9 +1,9 @@
-use Rattle.std.proofs.Common.{◌≡◌, ◌≤◌, length, sym, subst, refl, ap, ◌∙◌, arith}
+use Rattle.std.proofs.Common.{◌≡◌, sym, subst, refl, ap, ◌∙◌, arith}
 use Rattle.device_types.specs.declared.event.Event.TheVariants.{Settle}
 use Rattle.device_types.specs.declared.event.EventAnswer.TheVariants as told
 use Rattle.device_types.specs.Journal.{pushed_count}
 use Rattle.session_row.specs.Row.{RowState}
-use Rattle.session_store.specs.Rows.{StoreState, opening_row, journal_of}
+use Rattle.session_store.specs.Rows.{StoreState, opening_row}
 use Rattle.link_schedule.specs.Answer.{IsEvent, history}
 use Rattle.link_schedule.specs.Counts.{accepted}
 use Rattle.link_schedule.specs.Told.{settle_answer}

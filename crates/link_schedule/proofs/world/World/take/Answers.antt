@@ -1,5 +1,4 @@
-use Rattle.std.proofs.Common.{◌≡◌, ◌-◌, ◌≤◌, ◌++◌, [], ◌∷◌, List, true, false, cond, length, get_or, refl, sym, ap, ◌∙◌, subst}
-use Rattle.device_types.specs.declared.event.Event.{Event}
+use Rattle.std.proofs.Common.{◌≡◌, ◌-◌, true, false, cond, get_or, refl, sym, ap, ◌∙◌, subst}
 use Rattle.device_types.specs.declared.event.Event.TheVariants.{Take}
 use Rattle.device_types.specs.declared.event.EventAnswer.TheVariants as told
 use Rattle.device_types.specs.declared.input.Input.TheVariants as inputs
