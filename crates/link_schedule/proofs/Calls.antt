@@ -1,19 +1,16 @@
 -- What the calls of the parts say, as the answer to the event, with the parts after it.
-use Rattle.std.proofs.Common.{◌≡◌, ◌==◌, ℕ, ◌+◌, ◌-◌, ◌≤◌, ◌<◌, max, Bool, true, false, cond, List, [], ◌∷◌, length, set, get_or, Some, refl, sym, ap, ◌∙◌, arith}
+use Rattle.std.proofs.Common.{◌≡◌, ◌==◌, ℕ, ◌+◌, ◌-◌, ◌≤◌, ◌<◌, max, Bool, true, false, cond, List, [], ◌∷◌, length, set, get_or, Some, refl, sym, ap, ◌∙◌, subst, arith}
 use Rattle.std.specs.Prelude.{nat_le, slice_get}
-use Rattle.std.proofs.lemmas.List.{length-map, set-get_or}
+use Rattle.std.proofs.lemmas.List.{get_or_default, length-map, set-get_or}
 use Rattle.std.proofs.lemmas.List.Elements.{All-get_or}
-use Rattle.agent_resend.specs.declared.taken.DownTaken.{DownTaken}
 use Rattle.agent_resend.specs.declared.taken.DownTaken.TheVariants as down
-use Rattle.agent_resend.specs.declared.taken.Taken.{Taken}
 use Rattle.agent_resend.specs.declared.taken.Taken.TheVariants as taken
 use Rattle.agent_resend.specs.Window.{WindowState, reply_taken, after_reply, down_taken, after_down}
 use Rattle.device_types.specs.declared.down.Down.{Down as DownMessage}
 use Rattle.device_types.specs.declared.effect.Effect.TheVariants as effects
 use Rattle.device_types.specs.declared.effect.GwCall.{GwCall}
 use Rattle.device_types.specs.declared.effect.SubCall.{SubCall}
-use Rattle.device_types.specs.declared.event.Event.TheVariants.{Read, Reply, Effect, Settle}
-use Rattle.device_types.specs.declared.event.EventAnswer.{EventAnswer}
+use Rattle.device_types.specs.declared.event.Event.TheVariants.{Read, Reply, Push, Effect, Settle}
 use Rattle.device_types.specs.declared.event.EventAnswer.TheVariants as told
 use Rattle.device_types.specs.declared.event.Lane.{Lane}
 use Rattle.device_types.specs.declared.event.Lane.TheVariants.{Down, Gateway, Subscriber}
@@ -22,22 +19,22 @@ use Rattle.device_types.specs.declared.subscriber.DeviceId.{DeviceId}
 use Rattle.device_types.specs.Journal.{effects_of, pushed_count, taken_count}
 use Rattle.device_types.specs.Numbers.{IsWithin}
 use Rattle.device_types.proofs.Courses.{few_pushed, few_entries}
-use Rattle.effect_outbox.specs.declared.settled.Settled.{Settled}
-use Rattle.effect_outbox.specs.declared.settled.Settled.TheVariants as upto
 use Rattle.effect_outbox.specs.Outbox.{LaneNumbers, number_on, with_number, settled_by}
 use Rattle.session_row.specs.Row.{RowState, look_at as row_look}
+use Rattle.session_store.specs.Rows.{opening_row, with_settled}
 use Rattle.link_schedule.specs.Answer.{look_answer, answer, Lawful}
 use Rattle.link_schedule.specs.Counts.{Turn, Arrival, hand, commits, acked, accepted, settled, effect_pushed, journal}
 use Rattle.link_schedule.specs.Input.{input_of}
 use Rattle.link_schedule.specs.Promise.{Holds}
 use Rattle.link_schedule.specs.Setting.{Setting, window, row_of, messages_of, entries_of}
-use Rattle.link_schedule.specs.World.{Parts, IsSetting, IsShort, row_after, IsWindowOf, AreGatewayCalls, AreSubscriberCalls, ArePartsOf}
+use Rattle.link_schedule.specs.Told.{settle_answer, reply_answer, down_answer}
+use Rattle.link_schedule.specs.World.{Parts, IsSetting, IsShort, row_in, row_after, IsWindowOf, AreGatewayCalls, AreSubscriberCalls, ArePartsOf}
 use Rattle.link_schedule.proofs.Events.{stays, acknowledges, reply_old, reply_new}
-use Rattle.link_schedule.proofs.Lanes.{settled_is, accepted_length, accepts_down, effect_next, effect_repeat, effect_ahead, settle_old, settle_new, settles}
+use Rattle.link_schedule.proofs.Lanes.{settled_is, push_told, push_void, accepted_length, accepts_down, effect_next, effect_repeat, effect_ahead, settle_old, settle_new, settles}
 use Rattle.link_schedule.proofs.Laws.{taken_sent, version_is}
 use Rattle.link_schedule.proofs.Promises.{read_is, quiet_stays}
 use Rattle.link_schedule.proofs.Runs.{Begins-length, to_alone}
-use Rattle.link_schedule.proofs.Tests.{here, lt_false, le_of, gt_of, same_number}
+use Rattle.link_schedule.proofs.Comparisons.{here, lt_false, le_of, gt_of, same_number}
 use Rattle.link_schedule.proofs.Worlds.{held_arrival, look_same}
 
 -- an item is written that is the same
@@ -45,12 +42,6 @@ same_items : {X : Type 0} (xs : List X) (i : ℕ) (was now : X) → was ≡ get_
 same_items xs i was now at e = ap (set xs i) (e ∙ at) ∙ set-get_or xs i was
 
 -- ---- a reply at the window
-
--- a reply on its link is of a message that was sent
-abbrev pub reply_answer : ℕ → Taken → EventAnswer
-reply_answer n (taken.Acked m) = told.Acked m
-reply_answer n (taken.Old m) = told.Old n
-reply_answer n (taken.Stranger m) = told.VoidLink
 
 -- what the window makes of it
 reply_at : (w : WindowState) (n : ℕ) (b : Bool) → n ≤ w.sent → nat_le n w.line.acked ≡ b → reply_taken w n ≡ cond b (taken.Old w.line.acked) (taken.Acked n)
@@ -74,11 +65,6 @@ replies s H p e n was now L low high at then within m =
         rw says (reply_new s H e n L low high new, acknowledges s H p e n was now at (then ∙ ap (after_reply was) says) new within m)
 
 -- ---- a message to the device at the window
-
-abbrev pub down_answer : DownTaken → EventAnswer
-down_answer (down.Accepted k) = told.Accepted k
-down_answer (down.Repeat k) = told.Repeat k
-down_answer (down.Ahead k) = told.Ahead k
 
 pub downs_count : (s : Setting) (H : List Turn) (d : ℕ) (w : WindowState) → Lawful s H → IsWindowOf s H d w → length w.downs ≡ accepted d Down H
 downs_count s H d w L i = sym (length-map w.downs effects.Down) ∙ ap length i.downs ∙ accepted_length s H d Down L
@@ -124,11 +110,22 @@ read_told s H r d what input is L h same low =
     let i = held_arrival s H r d what L h in
     read_is s H r d what low h ∙ ap (look_answer (commits d H)) (sym (look_same s H (journal s d H) d what is L i.0) ∙ ap (row_look window (journal s d H)) (sym same))
 
--- ---- an acknowledgement at the row
+-- ---- an effect in the row
 
-abbrev pub settle_answer : ℕ → Settled → EventAnswer
-settle_answer k (upto.Upto j) = told.Settled j
-settle_answer k (upto.Old j) = told.Old k
+-- it was made, and is not settled
+abbrev pub IsInRow : RowState → Lane → ℕ → Type 0
+IsInRow row l k = (number_on row.settled l < k) × (k ≤ pushed_count l row.journal)
+
+pub in_row_told : (s : Setting) (H : List Turn) (e : DeviceId) (l : Lane) (k : ℕ) (row : RowState) → row ≡ row_after s H e.0 → IsInRow row l k → told.Pushed ≡ answer s H (Push e l k)
+in_row_told s H e l k row is there =
+    let a : IsInRow (row_after s H e.0) l k = rw is at there in
+    push_told s H e l k (subst (λ n. n < k) (settled_is e.0 l H) a.0) a.1
+
+pub in_row_void : (s : Setting) (H : List Turn) (e : DeviceId) (l : Lane) (k : ℕ) (row : RowState) → row ≡ row_after s H e.0 → (IsInRow row l k → ⊥) → told.VoidOutbox ≡ answer s H (Push e l k)
+in_row_void s H e l k row is none =
+    push_void s H e l k (λ low high. none (rw is (subst (λ n. n < k) (sym (settled_is e.0 l H)) low, high)))
+
+-- ---- an acknowledgement at the row
 
 most_on : (numbers : LaneNumbers) (l : Lane) (k : ℕ) → k ≤ number_on numbers l → with_number numbers l k ≡ numbers
 most_on numbers Down k low = let e : max k numbers.down ≡ numbers.down = omega arith in rw e refl
@@ -152,6 +149,14 @@ settles_at s H p e l k was now L low high at then within m =
         let f = gt_of k (number_on was.settled l) test in
         let new : settled e.0 l H < k = omega arith in
         rw test (settle_new s H e l k L low high new, settles s H p e l k was now at then within m)
+
+-- the same at the store, whose rows these are then
+pub settles_stored : (s : Setting) (H : List Turn) (p : Parts) (e : DeviceId) (l : Lane) (k : ℕ) (rows : List RowState) → Lawful s H → 1 ≤ k → k ≤ accepted e.0 l H → rows ≡ set p.rows (e.0 - 1) (with_settled (row_in p e.0) l k) → IsWithin (length s.rows) e.0 → ArePartsOf s H p → (settle_answer k (settled_by (number_on (row_in p e.0).settled l) k) ≡ answer s H (Settle e l k)) × ArePartsOf s ((Settle e l k, settle_answer k (settled_by (number_on (row_in p e.0).settled l) k)) ∷ H) (record p { rows = rows })
+settles_stored s H p e l k rows L low high then within m =
+    let was = row_in p e.0 in
+    let at : was ≡ get_or p.rows (e.0 - 1) was = get_or_default p.rows (e.0 - 1) opening_row was (omega (arith, m.rows.long, within.0, within.1)) in
+    let both = settles_at s H p e l k was (with_settled was l k) L low high at refl within m in
+    (both.0, subst (λ (xs : List RowState). ArePartsOf s ((Settle e l k, settle_answer k (settled_by (number_on was.settled l) k)) ∷ H) (record p { rows = xs })) (sym then) both.1)
 
 -- ---- how many there may be
 

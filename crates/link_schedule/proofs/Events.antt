@@ -23,6 +23,8 @@ use Rattle.device_types.specs.Journal.{effects_of, taken_count}
 use Rattle.device_types.specs.Numbers.{IsWithin}
 use Rattle.device_types.specs.PeerAnswer.{answer_of}
 use Rattle.effect_outbox.specs.Outbox.{LaneNumbers}
+use Rattle.replica_worker.specs.declared.hand.Hand.{Hand}
+use Rattle.replica_worker.specs.declared.hand.Hand.TheVariants as hands
 use Rattle.session_row.specs.declared.commit.Commit.{Commit}
 use Rattle.session_row.specs.declared.commit.Commit.TheVariants as commit
 use Rattle.session_row.specs.Row.{RowState, Commits}
@@ -30,15 +32,15 @@ use Rattle.link_schedule.specs.Answer.{look_answer, answer, turn, history, Lawfu
 use Rattle.link_schedule.specs.Counts.{Turn, Arrival, Held, hand, after_read, commits, acked, accepted, greatest_sent, reply_sent, journal}
 use Rattle.link_schedule.specs.Counts.Held.{Nothing, Taken, Ready}
 use Rattle.link_schedule.specs.Input.{message_of, input_of, IsHand}
-use Rattle.link_schedule.specs.Lists.{Each, Marks}
+use Rattle.link_schedule.specs.Lists.{AddsMark, Each}
 use Rattle.link_schedule.specs.Promise.{Holds, HasSameCounts}
 use Rattle.link_schedule.specs.Setting.{Setting, row_of, messages_of, entries_to, entries_of}
-use Rattle.link_schedule.specs.World.{Hand, Parts, settled_numbers, row_after, hand_of, accepted_effects, IsWindowOf, AreGatewayCalls, AreSubscriberCalls, AreSent, ArePushed, ArePartsOf}
-use Rattle.link_schedule.specs.World.Hand.{Empty, Holding, Made}
+use Rattle.link_schedule.specs.Told.{commit_answer}
+use Rattle.link_schedule.specs.World.{Parts, settled_numbers, row_after, hand_of, accepted_effects, IsWindowOf, AreGatewayCalls, AreSubscriberCalls, AreSent, ArePushed, ArePartsOf}
 use Rattle.link_schedule.proofs.Items.{Each-set, Each-keep}
 use Rattle.link_schedule.proofs.Laws.{version_is, hand_ok, reply_is}
 use Rattle.link_schedule.proofs.Runs.{to_push}
-use Rattle.link_schedule.proofs.Tests.{here, not_here, nor_here, le_true, le_false, lt_true, lt_false}
+use Rattle.link_schedule.proofs.Comparisons.{here, not_here, nor_here, le_true, le_false, lt_true, lt_false}
 
 -- one more event is one more turn
 pub history_more : (s : Setting) (es : List Event) (e : Event) → history s (es ++ e ∷ []) ≡ turn s (history s es) e
@@ -79,7 +81,7 @@ stays s H K p same hands m =
 pub send_told : (s : Setting) (H : List Turn) (e : DeviceId) (n : ℕ) (w : WindowState) → IsWindowOf s H e.0 w → answer s H (Send e n) ≡ cond (may_send 4 w.line n) told.Sent told.VoidWindow
 send_told s H e n w i = rw i.line refl
 
-pub sends : (s : Setting) (H : List Turn) (p : Parts) (e : DeviceId) (n : ℕ) (was now : WindowState) (old new : List Bool) → was ≡ get_or p.windows (e.0 - 1) was → now ≡ with_sent was n → old ≡ get_or p.sent (e.0 - 1) old → Marks old new n → IsWithin (length s.rows) e.0 → ArePartsOf s H p → ArePartsOf s ((Send e n, told.Sent) ∷ H) (record p { windows = set p.windows (e.0 - 1) now; sent = set p.sent (e.0 - 1) new })
+pub sends : (s : Setting) (H : List Turn) (p : Parts) (e : DeviceId) (n : ℕ) (was now : WindowState) (old new : List Bool) → was ≡ get_or p.windows (e.0 - 1) was → now ≡ with_sent was n → old ≡ get_or p.sent (e.0 - 1) old → AddsMark old new n → IsWithin (length s.rows) e.0 → ArePartsOf s H p → ArePartsOf s ((Send e n, told.Sent) ∷ H) (record p { windows = set p.windows (e.0 - 1) now; sent = set p.sent (e.0 - 1) new })
 sends s H p e n was now old new at then before marks within m =
     let K = (Send e n, told.Sent) ∷ H in
     let i : IsWindowOf s H e.0 was = rw (← at) at (m.windows.at e.0 was within) in
@@ -125,24 +127,24 @@ with_hand : (s : Setting) (H : List Turn) (p : Parts) (e : Event) (a : EventAnsw
 with_hand s H p e a r h of within is others m = with_hands s H ((e, a) ∷ H) p (set p.hands (r - 1) h) (hand_counts H e a of) (hands-set s H ((e, a) ∷ H) p.hands r h m.hands within is others) m
 
 -- a message arrives
-pub takes : (s : Setting) (H : List Turn) (p : Parts) (r : ℕ) (e : DeviceId) (n : ℕ) (message : Message) → message ≡ message_of s e.0 n → IsWithin s.replicas r → ArePartsOf s H p → ArePartsOf s ((Take r e n, told.Taken) ∷ H) (record p { hands = set p.hands (r - 1) (Holding e (inputs.Message message)) })
+pub takes : (s : Setting) (H : List Turn) (p : Parts) (r : ℕ) (e : DeviceId) (n : ℕ) (message : Message) → message ≡ message_of s e.0 n → IsWithin s.replicas r → ArePartsOf s H p → ArePartsOf s ((Take r e n, told.Taken) ∷ H) (record p { hands = set p.hands (r - 1) (hands.Taken e (inputs.Message message)) })
 takes s H p r e n message is within m =
-    with_hand s H p (Take r e n) told.Taken r (Holding e (inputs.Message message)) refl within
+    with_hand s H p (Take r e n) told.Taken r (hands.Taken e (inputs.Message message)) refl within
     (rw (here r, is) refl)
     (λ j ne. rw (nor_here r j ne) refl) m
 
 -- the answer to a call arrives: that to the first k of the calls that were accepted
-pub takes_answer : (s : Setting) (H : List Turn) (p : Parts) (r : ℕ) (e : DeviceId) (l : Lane) (k : ℕ) (value : AnswerValue) → value ≡ answer_of (row_of s e.0) (take k (accepted_effects s l H e.0)) → k ≤ accepted e.0 l H → IsWithin s.replicas r → ArePartsOf s H p → ArePartsOf s ((Answer r e l k, told.Taken) ∷ H) (record p { hands = set p.hands (r - 1) (Holding e (inputs.Answer l k value)) })
+pub takes_answer : (s : Setting) (H : List Turn) (p : Parts) (r : ℕ) (e : DeviceId) (l : Lane) (k : ℕ) (value : AnswerValue) → value ≡ answer_of (row_of s e.0) (take k (accepted_effects s l H e.0)) → k ≤ accepted e.0 l H → IsWithin s.replicas r → ArePartsOf s H p → ArePartsOf s ((Answer r e l k, told.Taken) ∷ H) (record p { hands = set p.hands (r - 1) (hands.Taken e (inputs.Answer l k value)) })
 takes_answer s H p r e l k value is low within m =
     let content : value ≡ answer_of (row_of s e.0) (take k (effects_of l (entries_of s e.0))) = is ∙ ap (answer_of (row_of s e.0)) (take-take k (accepted e.0 l H) (effects_of l (entries_of s e.0)) low) in
-    with_hand s H p (Answer r e l k) told.Taken r (Holding e (inputs.Answer l k value)) refl within
+    with_hand s H p (Answer r e l k) told.Taken r (hands.Taken e (inputs.Answer l k value)) refl within
     (rw (here r, content) refl)
     (λ j ne. rw (nor_here r j ne) refl) m
 
 -- a replica stops
-pub stops : (s : Setting) (H : List Turn) (p : Parts) (r : ℕ) → IsWithin s.replicas r → ArePartsOf s H p → ArePartsOf s ((Stop r, told.Stopped) ∷ H) (record p { hands = set p.hands (r - 1) Empty })
+pub stops : (s : Setting) (H : List Turn) (p : Parts) (r : ℕ) → IsWithin s.replicas r → ArePartsOf s H p → ArePartsOf s ((Stop r, told.Stopped) ∷ H) (record p { hands = set p.hands (r - 1) hands.Empty })
 stops s H p r within m =
-    with_hand s H p (Stop r) told.Stopped r Empty refl within
+    with_hand s H p (Stop r) told.Stopped r hands.Empty refl within
     (rw (here r) refl)
     (λ j ne. rw (nor_here r j ne) refl) m
 
@@ -201,16 +203,16 @@ after_other d what v (look.Old l k) (Ready e other w) not i = rw (i.0, i.1) refl
 after_other d what v (look.NotAwaited k) (Ready e other w) not i = rw (i.0, i.1) refl
 
 -- the row says Ready: the hand has the step at that version
-pub reads_ready : (s : Setting) (H : List Turn) (p : Parts) (r d : ℕ) (what : Arrival) (v : ℕ) (entry : Entry) → Holds d what (hand r H) → v ≡ commits d H → entry ≡ entry_of (row_of s d) (journal s d H) (input_of s d what) → IsWithin s.replicas r → ArePartsOf s H p → ArePartsOf s ((Read r, told.Ready v) ∷ H) (record p { hands = set p.hands (r - 1) (Made (record { 0 = d }) v entry) })
+pub reads_ready : (s : Setting) (H : List Turn) (p : Parts) (r d : ℕ) (what : Arrival) (v : ℕ) (entry : Entry) → Holds d what (hand r H) → v ≡ commits d H → entry ≡ entry_of (row_of s d) (journal s d H) (input_of s d what) → IsWithin s.replicas r → ArePartsOf s H p → ArePartsOf s ((Read r, told.Ready v) ∷ H) (record p { hands = set p.hands (r - 1) (hands.Ready (record { 0 = d }) v entry) })
 reads_ready s H p r d what v entry i now is within m =
-    with_hand s H p (Read r) (told.Ready v) r (Made (record { 0 = d }) v entry) refl within
+    with_hand s H p (Read r) (told.Ready v) r (hands.Ready (record { 0 = d }) v entry) refl within
     (rw (here r, after_ready d what v (hand r H) i, is, now) refl)
     (λ j ne. rw (nor_here r j ne) refl) m
 
 -- it says something else: the hand has what arrived
-pub reads_other : (s : Setting) (H : List Turn) (p : Parts) (r d : ℕ) (what : Arrival) (v : ℕ) (l : Look) (input : Input) → Holds d what (hand r H) → (l ≡ look.Ready → ⊥) → input ≡ input_of s d what → IsWithin s.replicas r → ArePartsOf s H p → ArePartsOf s ((Read r, look_answer v l) ∷ H) (record p { hands = set p.hands (r - 1) (Holding (record { 0 = d }) input) })
+pub reads_other : (s : Setting) (H : List Turn) (p : Parts) (r d : ℕ) (what : Arrival) (v : ℕ) (l : Look) (input : Input) → Holds d what (hand r H) → (l ≡ look.Ready → ⊥) → input ≡ input_of s d what → IsWithin s.replicas r → ArePartsOf s H p → ArePartsOf s ((Read r, look_answer v l) ∷ H) (record p { hands = set p.hands (r - 1) (hands.Taken (record { 0 = d }) input) })
 reads_other s H p r d what v l input i not is within m =
-    with_hand s H p (Read r) (look_answer v l) r (Holding (record { 0 = d }) input) refl within
+    with_hand s H p (Read r) (look_answer v l) r (hands.Taken (record { 0 = d }) input) refl within
     (rw (here r, after_other d what v l (hand r H) not i, is) refl)
     (λ j ne. rw (nor_here r j ne) refl) m
 
@@ -223,11 +225,6 @@ entry_held s d what v = entry_of (row_of s d) (entries_to s d v) (input_of s d w
 write_told : (s : Setting) (H : List Turn) (r d : ℕ) (what : Arrival) (v : ℕ) (b : Bool) → hand r H ≡ Ready d what v → r ≤ s.replicas → (commits d H == v) ≡ b → answer s H (Write r) ≡ cond b (told.Committed (v + 1)) (told.Stale v (commits d H))
 write_told s H r d what v b h low e = rw (le_true r s.replicas low, h, e) refl
 
--- the answer to a write, as the row gives it
-abbrev pub commit_answer : Commit → EventAnswer
-commit_answer (commit.Committed v) = told.Committed v
-commit_answer (commit.Stale read current) = told.Stale read current
-
 with_entry : (was : RowState) (entry : Entry) (J : List Entry) (numbers : LaneNumbers) → was ≡ record { journal = J; settled = numbers } → ◌≡◌ {A = RowState} (record was { journal = was.journal ++ entry ∷ [] }) (record { journal = J ++ entry ∷ []; settled = numbers })
 with_entry was entry J numbers e = rw e refl
 
@@ -238,7 +235,7 @@ committed_row s H d what v was row same next =
     with_entry was (entry_held s d what v) (entries_to s d v) (settled_numbers d H) at
     ∙ ap (λ (J : List Entry). let row : RowState = record { journal = J; settled = settled_numbers d H } in row) (grows ∙ ap (λ w. entries_to s d (suc w)) same)
 
-pub writes : (s : Setting) (H : List Turn) (p : Parts) (r d : ℕ) (what : Arrival) (v : ℕ) (c : Commit) (was now : RowState) → Lawful s H → hand r H ≡ Ready d what v → was ≡ get_or p.rows (d - 1) was → Commits was now v (entry_held s d what v) c → IsWithin s.replicas r → IsWithin (length s.rows) d → ArePartsOf s H p → (commit_answer c ≡ answer s H (Write r)) × ArePartsOf s ((Write r, commit_answer c) ∷ H) (record p { rows = set p.rows (d - 1) now; hands = set p.hands (r - 1) Empty })
+pub writes : (s : Setting) (H : List Turn) (p : Parts) (r d : ℕ) (what : Arrival) (v : ℕ) (c : Commit) (was now : RowState) → Lawful s H → hand r H ≡ Ready d what v → was ≡ get_or p.rows (d - 1) was → Commits was now v (entry_held s d what v) c → IsWithin s.replicas r → IsWithin (length s.rows) d → ArePartsOf s H p → (commit_answer c ≡ answer s H (Write r)) × ArePartsOf s ((Write r, commit_answer c) ∷ H) (record p { rows = set p.rows (d - 1) now; hands = set p.hands (r - 1) hands.Empty })
 writes s H p r d what v (commit.Committed w) was now L h at k lt ld m =
     let row : was ≡ row_after s H d = at ∙ m.rows.at d was ld in
     let same : v ≡ commits d H = k.0 ∙ ap (λ (x : RowState). length x.journal) row ∙ version_is s d H L in
@@ -255,7 +252,7 @@ writes s H p r d what v (commit.Committed w) was now L h at k lt ld m =
         rows = Each-set p.rows (length s.rows) (λ d row. row ≡ row_after s H d) (λ i row. row ≡ row_after s K i) d now m.rows ld
             (rw (h, here d) (k.2 ∙ committed_row s H d what v was row same next))
             (λ j x ne g. rw (h, not_here d j ne) g);
-        hands = hands-set s H K p.hands r Empty m.hands lt
+        hands = hands-set s H K p.hands r hands.Empty m.hands lt
             (rw (here r) refl)
             (λ j ne. rw (nor_here r j ne) refl);
       },
@@ -275,19 +272,19 @@ writes s H p r d what v (commit.Stale a b) was now L h at k lt ld m =
         rows = Each-set p.rows (length s.rows) (λ d row. row ≡ row_after s H d) (λ i row. row ≡ row_after s K i) d now m.rows ld
             (k.3 ∙ row)
             (λ j x ne g. g);
-        hands = hands-set s H K p.hands r Empty m.hands lt
+        hands = hands-set s H K p.hands r hands.Empty m.hands lt
             (rw (here r) refl)
             (λ j ne. rw (nor_here r j ne) refl);
       },
     )
 
-pub write_void : (s : Setting) (H : List Turn) (r : ℕ) (x : Held) → ((d : DeviceId) (v : ℕ) (entry : Entry) → hand_of s x ≡ Made d v entry → ⊥) → hand r H ≡ x → r ≤ s.replicas → told.VoidHand ≡ answer s H (Write r)
+pub write_void : (s : Setting) (H : List Turn) (r : ℕ) (x : Held) → ((d : DeviceId) (v : ℕ) (entry : Entry) → hand_of s x ≡ hands.Ready d v entry → ⊥) → hand r H ≡ x → r ≤ s.replicas → told.VoidHand ≡ answer s H (Write r)
 write_void s H r Nothing not e low = rw (le_true r s.replicas low, e) refl
 write_void s H r (Taken d what) not e low = rw (le_true r s.replicas low, e) refl
 write_void s H r (Ready d what v) not e low = absurd (not (record { 0 = d }) v _ refl)
 
 -- a hand that has a step holds this
-pub made_hand : (s : Setting) (x : Held) (d : DeviceId) (v : ℕ) (entry : Entry) → hand_of s x ≡ Made d v entry → (what : Arrival) × (x ≡ Ready d.0 what v) × (entry ≡ entry_held s d.0 what v)
+pub made_hand : (s : Setting) (x : Held) (d : DeviceId) (v : ℕ) (entry : Entry) → hand_of s x ≡ hands.Ready d v entry → (what : Arrival) × (x ≡ Ready d.0 what v) × (entry ≡ entry_held s d.0 what v)
 made_hand s Nothing d v entry h = absurd (cc)
 made_hand s (Taken f what) d v entry h = absurd (cc)
 made_hand s (Ready f what w) d v entry h =

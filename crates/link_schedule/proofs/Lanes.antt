@@ -28,7 +28,7 @@ use Rattle.link_schedule.proofs.Events.{window_same}
 use Rattle.link_schedule.proofs.Items.{Each-set, Each-keep}
 use Rattle.link_schedule.proofs.Laws.{accepted_bound, received_is}
 use Rattle.link_schedule.proofs.Runs.{Begins-length, effects_begin, to_alone}
-use Rattle.link_schedule.proofs.Tests.{here, not_here, le_true, le_false, lt_true, lane_here}
+use Rattle.link_schedule.proofs.Comparisons.{here, not_here, le_true, le_false, lt_true, lane_here}
 
 -- ---- an effect is put on its link
 

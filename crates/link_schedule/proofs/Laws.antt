@@ -25,7 +25,7 @@ use Rattle.link_schedule.specs.Input.{no_message, input_of, IsArrival, IsHand}
 use Rattle.link_schedule.specs.Lists.{Begins}
 use Rattle.link_schedule.specs.Setting.{Setting, row_of, messages_of, message_count, entries_to, entries_of}
 use Rattle.link_schedule.proofs.Runs.{Begins-refl, Begins-length, Begins-take, effects_begin, taken_begins, to_next, to_alone, to_push}
-use Rattle.link_schedule.proofs.Tests.{or_true, or_right, and_true, max_if, le_if, max_of, same_number, all_of, all_on, same_on, same_lane_true, sent_if, pushed_if, taken_if, acked_if, settled_if, committed_if, accepted_if, effect_cases, in_window, in_outbox, next_number, ready_message, ready_answer, le_of}
+use Rattle.link_schedule.proofs.Comparisons.{or_true, or_right, and_true, max_if, le_if, max_of, same_number, all_of, all_on, same_on, same_lane_true, sent_if, pushed_if, taken_if, acked_if, settled_if, committed_if, accepted_if, effect_cases, in_window, in_outbox, next_number, ready_message, ready_answer, le_of}
 
 -- ---- a journal only grows
 

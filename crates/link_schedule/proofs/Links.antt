@@ -19,12 +19,12 @@ use Rattle.link_schedule.specs.Counts.{Turn, accepted, settled, message_sent, re
 use Rattle.link_schedule.specs.Input.{no_message, message_of}
 use Rattle.link_schedule.specs.Lists.{Begins, has}
 use Rattle.link_schedule.specs.Setting.{Setting, row_of, messages_of, entries_of}
-use Rattle.link_schedule.specs.World.{marks_on, Parts, settled_numbers, row_after, accepted_effects, IsWindowOf, ArePartsOf, if_so, message_packet, reply_packet, effect_packet, answer_packet, row_in, window_in, sent_in, pushed_in, accepted_in, message_found, reply_found, effect_found, answer_found, AreLinksOf}
+use Rattle.link_schedule.specs.World.{marks_on, Parts, settled_numbers, row_after, accepted_effects, IsWindowOf, ArePartsOf, if_so, message_packet, reply_packet, effect_packet, answer_packet, row_in, window_in, sent_in, pushed_in, accepted_in, message_found, reply_found, effect_at, effect_found, answer_found, AreLinksOf}
 use Rattle.link_schedule.proofs.Lanes.{accepted_length, settled_is}
 use Rattle.link_schedule.proofs.Laws.{sent_bound, pushed_bound, received_is, reply_is, settled_bound}
 use Rattle.link_schedule.proofs.Promises.{reply_alone}
 use Rattle.link_schedule.proofs.Runs.{effects_begin, to_alone}
-use Rattle.link_schedule.proofs.Tests.{le_true, le_false, lt_true, le_of}
+use Rattle.link_schedule.proofs.Comparisons.{le_true, le_false, lt_true, le_of}
 
 -- ---- lists
 
@@ -83,34 +83,37 @@ replies_found s H p d n L m within low =
 pushed_is : (s : Setting) (H : List Turn) (p : Parts) (d : ℕ) (l : Lane) (k : ℕ) → ArePartsOf s H p → IsWithin (length s.rows) d → 1 ≤ k → has k (marks_on (pushed_in p d) l) ≡ effect_pushed d l k H
 pushed_is s H p d l k m within low = m.pushed.at d (record { down = []; gateway = []; subscriber = [] }) within l k low
 
--- an effect that was accepted is with its receiver, one that was not is not settled
-effect_content : (s : Setting) (H : List Turn) (d : ℕ) (l : Lane) (k : ℕ) → Lawful s H → 1 ≤ k → k ≤ pushed_count l (journal s d H) → cond (nat_le k (length (accepted_effects s l H d))) (slice_get (accepted_effects s l H d) (k - 1)) (unsettled_at (effects_of l (journal s d H)) (number_on (settled_numbers d H) l) k) ≡ slice_get (effects_of l (entries_of s d)) (k - 1)
-effect_content s H d l k L low made =
+-- one that was not accepted is not settled
+pub in_row : (s : Setting) (H : List Turn) (d : ℕ) (l : Lane) (k : ℕ) → Lawful s H → k ≤ pushed_count l (journal s d H) → accepted d l H < k → unsettled_at (effects_of l (journal s d H)) (number_on (settled_numbers d H) l) k ≡ slice_get (effects_of l (entries_of s d)) (k - 1)
+in_row s H d l k L made more =
     let A = effects_of l (entries_of s d) in
     let J = effects_of l (journal s d H) in
-    let long = accepted_length s H d l L in
     let begins = effects_begin l (journal s d H) (entries_of s d) (to_alone (row_of s d) (messages_of s d) (commits d H)) in
-    ⊎_elim
-    (λ (more : accepted d l H < k).
     let after = settled_bound s d l H L in
-    ap (λ b. cond b (slice_get (accepted_effects s l H d) (k - 1)) (unsettled_at J (number_on (settled_numbers d H) l) k)) (le_false k (length (accepted_effects s l H d)) (omega arith))
-    ∙ ap (λ n. unsettled_at J n k) (settled_is d l H)
+    ap (λ n. unsettled_at J n k) (settled_is d l H)
     ∙ ap (λ b. cond b (slice_get J (k - 1)) None) (lt_true (settled d l H) k (omega arith))
-    ∙ get_begun J A (k - 1) begins (omega arith))
-    (λ (less : k ≤ accepted d l H).
-    ap (λ b. cond b (slice_get (accepted_effects s l H d) (k - 1)) (unsettled_at J (number_on (settled_numbers d H) l) k)) (le_true k (length (accepted_effects s l H d)) (omega arith))
-    ∙ get_taken A (accepted d l H) (k - 1) (omega arith))
-    (cases_lt (accepted d l H) k)
+    ∙ get_begun J A (k - 1) begins (omega arith)
 
-abbrev content_of : RowState → List Effect → Lane → ℕ → Option Effect
-content_of row accepts l k = cond (nat_le k (length accepts)) (slice_get accepts (k - 1)) (unsettled_at (effects_of l row.journal) (number_on row.settled l) k)
+-- one that was accepted is with its receiver
+pub with_receiver : (s : Setting) (H : List Turn) (d : ℕ) (l : Lane) (k : ℕ) → 1 ≤ k → k ≤ accepted d l H → slice_get (accepted_effects s l H d) (k - 1) ≡ slice_get (effects_of l (entries_of s d)) (k - 1)
+with_receiver s H d l k low less = get_taken (effects_of l (entries_of s d)) (accepted d l H) (k - 1) (omega arith)
+
+pub effect_content : (s : Setting) (H : List Turn) (d : ℕ) (l : Lane) (k : ℕ) → Lawful s H → 1 ≤ k → k ≤ pushed_count l (journal s d H) → cond (nat_le k (length (accepted_effects s l H d))) (slice_get (accepted_effects s l H d) (k - 1)) (unsettled_at (effects_of l (journal s d H)) (number_on (settled_numbers d H) l) k) ≡ slice_get (effects_of l (entries_of s d)) (k - 1)
+effect_content s H d l k L low made =
+    let there = slice_get (accepted_effects s l H d) (k - 1) in
+    let left = unsettled_at (effects_of l (journal s d H)) (number_on (settled_numbers d H) l) k in
+    let long = accepted_length s H d l L in
+    ⊎_elim
+    (λ (more : accepted d l H < k). ap (λ b. cond b there left) (le_false k (length (accepted_effects s l H d)) (omega arith)) ∙ in_row s H d l k L made more)
+    (λ (less : k ≤ accepted d l H). ap (λ b. cond b there left) (le_true k (length (accepted_effects s l H d)) (omega arith)) ∙ with_receiver s H d l k low less)
+    (cases_lt (accepted d l H) k)
 
 effects_found : (s : Setting) (H : List Turn) (p : Parts) (d : ℕ) (l : Lane) (k : ℕ) → Lawful s H → ArePartsOf s H p → IsWithin (length s.rows) d → 1 ≤ k → effect_found p d l k ≡ effect_packet s H d l k
 effects_found s H p d l k L m within low =
-    ap (λ b. if_so b (content_of (row_in p d) (accepted_in p l d) l k)) (pushed_is s H p d l k m within low)
-    ∙ ap (λ (row : RowState). if_so (effect_pushed d l k H) (content_of row (accepted_in p l d) l k)) (row_is s H p d within m)
-    ∙ ap (λ (accepts : List Effect). if_so (effect_pushed d l k H) (content_of (row_after s H d) accepts l k)) (accepted_is s H p l d within m)
-    ∙ so_both (effect_pushed d l k H) (content_of (row_after s H d) (accepted_effects s l H d) l k) (slice_get (effects_of l (entries_of s d)) (k - 1))
+    ap (λ b. if_so b (effect_at (row_in p d) (accepted_in p l d) l k)) (pushed_is s H p d l k m within low)
+    ∙ ap (λ (row : RowState). if_so (effect_pushed d l k H) (effect_at row (accepted_in p l d) l k)) (row_is s H p d within m)
+    ∙ ap (λ (accepts : List Effect). if_so (effect_pushed d l k H) (effect_at (row_after s H d) accepts l k)) (accepted_is s H p l d within m)
+    ∙ so_both (effect_pushed d l k H) (effect_at (row_after s H d) (accepted_effects s l H d) l k) (slice_get (effects_of l (entries_of s d)) (k - 1))
     (λ on. effect_content s H d l k L low (pushed_bound s d l k H L on).2)
 
 -- ---- answers

@@ -30,7 +30,7 @@ use Rattle.link_schedule.specs.Promise.{is_void, HasSameCounts, IsAsBefore, Hold
 use Rattle.link_schedule.specs.Setting.{Setting, row_of, messages_of, entries_to, entries_of}
 use Rattle.link_schedule.proofs.Laws.{answer_made, sent_bound, pushed_bound, version_is, accepted_bound, received_is, reply_is, hand_ok, taken_bound, read_nothing, read_again}
 use Rattle.link_schedule.proofs.Runs.{Begins-length, Begins-take, effects_begin, to_alone, to_push}
-use Rattle.link_schedule.proofs.Tests.{max_if, or_right, lt_false, and_true, same_number, le_true, le_false, here, not_here, le_of, gt_of}
+use Rattle.link_schedule.proofs.Comparisons.{max_if, or_right, lt_false, and_true, same_number, le_true, le_false, here, not_here, le_of, gt_of}
 
 -- ---- events make a lawful history
 

@@ -33,7 +33,7 @@ use Rattle.link_schedule.specs.Setting.{Setting, row_of, messages_of, message_co
 use Rattle.link_schedule.proofs.Events.{reply_new}
 use Rattle.link_schedule.proofs.Laws.{acked_bound, settled_bound, received_is, commits_more}
 use Rattle.link_schedule.proofs.Promises.{accepted_more}
-use Rattle.link_schedule.proofs.Tests.{here, lane_here, le_true, le_false, lt_true, lt_false}
+use Rattle.link_schedule.proofs.Comparisons.{here, lane_here, le_true, le_false, lt_true, lt_false}
 
 -- ---- a message is sent, taken, read and written
 

@@ -5,7 +5,6 @@ use Rattle.std.proofs.lemmas.List.{get_or-map, length-map}
 use Rattle.std.proofs.lemmas.List.Elements.{All-get_or}
 use Rattle.std.proofs.lemmas.List.FromFn.{get_or-range_with_len}
 use Rattle.std.proofs.lemmas.Option.{slice_get-get_or}
-use Rattle.agent_resend.specs.Window.{WindowState}
 use Rattle.device_types.specs.declared.event.Event.{Event}
 use Rattle.device_types.specs.declared.event.EventAnswer.{EventAnswer}
 use Rattle.device_types.specs.declared.event.Lane.{Lane}
@@ -17,17 +16,20 @@ use Rattle.device_types.specs.declared.subscriber.DeviceId.{DeviceId}
 use Rattle.device_types.specs.Journal.{version_of}
 use Rattle.device_types.specs.Line.{number_of, IsNumbered, IsLine}
 use Rattle.device_types.specs.Numbers.{IsWithin}
+use Rattle.replica_worker.specs.declared.hand.Hand.{Hand}
+use Rattle.replica_worker.specs.declared.hand.Hand.TheVariants as hands
 use Rattle.session_row.specs.Row.{look_at as row_look}
+use Rattle.session_store.specs.Charter.{CharterState, IsCharter}
+use Rattle.session_store.specs.Rows.{opening_row}
 use Rattle.link_schedule.specs.Answer.{look_at, answer, turn, history, IsEvent, Lawful}
 use Rattle.link_schedule.specs.Counts.{Turn, Arrival, Held, hand, journal}
 use Rattle.link_schedule.specs.Counts.Arrival.{TheMessage, TheAnswer}
 use Rattle.link_schedule.specs.Counts.Held.{Nothing, Taken, Ready}
 use Rattle.link_schedule.specs.Input.{message_of, no_message, input_of, IsArrival, IsHand}
 use Rattle.link_schedule.specs.Lists.{has}
-use Rattle.link_schedule.specs.Promise.{Holds}
+use Rattle.link_schedule.specs.Promise.{setting, Holds}
 use Rattle.link_schedule.specs.Setting.{Setting, messages_of, entries_of, window, no_row, row_of}
-use Rattle.link_schedule.specs.World.{Hand, Parts, WorldState, IsSetting, row_after, hand_of, IsWindowOf, AreGatewayCalls, AreSubscriberCalls, AreSent, ArePushed, marks_on, ArePartsOf, AreLinksOf, IsWorld, Answers}
-use Rattle.link_schedule.specs.World.Hand.{Empty, Holding, Made}
+use Rattle.link_schedule.specs.World.{Parts, WorldState, fresh_window, IsSetting, row_after, hand_of, IsWindowOf, AreGatewayCalls, AreSubscriberCalls, AreSent, ArePushed, marks_on, ArePartsOf, AreLinksOf, IsWorld, Answers}
 use Rattle.link_schedule.proofs.Events.{history_more, entry_held}
 use Rattle.link_schedule.proofs.Items.{Each-same}
 use Rattle.link_schedule.proofs.Laws.{version_is, hand_ok, arrival_device, sent_bound}
@@ -36,14 +38,11 @@ use Rattle.link_schedule.proofs.Promises.{arrival_of, step_is_next}
 
 -- ---- the beginning
 
-abbrev pub fresh_window : List Message → WindowState
-fresh_window messages = record { line = record { messages = messages; acked = 0 }; sent = 0; downs = [] }
-
 -- the parts before any event
 abbrev pub fresh_parts : Setting → Parts
 fresh_parts s = record {
   rows = replicate (length s.rows) (record { journal = []; settled = record { down = 0; gateway = 0; subscriber = 0 } });
-  hands = replicate s.replicas Empty;
+  hands = replicate s.replicas hands.Empty;
   windows = map fresh_window s.book;
   gateway = replicate (length s.rows) [];
   subscriber = replicate (length s.rows) [];
@@ -63,7 +62,7 @@ pub starts : (s : Setting) → length s.book ≡ length s.rows → ArePartsOf s 
 starts s each =
     record {
       rows = Each-same (length s.rows) _ (λ d row. row ≡ row_after s [] d) (λ d. refl);
-      hands = Each-same s.replicas Empty (λ r held. held ≡ hand_of s (hand r [])) (λ r. refl);
+      hands = Each-same s.replicas hands.Empty (λ r held. held ≡ hand_of s (hand r [])) (λ r. refl);
       windows = record {
         long = length-map s.book fresh_window ∙ each;
         at = λ d w within. rw (get_or-map fresh_window s.book (d - 1) [] w (omega (arith, each, within.0, within.1))) (fresh_is s d);
@@ -97,9 +96,9 @@ answered w e a p told = record { same = refl; more = refl; answered = told }
 
 -- of a hand with this input, what arrived
 abbrev pub IsWith : DeviceId → Input → Hand → Type 0
-IsWith d input Empty = ⊥
-IsWith d input (Holding e other) = (e ≡ d) × (other ≡ input)
-IsWith d input (Made e v entry) = (e ≡ d) × (entry.input ≡ input)
+IsWith d input hands.Empty = ⊥
+IsWith d input (hands.Taken e other) = (e ≡ d) × (other ≡ input)
+IsWith d input (hands.Ready e v entry) = (e ≡ d) × (entry.input ≡ input)
 
 pub with_input : (s : Setting) (x : Held) (d : DeviceId) (input : Input) → IsWith d input (hand_of s x) → (what : Arrival) × Holds d.0 what x × (input ≡ input_of s d.0 what)
 with_input s Nothing d input i = absurd (i)
@@ -120,10 +119,10 @@ made_follows s H r d v what L h =
 
 -- ---- numbers of messages
 
-line_of : (s : Setting) (d : ℕ) → IsSetting s → IsWithin (length s.rows) d → IsLine (messages_of s d)
+pub line_of : (s : Setting) (d : ℕ) → IsSetting s → IsWithin (length s.rows) d → IsLine (messages_of s d)
 line_of s d is within = All-get_or IsLine s.book (d - 1) [] (omega (arith, is.each, within.0, within.1)) is.lines
 
-number_in : (messages : List Message) (n : ℕ) → IsNumbered messages → 1 ≤ n → n ≤ length messages → number_of (get_or messages (n - 1) no_message) ≡ n
+pub number_in : (messages : List Message) (n : ℕ) → IsNumbered messages → 1 ≤ n → n ≤ length messages → number_of (get_or messages (n - 1) no_message) ≡ n
 number_in messages n numbers low high =
     let count = length messages in
     sym (get_or-map number_of messages (n - 1) no_message 0 (omega arith))
@@ -156,3 +155,16 @@ message_own s H d n is L i =
     let high = b.2 in
     ap (λ k. slice_get (messages_of s d) (k - 1)) (number_in (messages_of s d) n line.numbers b.1 b.2)
     ∙ slice_get-get_or (messages_of s d) (n - 1) no_message (omega arith)
+
+-- ---- the beginning, as a world is made
+
+pub charter_setting : (charter : CharterState) (replicas : ℕ) → IsCharter charter → IsWithin 16 replicas → IsSetting (setting charter.rows charter.lines replicas)
+charter_setting charter replicas is within = record { rows = is.table.ranges; lines = is.lines; short = is.short; each = is.each; replicas = within }
+
+-- each part is as it is before any event
+pub opens : (s : Setting) (devices : ℕ) (p : Parts) → IsSetting s → devices ≡ length s.rows
+    → p.rows ≡ replicate devices opening_row → p.hands ≡ replicate s.replicas hands.Empty → p.windows ≡ map fresh_window s.book → p.gateway ≡ replicate devices [] → p.subscriber ≡ replicate devices [] → p.sent ≡ replicate devices [] → p.pushed ≡ replicate devices (record { down = []; gateway = []; subscriber = [] })
+    → IsWorld (record { setting = s; events = []; parts = p })
+opens s devices p is count rows held windows gateway subscriber sent pushed =
+    let same : p ≡ fresh_parts s = rw (rows, held, windows, gateway, subscriber, sent, pushed, count) refl in
+    subst (λ (q : Parts). IsWorld (record { setting = s; events = []; parts = q })) (sym same) (world_starts s is)

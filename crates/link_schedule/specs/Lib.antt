@@ -4,4 +4,6 @@ pub mod Input
 pub mod Lists
 pub mod Promise
 pub mod Setting
+pub mod Told
+pub mod View
 pub mod World

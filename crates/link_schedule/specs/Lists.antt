@@ -16,5 +16,5 @@ abbrev pub has : ℕ → List Bool → Bool
 has n marks = slice_index_or marks (n - 1) false
 
 -- the new list marks this number too
-abbrev pub Marks : List Bool → List Bool → ℕ → Type 0
-Marks old new n = (m : ℕ) → 1 ≤ m → has m new ≡ ((m == n) || has m old)
+abbrev pub AddsMark : List Bool → List Bool → ℕ → Type 0
+AddsMark old new n = (m : ℕ) → 1 ≤ m → has m new ≡ ((m == n) || has m old)

@@ -1,5 +1,5 @@
 -- A world, and what its parts are after its events.
-use Rattle.std.specs.Prelude.{◌≡◌, ◌==◌, ◌&&◌, ◌||◌, ℕ, ◌-◌, ◌≤◌, Bool, List, [], ◌∷◌, ◌++◌, length, map, take, All, Option, Some, None, if◌then◌else◌, nat_le, slice_get, slice_index_or}
+use Rattle.std.specs.Prelude.{◌≡◌, ◌==◌, ◌&&◌, ◌||◌, ℕ, ◌-◌, ◌≤◌, Bool, List, [], ◌∷◌, ◌++◌, length, map, take, All, Option, Some, None, if◌then◌else◌, nat_le, slice_get, slice_index_or, true, IsSomeAnd}
 use Rattle.agent_order.specs.Order.{message_at}
 use Rattle.agent_resend.specs.Window.{WindowState}
 use Rattle.device_types.specs.declared.effect.Effect.{Effect}
@@ -11,19 +11,19 @@ use Rattle.device_types.specs.declared.event.EventAnswer.{EventAnswer}
 use Rattle.device_types.specs.declared.event.Lane.{Lane}
 use Rattle.device_types.specs.declared.event.Lane.TheVariants.{Down, Gateway, Subscriber}
 use Rattle.device_types.specs.declared.input.Answer.{Answer}
-use Rattle.device_types.specs.declared.input.Input.{Input}
 use Rattle.device_types.specs.declared.message.Message.{Message}
-use Rattle.device_types.specs.declared.step.Entry.{Entry}
 use Rattle.device_types.specs.declared.step.Reply.{Reply}
-use Rattle.device_types.specs.declared.subscriber.DeviceId.{DeviceId}
+use Rattle.device_types.specs.declared.subscriber.Subscriber.{Subscriber as SubscriberRow}
 use Rattle.device_types.specs.Alone.{entry_of}
-use Rattle.device_types.specs.Journal.{effects_of, taken_count, reply_of}
+use Rattle.device_types.specs.Journal.{is_on, effects_of, taken_count, reply_of}
 use Rattle.device_types.specs.Line.{IsLine}
 use Rattle.device_types.specs.Look.{same_lane}
 use Rattle.device_types.specs.Numbers.{IsWithin}
 use Rattle.device_types.specs.PeerAnswer.{answer_of}
 use Rattle.device_types.specs.Subscriber.{IsSubscriber}
 use Rattle.effect_outbox.specs.Outbox.{LaneNumbers, number_on, unsettled_at}
+use Rattle.replica_worker.specs.declared.hand.Hand.{Hand}
+use Rattle.replica_worker.specs.declared.hand.Hand.TheVariants as hands
 use Rattle.session_row.specs.Row.{RowState}
 use Rattle.link_schedule.specs.Answer.{answer, history, Lawful}
 use Rattle.link_schedule.specs.Counts.{Turn, Held, hand, acked, accepted, settled, greatest_sent, message_sent, reply_sent, effect_pushed, effect_received, journal}
@@ -33,12 +33,6 @@ use Rattle.link_schedule.specs.Lists.{Each, has}
 use Rattle.link_schedule.specs.Setting.{Setting, row_of, messages_of, entries_to, entries_of}
 
 -- ---- what a world is made of
-
--- the hand of a replica: with the input that arrived for device d, or the entry that was made of it at a version
-pub data Hand : Type 0 where
-  Empty : Hand
-  Holding : (d : DeviceId) (input : Input) → Hand
-  Made : (d : DeviceId) (version : ℕ) (entry : Entry) → Hand
 
 -- a mark for each effect, by its lane
 pub record LaneMarks : Type 0 where
@@ -95,9 +89,9 @@ row_after s turns d = record { journal = journal s d turns; settled = settled_nu
 
 -- the hand of a replica that holds this: what arrived with its content, and the step of the machine that never fails
 abbrev pub hand_of : Setting → Held → Hand
-hand_of s Nothing = Empty
-hand_of s (Taken d what) = Holding (record { 0 = d }) (input_of s d what)
-hand_of s (Ready d what v) = Made (record { 0 = d }) v (entry_of (row_of s d) (entries_to s d v) (input_of s d what))
+hand_of s Nothing = hands.Empty
+hand_of s (Taken d what) = hands.Taken (record { 0 = d }) (input_of s d what)
+hand_of s (Ready d what v) = hands.Ready (record { 0 = d }) v (entry_of (row_of s d) (entries_to s d v) (input_of s d what))
 
 -- what the receiver of a lane of device d has accepted: the first effects of that lane of the machine that never fails
 abbrev pub accepted_effects : Setting → Lane → List Turn → ℕ → List Effect
@@ -108,6 +102,10 @@ pub record IsWindow (messages : List Message) (last highest : ℕ) (accepts : Li
   pub line : window.line ≡ record { messages = messages; acked = last }
   pub greatest : window.sent ≡ highest
   pub downs : map effects.Down window.downs ≡ accepts
+
+-- the window over these messages before any event
+abbrev pub fresh_window : List Message → WindowState
+fresh_window messages = record { line = record { messages = messages; acked = 0 }; sent = 0; downs = [] }
 
 -- the window of device d
 abbrev pub IsWindowOf : Setting → List Turn → ℕ → WindowState → Type 0
@@ -169,6 +167,12 @@ sent_in p d = slice_index_or p.sent (d - 1) []
 abbrev pub pushed_in : Parts → ℕ → LaneMarks
 pushed_in p d = slice_index_or p.pushed (d - 1) (record { down = []; gateway = []; subscriber = [] })
 
+-- the calls of device d that the peer of a lane has accepted
+abbrev pub accepted_calls : List (List GwCall) → List (List SubCall) → Lane → ℕ → List Effect
+accepted_calls gateway subscriber Down d = []
+accepted_calls gateway subscriber Gateway d = map effects.Gateway (slice_index_or gateway (d - 1) [])
+accepted_calls gateway subscriber Subscriber d = map effects.Subscriber (slice_index_or subscriber (d - 1) [])
+
 -- what the receiver of a lane of device d has accepted
 abbrev pub accepted_in : Parts → Lane → ℕ → List Effect
 accepted_in p Down d = map effects.Down (window_in p d).downs
@@ -182,16 +186,26 @@ message_found p d n = if_so (has n (sent_in p d)) (message_at (window_in p d).li
 abbrev pub reply_found : Parts → ℕ → ℕ → Option Reply
 reply_found p d n = if_so (nat_le n (taken_count (row_in p d).journal)) (reply_of (row_in p d).journal n)
 
--- an effect that was accepted is with its receiver, and one that was not is in the row
+-- effect k of a lane: with its receiver where that has accepted it, else in the row
+abbrev pub effect_at : RowState → List Effect → Lane → ℕ → Option Effect
+effect_at row accepts l k =
+    if nat_le k (length accepts)
+    then slice_get accepts (k - 1)
+    else unsettled_at (effects_of l row.journal) (number_on row.settled l) k
+
+-- there is one, of the kind of its lane
+abbrev pub IsOnLane : Lane → Option Effect → Type 0
+IsOnLane l effect = IsSomeAnd effect (λ x. is_on l x ≡ true)
+
 abbrev pub effect_found : Parts → ℕ → Lane → ℕ → Option Effect
-effect_found p d l k =
-    if_so (has k (marks_on (pushed_in p d) l))
-    (if nat_le k (length (accepted_in p l d))
-    then slice_get (accepted_in p l d) (k - 1)
-    else unsettled_at (effects_of l (row_in p d).journal) (number_on (row_in p d).settled l) k)
+effect_found p d l k = if_so (has k (marks_on (pushed_in p d) l)) (effect_at (row_in p d) (accepted_in p l d) l k)
+
+-- the answer that a peer which has accepted these calls has given to call k
+abbrev pub answer_given : SubscriberRow → List Effect → ℕ → Option Answer
+answer_given row calls k = if_so (nat_le k (length calls)) (Some (answer_of row (take k calls)))
 
 abbrev pub answer_found : Setting → Parts → ℕ → Lane → ℕ → Option Answer
-answer_found s p d l k = if_so (nat_le k (length (accepted_in p l d))) (Some (answer_of (row_of s d) (take k (accepted_in p l d))))
+answer_found s p d l k = answer_given (row_of s d) (accepted_in p l d) k
 
 -- each packet is found with its content
 pub record AreLinksOf (s : Setting) (turns : List Turn) (p : Parts) : Type 0 where

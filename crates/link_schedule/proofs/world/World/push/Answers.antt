@@ -1,0 +1,37 @@
+use Rattle.std.proofs.Common.{sym, subst, refl}
+use Rattle.device_types.specs.declared.event.Event.TheVariants.{Push}
+use Rattle.device_types.specs.declared.event.EventAnswer.TheVariants as told
+use Rattle.session_store.specs.Rows.{opening_row}
+use Rattle.link_schedule.specs.Answer.{IsEvent, history}
+use Rattle.link_schedule.specs.View.{view_of}
+use Rattle.link_schedule.specs.World.{WorldState}
+use Rattle.link_schedule.proofs.Calls.{in_row_told, in_row_void}
+use Rattle.link_schedule.proofs.Lanes.{pushes}
+use Rattle.link_schedule.proofs.Noted.{notes, notes_void}
+use Rattle.link_schedule.proofs.world.World.push.Goals as goal
+
+pub invariant_of-self-then-not-branch : goal.invariant_of-self-then-not-branch
+invariant_of-self-then-not-branch c =
+    let w = view_of c.self.inside in
+    let H = history w.setting w.events in
+    let is = c.self.invariant.world in
+    let e = Push c.args.d c.args.lane c.args.k in
+    let i = subst (λ (x : WorldState). IsEvent x.setting e) (sym c.self.view_is) c.requires in
+    let row = is.parts.rows.at c.args.d.0 opening_row i.0 in
+    let void = in_row_void w.setting H c.args.d c.args.lane c.args.k _ row (λ there. let t = c.in_ok-is_in_row.ensures.1 there in cc) in
+    record { charter = c.self.invariant.charter; world = notes_void w e told.VoidOutbox c.noted.new.events.items (rw c.in_ok-reserve.ensures.items at c.noted.ensures.events) is i void refl }
+
+pub invariant_of-self-2 : goal.invariant_of-self-2
+invariant_of-self-2 c =
+    let w = view_of c.self.inside in
+    let H = history w.setting w.events in
+    let is = c.self.invariant.world in
+    let e = Push c.args.d c.args.lane c.args.k in
+    let i = subst (λ (x : WorldState). IsEvent x.setting e) (sym c.self.view_is) c.requires in
+    let row = is.parts.rows.at c.args.d.0 opening_row i.0 in
+    let pushed = in_row_told w.setting H c.args.d c.args.lane c.args.k _ row (c.in_ok-is_in_row.ensures.0 c.if-not-branch.false) in
+    record {
+      charter = c.self.invariant.charter;
+      world = notes w e told.Pushed _ c.noted-2.new.events.items (rw c.in_ok-reserve.ensures.items at c.noted-2.ensures.events) is i pushed
+          (pushes w.setting H w.parts c.args.d c.args.lane c.args.k c.index_mut.result.now c.mark.new.self c.index_mut.ensures.value c.in_ok-mark.ensures.ok i.0 is.parts);
+    }

@@ -1,0 +1,58 @@
+use Rattle.std.proofs.Common.{◌≡◌, ◌-◌, List, [], ◌∷◌, ◌++◌, set, refl, sym, ap, ◌∙◌, subst}
+use Rattle.device_types.specs.declared.event.Event.TheVariants.{Write}
+use Rattle.device_types.specs.declared.event.EventAnswer.TheVariants as told
+use Rattle.replica_worker.specs.declared.hand.Hand.{Hand}
+use Rattle.link_schedule.specs.Answer.{history}
+use Rattle.link_schedule.specs.Counts.{hand}
+use Rattle.link_schedule.specs.Told.{commit_answer}
+use Rattle.link_schedule.specs.View.{view_of}
+use Rattle.link_schedule.specs.World.{hand_of, ArePartsOf}
+use Rattle.link_schedule.proofs.Events.{write_void}
+use Rattle.link_schedule.proofs.Noted.{notes, notes_void, gives}
+use Rattle.link_schedule.proofs.Replicas.{may_write, writes_held}
+use Rattle.link_schedule.proofs.world.World.write.Goals as goal
+
+pub invariant_of-self-in_default : goal.invariant_of-self-in_default
+invariant_of-self-in_default c =
+    let w = view_of c.self.inside in
+    let H = history w.setting w.events in
+    let is = c.self.invariant.world in
+    let e = Write c.args.r in
+    let is_hand : c.hand.result.now ≡ hand_of w.setting (hand c.args.r H) = c.hand.ensures ∙ c.index.ensures ∙ is.parts.hands.at c.args.r c.index.result.now (c.requires.0, c.if-r-self.false) in
+    let n = c.in_default.not-Ready in
+    let void = write_void w.setting H c.args.r (hand c.args.r H) (λ d v entry h. n d v entry (is_hand ∙ h)) refl c.if-r-self.false in
+    record {
+      charter = c.self.invariant.charter;
+      world = notes_void w e told.VoidHand _ (rw c.in_ok-reserve.ensures.items at c.noted-in_default.ensures.events) is c.requires void refl;
+    }
+
+pub written-requires-clause-may : goal.written-requires-clause-may
+written-requires-clause-may c =
+    let w = view_of c.self.inside in
+    let is = c.self.invariant.world in
+    may_write w.setting (history w.setting w.events) w.parts c.args.r c.index_mut.result.now c.self.inside.store.charter is.setting is.lawful c.index_mut.ensures.value c.self.invariant.charter (c.requires.0, c.if-r-self.false) is.parts
+
+pub invariant_of-self-2 : goal.invariant_of-self-2
+invariant_of-self-2 c =
+    let w = view_of c.self.inside in
+    let H = history w.setting w.events in
+    let is = c.self.invariant.world in
+    let e = Write c.args.r in
+    let commit = c.in_ok-commit.commit in
+    let new = c.written.new.store in
+    let both = writes_held w.setting H w.parts c.args.r c.index_mut.result.now c.self.inside.store.charter new commit is.lawful c.index_mut.ensures.value c.in_ok-commit.ensures.store (c.requires.0, c.if-r-self.false) is.parts in
+    record {
+      charter = c.written.ensures.charter ∙ c.self.invariant.charter;
+      world = notes w e (commit_answer commit) _ _ (rw c.in_ok-reserve.ensures.items at c.noted-2.ensures.events) is c.requires both.0
+          (subst (λ (h : Hand). ArePartsOf w.setting ((e, commit_answer commit) ∷ H) (record w.parts { rows = new.rows; hands = set w.parts.hands (c.args.r - 1) h })) (sym c.in_ok-commit.ensures.empty) both.1);
+    }
+
+pub returns-clause-ok : goal.returns-clause-ok
+returns-clause-ok c =
+    let w = view_of c.self.inside in
+    let H = history w.setting w.events in
+    let is = c.self.invariant.world in
+    let e = Write c.args.r in
+    let new = c.written.new.store in
+    let both = writes_held w.setting H w.parts c.args.r c.index_mut.result.now c.self.inside.store.charter new c.in_ok-commit.commit is.lawful c.index_mut.ensures.value c.in_ok-commit.ensures.store (c.requires.0, c.if-r-self.false) is.parts in
+    gives c.args.self.now w e c.noted-2.result _ _ c.self.view_is (rw c.in_ok-reserve.ensures.items at c.noted-2.ensures.events) (c.noted-2.ensures.answer ∙ c.commit_answer.ensures ∙ both.0)

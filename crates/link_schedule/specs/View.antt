@@ -1,0 +1,27 @@
+-- The parts of a world, and what holds of them.
+use Rattle.std.specs.Prelude.{◌≡◌}
+use Rattle.std.specs.Arc.{arc_value}
+use Rattle.link_schedule.specs.declared.world.World.TheInside.{Inside}
+use Rattle.link_schedule.specs.Promise.{setting}
+use Rattle.link_schedule.specs.World.{WorldState, IsWorld}
+
+-- the rows and the lines are those of the charter
+abbrev pub view_of : Inside → WorldState
+view_of w = record {
+  setting = setting (arc_value w.law.charter).rows (arc_value w.law.charter).lines w.count;
+  events = w.taken.items;
+  parts = record {
+    rows = w.store.rows;
+    hands = w.replicas.items;
+    windows = w.agents.items;
+    gateway = w.gateway;
+    subscriber = w.server;
+    sent = w.sent.items;
+    pushed = w.pushed.items;
+  };
+}
+
+-- the store is under the same charter
+pub record IsInside (w : Inside) : Type 0 where
+  pub charter : w.store.charter ≡ arc_value w.law.charter
+  pub world : IsWorld (view_of w)

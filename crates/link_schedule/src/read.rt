@@ -1,0 +1,86 @@
+//! A replica reads the row of what it has taken.
+ghost use Rattle.std.specs.Prelude.{◌≡◌, length, IfOk, OnOk, OnErr, IsSomeAnd};
+ghost use Rattle.replica_worker.specs.Hands.{held_in, CanBeRead, hand_after};
+ghost use Rattle.session_store.specs.Rows.{journal_of};
+ghost use Rattle.link_schedule.specs.Answer.{look_answer, IsEvent};
+ghost use Rattle.link_schedule.specs.Told.{version_in, device_held, seen_answer};
+ghost use Rattle.link_schedule.specs.World.{Answers};
+
+use crate::world::{World, noted, row_at};
+use device_types::{DeviceId, Event, EventAnswer, Look, Subscriber};
+use replica_worker::{Hand, Replica};
+use session_store::{EchoLaw, Store};
+use std::alloc::AllocError;
+
+/// The version that was read, of a hand with a step.
+fn version_in(hand: &Hand) -> u64
+    ensures { result ≡ version_in hand.now }
+{
+    match hand {
+        Hand::Empty | Hand::Taken { .. } => 0,
+        Hand::Ready { version, .. } => *version,
+    }
+}
+
+/// What the row says to what arrived, as the answer to the event, where the version that was read is that.
+fn look_answer(version: u64, look: Look) -> EventAnswer
+    ensures { result ≡ look_answer version look }
+{
+    match look {
+        Look::Ready => EventAnswer::Ready(version),
+        Look::Repeat(n) => EventAnswer::Repeat(n),
+        Look::Settled(n) => EventAnswer::Settled(n),
+        Look::Ahead(taken) => EventAnswer::Ahead(taken),
+        Look::Waiting(lane, k) => EventAnswer::Waiting(lane, k),
+        Look::Old(lane, k) => EventAnswer::OldCall(lane, k),
+        Look::NotAwaited(k) => EventAnswer::Ahead(k),
+    }
+}
+
+/// What a replica is told of its input, as the answer to the event. For want of memory it holds what it held.
+fn told(
+    replica: &mut Replica,
+    row: &Subscriber,
+    store: &mut Store<EchoLaw>,
+) -> Result<EventAnswer, AllocError>
+    requires { CanBeRead (length store.old.rows) (held_in replica.old) }
+    ensures store { store.new ≡ store.old }
+    ensures hand { OnOk result (IsSomeAnd (held_in replica.old) (λ held. replica.new ≡ hand_after row.now held.0 held.1 (journal_of store.old.rows held.0.0))) }
+    ensures answer { IfOk result (λ answer. IsSomeAnd (held_in replica.old) (λ held. answer ≡ seen_answer (journal_of store.old.rows held.0.0) held.1)) }
+    ensures err { OnErr result (replica.new ≡ replica.old) }
+{
+    let look = replica.read(row, store)?.look;
+    Ok(look_answer(version_in(replica.hand()), look))
+}
+
+/// The device of what is held, if something is.
+fn device_held(hand: &Hand) -> Option<DeviceId>
+    ensures { result ≡ device_held hand.now }
+{
+    match hand {
+        Hand::Empty => None,
+        Hand::Taken { d, .. } | Hand::Ready { d, .. } => Some(*d),
+    }
+}
+
+impl World {
+    /// A replica reads the row of what it holds. For want of memory the world is as before.
+    pub(crate) fn read(&mut self, r: u32) -> Result<EventAnswer, AllocError>
+        requires { IsEvent self.old.setting (Event.Read r) }
+        ensures ok { IfOk result (Answers self.old self.new (Event.Read r)) }
+        ensures err { OnErr result (self.new ≡ self.old) }
+    {
+        self.taken.reserve(1)?;
+        let event = Event::Read { r };
+        if r > self.count {
+            return Ok(noted(&mut self.taken, event, EventAnswer::VoidReplica));
+        }
+        let index = r as usize - 1;
+        let Some(d) = device_held(self.replicas[index].hand()) else {
+            return Ok(noted(&mut self.taken, event, EventAnswer::VoidHand));
+        };
+        let row = row_at(&self.law, d);
+        let answer = told(&mut self.replicas[index], row, &mut self.store)?;
+        Ok(noted(&mut self.taken, event, answer))
+    }
+}

@@ -1,0 +1,28 @@
+//! The agent of a device puts a message on the link.
+ghost use Rattle.std.specs.Prelude.{◌≡◌, IfOk, OnErr};
+ghost use Rattle.device_types.specs.declared.event.Event.{Event};
+ghost use Rattle.link_schedule.specs.Answer.{IsEvent};
+ghost use Rattle.link_schedule.specs.World.{Answers};
+
+use crate::world::{World, noted};
+use device_types::{DeviceId, Event, EventAnswer};
+use std::alloc::AllocError;
+
+impl World {
+    /// The agent of the device puts message `n` on the link. For want of memory the world is as before.
+    pub(crate) fn send(&mut self, d: DeviceId, n: u64) -> Result<EventAnswer, AllocError>
+        requires { IsEvent self.old.setting (Event.Send d n) }
+        ensures ok { IfOk result (Answers self.old self.new (Event.Send d n)) }
+        ensures err { OnErr result (self.new ≡ self.old) }
+    {
+        self.taken.reserve(1)?;
+        let event = Event::Send { d, n };
+        let index = d.0 as usize - 1;
+        if !self.agents[index].may_send(n) {
+            return Ok(noted(&mut self.taken, event, EventAnswer::VoidWindow));
+        }
+        self.sent[index].mark(n)?;
+        self.agents[index].sent(n);
+        Ok(noted(&mut self.taken, event, EventAnswer::Sent))
+    }
+}

@@ -1,0 +1,59 @@
+//! The acknowledgement of an effect arrives.
+ghost use Rattle.std.specs.Prelude.{◌≡◌, length, IfOk, OnErr};
+ghost use Rattle.device_types.specs.Numbers.{IsWithin};
+ghost use Rattle.link_schedule.specs.Answer.{IsEvent, history};
+ghost use Rattle.link_schedule.specs.Counts.{accepted};
+ghost use Rattle.link_schedule.specs.Told.{settle_answer};
+ghost use Rattle.link_schedule.specs.World.{Answers};
+
+use crate::world::{World, noted};
+use device_types::{DeviceId, Event, EventAnswer, Lane};
+use effect_outbox::Settled;
+use std::alloc::AllocError;
+
+/// What the row says to the acknowledgement of effect `k`, as the answer to the event.
+fn settle_answer(k: u64, settled: Settled) -> EventAnswer
+    ensures { result ≡ settle_answer k settled }
+{
+    match settled {
+        Settled::Upto(last) => EventAnswer::Settled(last),
+        Settled::Old(_) => EventAnswer::Old(k),
+    }
+}
+
+impl World {
+    /// How many effects of a lane of the device its receiver has accepted. It takes no memory.
+    pub(crate) fn accepted(&self, d: DeviceId, lane: Lane) -> u64
+        requires { IsWithin (length self.now.setting.rows) d.0 }
+        ensures { result ≡ accepted d.0 lane (history self.now.setting self.now.events) }
+    {
+        match lane {
+            Lane::Down => self.agents[d.0 as usize - 1].downs().len() as u64,
+            Lane::Gateway => self.gateway.accepted(d),
+            Lane::Subscriber => self.server.accepted(d),
+        }
+    }
+
+    /// The acknowledgement of effect `k` of a lane of the device arrives: the effects up to it are settled. For want of memory the
+    /// world is as before.
+    pub(crate) fn settle(
+        &mut self,
+        d: DeviceId,
+        lane: Lane,
+        k: u64,
+    ) -> Result<EventAnswer, AllocError>
+        requires { IsEvent self.old.setting (Event.Settle d lane k) }
+        ensures ok { IfOk result (Answers self.old self.new (Event.Settle d lane k)) }
+        ensures err { OnErr result (self.new ≡ self.old) }
+    {
+        let accepted = self.accepted(d, lane);
+        self.taken.reserve(1)?;
+        let event = Event::Settle { d, lane, k };
+        if accepted < k {
+            return Ok(noted(&mut self.taken, event, EventAnswer::VoidLink));
+        }
+        let settled = self.store.settle(d, lane, k);
+        let answer = settle_answer(k, settled);
+        Ok(noted(&mut self.taken, event, answer))
+    }
+}

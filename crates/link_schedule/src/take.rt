@@ -1,0 +1,44 @@
+//! A message arrives at a replica.
+ghost use Rattle.std.specs.Prelude.{◌≡◌, ◌≤◌, ◌-◌, length, slice_index_or, IfOk, OnErr};
+ghost use Rattle.device_types.specs.declared.event.Event.{Event};
+ghost use Rattle.link_schedule.specs.Answer.{IsEvent};
+ghost use Rattle.link_schedule.specs.Input.{no_message};
+ghost use Rattle.link_schedule.specs.World.{Answers};
+
+use crate::world::{Agent, World, noted};
+use device_types::{DeviceId, Event, EventAnswer, Input, Message, TryCopy};
+use std::alloc::AllocError;
+
+/// Message `n` of the line of a device, copied.
+fn message_at(agent: &Agent, n: u64) -> Result<Message, AllocError>
+    requires number { 1 ≤ n }
+    requires within { n ≤ length agent.now.line.messages }
+    ensures { IfOk result (λ message. message ≡ slice_index_or agent.now.line.messages (n - 1) no_message) }
+{
+    let Some(message) = agent.line().message(n) else {
+        unreachable!();
+    };
+    message.copy()
+}
+
+impl World {
+    /// Message `n` of the device arrives at a replica. For want of memory the world is as before.
+    pub(crate) fn take(&mut self, r: u32, d: DeviceId, n: u64) -> Result<EventAnswer, AllocError>
+        requires { IsEvent self.old.setting (Event.Take r d n) }
+        ensures ok { IfOk result (Answers self.old self.new (Event.Take r d n)) }
+        ensures err { OnErr result (self.new ≡ self.old) }
+    {
+        self.taken.reserve(1)?;
+        let event = Event::Take { r, d, n };
+        if r > self.count {
+            return Ok(noted(&mut self.taken, event, EventAnswer::VoidReplica));
+        }
+        let index = d.0 as usize - 1;
+        if !self.sent[index].has(n) {
+            return Ok(noted(&mut self.taken, event, EventAnswer::VoidLink));
+        }
+        let message = message_at(&self.agents[index], n)?;
+        self.replicas[r as usize - 1].take(d, Input::Message(message));
+        Ok(noted(&mut self.taken, event, EventAnswer::Taken))
+    }
+}

@@ -1,0 +1,80 @@
+//! The world of events.
+ghost use Rattle.std.specs.Prelude.{◌≡◌, ◌≤◌, ◌-◌, ◌+◌, ◌++◌, [], ◌∷◌, length, slice_index_or, vec_len, vec_capacity};
+ghost use Rattle.std.specs.Arc.{arc_value};
+ghost use Rattle.device_types.specs.Numbers.{IsWithin};
+ghost use Rattle.link_schedule.specs.Setting.{no_row};
+ghost use Rattle.link_schedule.specs.World.{IsWorld};
+
+use crate::marks::{LaneMarks, Marks};
+use agent_resend::Window;
+use device_types::{DeviceId, Event, EventAnswer, Subscriber};
+use peer_gateway::Gateway;
+use peer_subscriber::SubscriberPeer;
+use replica_worker::Replica;
+use session_store::{EchoLaw, RowLaw, Store};
+use std::marker::Model;
+
+/// How far an agent sends ahead of the last acknowledged message: the window of a device.
+pub(crate) type Agent = Window<4>;
+
+/// The devices, the replicas and the peers of a core, and the links between them, which lose, repeat and reorder: what happens is an
+/// event, and what it comes to its answer. Contracts see what the world runs on, the events that it has taken, and its parts.
+///
+/// No packet on a link is stored. A message is in its device's line, an effect with its receiver once it is accepted and in the row
+/// until then, and replies, acknowledgements and answers follow from how many there are. Every event takes at most a time that is
+/// logarithmic in devices, messages and events, but for a list that grows.
+#[derive(Debug, Drop)]
+pub struct World {
+    pub(crate) law: EchoLaw,
+    pub(crate) store: Store<EchoLaw>,
+    pub(crate) count: u32,
+    pub(crate) replicas: Vec<Replica>,
+    pub(crate) agents: Vec<Agent>,
+    pub(crate) gateway: Gateway,
+    pub(crate) server: SubscriberPeer,
+    pub(crate) sent: Vec<Marks>,
+    pub(crate) pushed: Vec<LaneMarks>,
+    pub(crate) taken: Vec<Event>,
+}
+
+impl Model for World {
+    ghost use Rattle.link_schedule.specs.World.{WorldState};
+
+    ghost Value = { WorldState };
+
+    ghost use Rattle.link_schedule.specs.View.{view_of, IsInside};
+
+    ghost view = { view_of };
+
+    ghost invariant = { IsInside };
+}
+
+impl World {
+    /// The events that the world has taken, in order. It takes no memory.
+    pub fn events(&self) -> &[Event]
+        ensures events { result.now ≡ self.now.events }
+        ensures world { IsWorld self.now }
+    {
+        &self.taken
+    }
+}
+
+/// The row of a device. It takes no memory.
+pub(crate) fn row_at(law: &EchoLaw, d: DeviceId) -> &Subscriber
+    requires { IsWithin (length (arc_value law.now.charter).rows) d.0 }
+    ensures row { result.now ≡ slice_index_or (arc_value law.now.charter).rows (d.0 - 1) no_row }
+    ensures number { result.now.number ≡ d.0 }
+    ensures tunnel { result.now.teid ≤ 4000000000 }
+{
+    &law.charter().rows()[d.0 as usize - 1]
+}
+
+/// The event was taken, for which room was reserved: the list gains it.
+pub(crate) fn noted(events: &mut Vec<Event>, event: Event, answer: EventAnswer) -> EventAnswer
+    requires { vec_len events.old + 1 ≤ vec_capacity events.old }
+    ensures events { events.new.items ≡ events.old.items ++ event ∷ [] }
+    ensures answer { result ≡ answer }
+{
+    events.push_reserved(event);
+    answer
+}
