@@ -2,6 +2,7 @@
 #![tactic(auto)]
 
 mod answer;
+mod apply;
 mod effect;
 mod marks;
 mod opening;
