@@ -134,12 +134,13 @@ reads_held s H p r was now d input row is L at held then e within m =
     let j : J ≡ journal s d.0 H = ap (λ (x : RowState). x.journal) (m.rows.at d.0 opening_row i.1) in
     let v : version_of J ≡ commits d.0 H = ap length j ∙ version_is s d.0 H L in
     let answered : seen_answer J input ≡ answer s H (Read r) =
-        ap (look_answer (version_of J)) (same_look J input) ∙ ap (λ K. look_answer (version_of J) (row_look window K input)) j
-        ∙ ap (λ n. look_answer n (row_look window (journal s d.0 H) input)) v ∙ sym (read_told s H r d.0 w.0 input is L w.1 w.2 within.1)
-    in
-    (answered,
-    subst (λ (h : Hand). ArePartsOf s ((Read r, seen_answer J input) ∷ H) (record p { hands = set p.hands (r - 1) h })) (sym then)
-    (reads_by s H p r d w.0 row input J (look_to J (asked_of input)) w.1 j v e w.2 within m))
+    ap (look_answer (version_of J)) (same_look J input) ∙ ap (λ K. look_answer (version_of J) (row_look window K input)) j
+    ∙ ap (λ n. look_answer n (row_look window (journal s d.0 H) input)) v ∙ sym (read_told s H r d.0 w.0 input is L w.1 w.2 within.1)
+    in (
+      answered,
+      subst (λ (h : Hand). ArePartsOf s ((Read r, seen_answer J input) ∷ H) (record p { hands = set p.hands (r - 1) h })) (sym then)
+          (reads_by s H p r d w.0 row input J (look_to J (asked_of input)) w.1 j v e w.2 within m),
+    )
 
 pub reads : (s : Setting) (H : List Turn) (p : Parts) (r : ℕ) (was now : Hand) (d : DeviceId) (row : Subscriber) (a : EventAnswer) → IsSetting s → Lawful s H → was ≡ get_or p.hands (r - 1) was → Some d ≡ device_held was → IsSomeAnd (held_in was) (λ held. now ≡ hand_after row held.0 held.1 (journal_of p.rows held.0.0)) → IsSomeAnd (held_in was) (λ held. a ≡ seen_answer (journal_of p.rows held.0.0) held.1) → row ≡ row_of s d.0 → IsWithin s.replicas r → ArePartsOf s H p → (a ≡ answer s H (Read r)) × ArePartsOf s ((Read r, a) ∷ H) (record p { hands = set p.hands (r - 1) now })
 reads s H p r hands.Empty now d row a is L at held then gives e within m = absurd (cc)

@@ -27,4 +27,3 @@ invariant_of-self-then-not-has c =
     let off : effect_pushed c.args.d.0 c.args.lane c.args.k H ≡ false = on_link (goal.at.invariant_of-self-then-not-has c).After-has ∙ c.if-not-has.true in
     let void = effect_void w.setting H c.args.d c.args.lane c.args.k off in
     record { charter = c.self.invariant.charter; world = notes_void w e told.VoidLink c.noted.new.events.items (rw c.in_ok-reserve.ensures.items at c.noted.ensures.events) c.self.invariant.world i void refl }
-
