@@ -1,6 +1,6 @@
 //! A place in octets that are read bit by bit.
 
-ghost use Rattle.std.specs.Prelude.{◌≡◌, ℕ, ◌+◌, ◌*◌, ◌/◌, ◌%◌, ◌^◌, ◌<◌, ◌≤◌, ◌↔◌, IsTrue, OnOk, IfOk, length, take, drop};
+ghost use Rattle.std.specs.Prelude.{◌≡◌, ◌==◌, ℕ, ◌+◌, ◌*◌, ◌/◌, ◌%◌, ◌^◌, ◌<◌, ◌≤◌, ◌↔◌, IsTrue, OnOk, IfOk, length, take, drop};
 ghost use Rattle.aper_fields.specs.Bits.{number_of, bits_of, octets_of, gap};
 
 use echo_base::{Reason, Refusal};
@@ -128,6 +128,13 @@ impl<'a> BitReader<'a> {
         ensures { IsTrue result ↔ (length self.now.left ≡ 0) }
     {
         self.bytes.is_empty()
+    }
+
+    /// Does the next bit stand where that of the other does?
+    pub(crate) fn is_at(&self, other: &BitReader) -> bool
+        ensures { result ≡ (self.now.offset == other.now.offset) }
+    {
+        self.place == other.place && self.used == other.used
     }
 
     /// The next bits, all of one octet.

@@ -3,9 +3,9 @@
 
 ghost use Rattle.std.specs.Prelude.{◌≡◌, ◌+◌, ◌-◌, ◌*◌, ◌^◌, ◌<◌, ◌≤◌, IfOk, OnOk, length, true, false};
 ghost use Rattle.aper_fields.specs.Bits.{gap};
-ghost use Rattle.aper_fields.specs.Reading.{Gives, GivesBy, width, within_at, counted_at, number_at, length_octets_at, length_at, fixed_octets_at, octet_string_at, fixed_bits_at, root_at, extended_at, enumerated_at, open_at, end_at};
+ghost use Rattle.aper_fields.specs.Reading.{Gives, GivesBy, width, within_at, counted_at, number_at, length_octets_at, length_at, fixed_octets_at, octet_string_at, fixed_bits_at, root_at, extended_at, enumerated_at, open_at, end_at, empty_at, close_at};
 ghost use Rattle.aper_fields.specs.Spelling.{IsEnumValue};
-ghost use Rattle.aper_fields.specs.Format.{ReadsExactly, ReadsExactlyBy, length_in, fixed_octets_in, octet_string_in, fixed_bits_in, enumerated_in, open_in, EndsExactly};
+ghost use Rattle.aper_fields.specs.Format.{ReadsExactly, ReadsExactlyBy, length_in, fixed_octets_in, octet_string_in, fixed_bits_in, enumerated_in, open_in, EndsExactly, ClosesExactly};
 
 use crate::enumerated::EnumValue;
 use crate::reader::BitReader;
@@ -271,5 +271,37 @@ pub fn end(r: &BitReader) -> Result<(), Refusal>
     if !ahead.is_empty() {
         return Err(ahead.refusal(Reason::TrailingBytes));
     }
+    Ok(())
+}
+
+/// Passes over an octet of zeros.
+#[tactic(auto, unfolding(crate::specs::Reading::empty_at))]
+fn skip_empty(r: &mut BitReader) -> Result<u64, Refusal>
+    ensures { Gives result r.old r.new (empty_at r.old) }
+{
+    let mut ahead = r.ahead();
+    let octet = ahead.read_bits(8)?;
+    if octet != 0 {
+        return Err(r.refusal(Reason::NonZeroPadding));
+    }
+    *r = ahead;
+    Ok(octet)
+}
+
+/// The end of a container behind what was read of it, as `end` gives it. A value of no bits has an octet of zeros in its
+/// place (ITU-T X.691, Complete encoding), so where nothing was read that octet is passed over first: Truncated, or
+/// NonZeroPadding.
+#[tactic(auto, unfolding(crate::specs::Reading::close_at))]
+pub fn close(content: &BitReader, r: &BitReader) -> Result<(), Refusal>
+    ensures read { result ≡ close_at content.now r.now }
+    ensures exact { ClosesExactly result content.now r.now }
+{
+    if r.is_at(content) {
+        let mut ahead = r.ahead();
+        skip_empty(&mut ahead)?;
+        end(&ahead)?;
+        return Ok(());
+    }
+    end(r)?;
     Ok(())
 }
