@@ -34,7 +34,7 @@ bit_some = omega (arith, length-bits 1 0)
 
 -- a message is written in some octets
 pub written_some : (p : Pdu) → 0 < length (written p)
-unfolding written pdu_run header_run choice_run
+unfolding written pdu_run header_run
 written_some p =
     let header = header_of (kind_of p) in
     let choice = first_some (fixed_bits_run 1 0) (fixed_bits_run 2 header.outcome) 0 bit_some in
