@@ -27,7 +27,7 @@ def needs(*commands: str) -> Callable[[type], type]:
     missing = [it for it in commands if it != "program" and shutil.which(it) is None]
     if "program" in commands and not os.access(BUILT, os.X_OK):
         missing.append("the built program, crates/echo_cli/out/echo_cli (`rt ci` makes it)")
-    return unittest.skipIf(bool(missing), f"needs {', '.join(missing)}")
+    return unittest.skipIf(bool(missing), f"missing: {', '.join(missing)}")
 
 
 def has_replay() -> bool:

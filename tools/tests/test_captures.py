@@ -7,7 +7,11 @@ from ipaddress import IPv4Address
 from pathlib import Path
 from typing import List, Tuple
 
+from balthiri_tools.case_text import CaseText, TraceLine, read_event
+from balthiri_tools.frames import frames_of
 from balthiri_tools.packets import PCAP_HEADER, S1AP_PAYLOAD, S1AP_PORT, Frame, crc32c, ipv4_packet, pcap_of
+from balthiri_tools.printed import Down, Printed
+from balthiri_tools.turns import Message, Turn
 from support import DATA, EXAMPLES, PLAIN, InFolder, has_replay, needs, run, run_program, subscribers_of, trace_of
 
 # What begins a message of a base station: outcome and procedure.
@@ -37,6 +41,46 @@ def packet_of_chunks(source: str, chunks: List[Tuple[int, int, int, bytes]]) -> 
 
 def pcap_of_packets(packets: List[bytes]) -> bytes:
     return PCAP_HEADER + b"".join(struct.pack("<IIII", at, 0, len(it), len(it)) + it for at, it in enumerate(packets))
+
+
+def lines_of(numbers: List[int]) -> List[TraceLine]:
+    """Lines of a trace whose PDUs begin a message, and end in their line's number."""
+    return [TraceLine(line, 1, f"000d{line:02x}") for line in numbers]
+
+
+class Order(unittest.TestCase):
+    """Two messages of device 1 around one of device 2, and a line that is no message of a base station, between lines 4 and 7."""
+
+    def order(self, events: str) -> List[str]:
+        first, other, second = lines_of([4, 5, 7])
+        case = CaseText(trace=[first, other, TraceLine(6, 1, "000b06"), second])
+        case.schedule = [read_event(number, it.split(": ")[0]) for number, it in enumerate(events.splitlines(), 1)]
+        printed = Printed(answers=[it.split(": ")[1] for it in events.splitlines()])
+        downs = [Down(1, 1, b"\x01\x01"), Down(2, 1, b"\x01\x02")], [Down(1, 2, b"\x02\x01")], [Down(3, 1, b"\x01\x03")]
+        messages = Message(1, 1, first), Message(2, 1, other), Message(1, 2, second)
+        turns = [Turn(message, [], made) for message, made in zip(messages, downs)]
+        return [("up " if it.is_up else "down ") + it.message[-2:].hex() for it in frames_of(case, printed, turns)]
+
+    def test_without_a_transcript_each_down_is_behind_its_message(self) -> None:
+        self.assertEqual(self.order(""), ["up 0d04", "down 0101", "down 0102", "up 0d05", "down 0201", "up 0d07", "down 0103"])
+
+    def test_with_one_a_down_is_where_it_was_accepted(self) -> None:
+        events = "send 2 1: sent\neffect 2 down 1: accepted 1\neffect 2 down 1: repeat 1\nsend 1 1: sent\neffect 1 down 2: ahead 0\neffect 1 down 1: accepted 1\n"
+        # line 4 goes before line 5; what no event sent or accepted comes at the end
+        expected = ["up 0d04", "up 0d05", "down 0201", "down 0101", "down 0102", "up 0d07", "down 0103"]
+        self.assertEqual(self.order(events), expected)
+
+    def test_void_events_move_nothing(self) -> None:
+        events = "send 1 2: void window\nsend 1 1: sent\neffect 1 down 1: void link\neffect 1 gateway 1: accepted 1\nsend 1 2: sent\n"
+        expected = ["up 0d04", "up 0d05", "up 0d07", "down 0101", "down 0102", "down 0201", "down 0103"]
+        self.assertEqual(self.order(events), expected)
+
+
+@needs("program")
+class Made(InFolder):
+    def test_the_capture_of_the_examples(self) -> None:
+        done = self.ran("case2pcap", EXAMPLES / "attach.txt", "-", given=ATTACH_TEXT)
+        self.assertEqual(done.stdout, (EXAMPLES / "attach.pcap").read_bytes())
 
 
 @needs("program", "tshark")
@@ -92,11 +136,8 @@ class RoundTrip(InFolder):
             frames += len(told)
         self.assertEqual(frames, sum((DATA / f"{it}_text.txt").read_bytes().count(b"\ndown ") for it in PLAIN))
 
-    def test_the_capture_of_the_examples_is_made_by_the_tool(self) -> None:
-        capture = EXAMPLES / "attach.pcap"
-        done = self.ran("case2pcap", EXAMPLES / "attach.txt", "-", given=ATTACH_TEXT)
-        self.assertEqual(done.stdout, capture.read_bytes())
-        back = self.ran("pcap2case", capture, "-", given=subscribers_of(ATTACH))
+    def test_the_capture_of_the_examples_comes_back(self) -> None:
+        back = self.ran("pcap2case", EXAMPLES / "attach.pcap", "-", given=subscribers_of(ATTACH))
         self.assertEqual(trace_of(back.stdout), trace_of(ATTACH))
         self.assertEqual(run_program("plain", back.stdout), ATTACH_TEXT)
 

@@ -1,7 +1,6 @@
 """Charts against the transcripts that they are made of."""
 
 import re
-import shutil
 import subprocess
 import sys
 import unittest
@@ -144,7 +143,7 @@ class Widths(unittest.TestCase):
         self.assertEqual(list(Chart(lines).columns()), ["station9", "station12", "agents", "replica9", "replica10", "store", "gateway", "subscriber"])
 
 
-@unittest.skipIf(shutil.which("mscgen") is None, "needs mscgen")
+@needs("mscgen")
 class Pictures(unittest.TestCase):
     def test_mscgen_draws_each_chart(self) -> None:
         for files in FILES:
@@ -218,8 +217,7 @@ class Tool(InFolder):
             self.assertEqual(self.ran("ladder", case_file, text_file).stdout.decode(), chart_of(case_file, text_file).text(None))
 
 
-@unittest.skipUnless(shutil.which("mscgen"), "needs mscgen")
-@needs("program")
+@needs("program", "mscgen")
 class ToolPictures(InFolder):
     def test_the_ending_of_the_file_says_what_it_is(self) -> None:
         files = EXAMPLES / "attach.txt", EXAMPLES / "attach_text.txt"
