@@ -14,6 +14,8 @@ mod send;
 mod settle;
 mod stop;
 mod take;
+#[cfg(test)]
+mod tests;
 mod world;
 mod write;
 
