@@ -1,5 +1,6 @@
 pub mod Answer
 pub mod Counts
+pub mod Floor
 pub mod Input
 pub mod Lists
 pub mod Promise

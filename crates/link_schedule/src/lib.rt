@@ -4,6 +4,7 @@
 mod answer;
 mod apply;
 mod effect;
+mod floor;
 mod marks;
 mod opening;
 mod push;
@@ -17,6 +18,7 @@ mod take;
 mod world;
 mod write;
 
+pub use floor::Floor;
 pub use schedule_laws::{
     accepts_begin_alone, answers_are_of_made_calls, commits_begin_alone, links_carry_contents,
     nothing_is_taken_back, one_replica_is_never_stale, repeat_gets_stored_reply,
