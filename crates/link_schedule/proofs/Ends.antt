@@ -1,9 +1,9 @@
 -- What became of the devices of a settled world is what the machine that never fails makes of them; and where it is, the world is settled.
 use Rattle.std.proofs.Common.{◌≡◌, ℕ, zero, suc, ◌+◌, ◌*◌, ◌-◌, ◌≤◌, ◌<◌, true, Option, Some, None, List, [], ◌∷◌, ◌++◌, length, take, get_or, refl, sym, ap, ◌∙◌, subst, arith, length-append, append-nil}
 use Rattle.std.specs.Prelude.{map, All, cond}
-use Rattle.std.specs.List.{filter_map, cons_option, zip, range_with_len}
-use Rattle.std.proofs.lemmas.List.{same_lists, get_or-map, length-map, length-take, take_all, get_or-take}
-use Rattle.std.proofs.lemmas.List.Elements.{All-nil, All-cons, All-head, All-tail, All-get_or}
+use Rattle.std.specs.List.{filter_map, cons_option, zip}
+use Rattle.std.proofs.lemmas.List.{same_lists, get_or-map, length-map, length-take, take_all}
+use Rattle.std.proofs.lemmas.List.Elements.{All-nil, All-cons, All-head, All-tail}
 use Rattle.std.proofs.lemmas.List.FromFn.{length-map-range_with_len, get_or-map-range_with_len}
 use Rattle.std.proofs.lemmas.List.Sums.{sum_by-cons}
 use Rattle.device_types.specs.declared.down.Down.{Down as DownMessage}
@@ -22,21 +22,18 @@ use Rattle.device_types.specs.declared.step.Entry.{Entry}
 use Rattle.device_types.specs.declared.subscriber.Subscriber.{Subscriber as SubscriberRow}
 use Rattle.device_types.specs.Alone.{alone_of, messages_in}
 use Rattle.device_types.specs.Alone.{messages_of as messages_taken}
-use Rattle.device_types.specs.Down.{IsDown}
 use Rattle.device_types.specs.Journal.{version_of, session_of, is_message, taken_count, effects_of, pushed_count}
 use Rattle.device_types.specs.Line.{IsLine}
-use Rattle.device_types.specs.Numbers.{IsWithin}
 use Rattle.device_types.specs.Subscriber.{IsSubscriber}
 use Rattle.device_types.proofs.Courses.{all_taken, few_entries, few_pushed}
-use Rattle.device_machine.specs.Ends.{down_in, gateway_in, subscriber_in, downs_of, gateway_of, subscriber_of, end_of, finals_of}
+use Rattle.device_machine.specs.Ends.{down_in, gateway_in, subscriber_in, end_of, finals_of}
 use Rattle.device_machine.proofs.Gathered.{downs_whole, gateway_whole, subscriber_whole, end_written}
-use Rattle.link_schedule.specs.Counts.{Turn, accepted}
 use Rattle.link_schedule.specs.Finals.{end_in, finals_in}
 use Rattle.link_schedule.specs.Floor.{IsEnd, EndsOn}
 use Rattle.link_schedule.specs.Lists.{Begins}
-use Rattle.link_schedule.specs.Setting.{Setting, no_row, row_of, messages_of, message_count, entries_of}
+use Rattle.link_schedule.specs.Setting.{Setting, no_row, row_of, messages_of, entries_of}
 use Rattle.link_schedule.specs.Settled.{turns_in, journal_in, commits_in, accepts_in, IsWholeLane, IsDone, IsSettled}
-use Rattle.link_schedule.specs.World.{WorldState, IsSetting, IsShort, accepted_effects, IsWorld}
+use Rattle.link_schedule.specs.World.{WorldState, IsShort, accepted_effects, IsWorld}
 use Rattle.link_schedule.proofs.Laws.{accepted_bound}
 use Rattle.link_schedule.proofs.Runs.{to_alone}
 

@@ -1,20 +1,19 @@
 -- A world that goes on loses nothing.
-use Rattle.std.proofs.Common.{◌≡◌, ⊎_elim, ℕ, zero, suc, ◌+◌, ◌*◌, ◌≤◌, ◌<◌, List, [], ◌∷◌, ◌++◌, length, refl, sym, ap, ◌∙◌, subst, arith, add-one, length-append}
+use Rattle.std.proofs.Common.{◌≡◌, ⊎_elim, ℕ, ◌+◌, ◌*◌, ◌≤◌, ◌<◌, List, [], ◌∷◌, ◌++◌, length, refl, sym, ap, ◌∙◌, subst, arith, add-one, length-append}
 use Rattle.std.proofs.lemmas.Bool.{cases_lt}
 use Rattle.device_types.specs.declared.event.Event.{Event}
 use Rattle.device_types.specs.declared.event.Event.TheVariants.{Reply}
 use Rattle.device_types.specs.declared.event.EventAnswer.{EventAnswer}
 use Rattle.device_types.specs.declared.event.Lane.{Lane}
 use Rattle.device_types.specs.declared.event.Lane.TheVariants.{Down, Gateway, Subscriber}
-use Rattle.device_types.specs.declared.step.Entry.{Entry}
 use Rattle.device_types.specs.declared.subscriber.DeviceId.{DeviceId}
 use Rattle.device_types.specs.Journal.{pushed_count, taken_count, effects_of}
 use Rattle.device_types.specs.Numbers.{IsWithin}
 use Rattle.device_types.proofs.Courses.{few_entries}
 use Rattle.link_schedule.specs.Answer.{turn, history, Lawful}
-use Rattle.link_schedule.specs.Counts.{Turn, commits, acked, journal}
+use Rattle.link_schedule.specs.Counts.{Turn, acked, journal}
 use Rattle.link_schedule.specs.Setting.{Setting, row_of, messages_of, message_count, entries_to, entries_of}
-use Rattle.link_schedule.specs.Settled.{turns_in, journal_in, commits_in, acked_in, accepts_in, GoesOn, IsWholeLane, IsDone, IsSettled, spent_in, Pays, PaysFor, cost, cost_to}
+use Rattle.link_schedule.specs.Settled.{turns_in, journal_in, commits_in, acked_in, accepts_in, GoesOn, IsWholeLane, IsDone, spent_in, Pays, PaysFor, cost, cost_to}
 use Rattle.link_schedule.specs.World.{WorldState, IsWorld, Answers}
 use Rattle.link_schedule.proofs.Events.{history_more}
 use Rattle.link_schedule.proofs.Laws.{version_is, accepted_bound}

@@ -18,5 +18,6 @@ pub mod Replicas
 pub mod Replied
 pub mod Runs
 pub mod Steps
+pub mod Whole
 pub mod Worked
 pub mod Worlds

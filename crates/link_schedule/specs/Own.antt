@@ -38,6 +38,11 @@ abbrev pub IsSettledByEnds : Option WorldState → Type 0
 IsSettledByEnds None = Unit {0}
 IsSettledByEnds (Some w) = finals_in w ≡ finals_of w.setting.rows w.setting.book → IsSettled w
 
+-- there is a world, each part of which is what its events make of it, each journal is whole, and each lane was accepted whole
+abbrev pub IsWhole : Option WorldState → Type 0
+IsWhole None = ⊥
+IsWhole (Some w) = IsWorld w × IsSettled w
+
 -- ---- the turns of a world are its events with the answers of the definition
 
 events_behind : (s : Setting) (H : List Turn) (es : List Event) → map (λ turn. turn.0) (fold (turn s) H es) ≡ reverse_aux es (map (λ turn. turn.0) H)

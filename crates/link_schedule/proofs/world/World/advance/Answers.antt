@@ -1,4 +1,4 @@
-use Rattle.std.proofs.Common.{◌≡◌, sym, ap, ◌∙◌, arith, None}
+use Rattle.std.proofs.Common.{◌≡◌, arith, None}
 use Rattle.device_types.specs.Journal.{awaited_call}
 use Rattle.link_schedule.specs.Setting.{row_of, messages_of}
 use Rattle.link_schedule.specs.Settled.{journal_in, commits_in}

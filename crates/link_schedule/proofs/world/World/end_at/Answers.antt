@@ -1,4 +1,4 @@
-use Rattle.std.proofs.Common.{◌≡◌, List, [], length, sym, ap, ◌∙◌, subst}
+use Rattle.std.proofs.Common.{List, [], length, sym, ap, ◌∙◌, subst}
 use Rattle.std.specs.Prelude.{map}
 use Rattle.device_types.specs.declared.down.Down.{Down as DownMessage}
 use Rattle.device_types.specs.declared.effect.Effect.TheVariants as effects

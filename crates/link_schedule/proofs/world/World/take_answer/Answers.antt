@@ -1,4 +1,4 @@
-use Rattle.std.proofs.Common.{◌≡◌, ap, ◌∙◌, arith}
+use Rattle.std.proofs.Common.{ap, arith}
 use Rattle.device_types.specs.Journal.{pushed_count}
 use Rattle.link_schedule.specs.Settled.{turns_in}
 use Rattle.link_schedule.proofs.Goes.{journal_same, pays_trans, pays_entry}
