@@ -1,9 +1,12 @@
 pub mod Calls
 pub mod Comparisons
 pub mod Contents
+pub mod Ends
 pub mod Events
 pub mod Flags
 pub mod Given
+pub mod Goes
+pub mod Grows
 pub mod Items
 pub mod Lanes
 pub mod Laws
@@ -15,5 +18,6 @@ pub mod Replicas
 pub mod Replied
 pub mod Runs
 pub mod Steps
+pub mod Whole
 pub mod Worked
 pub mod Worlds

@@ -1,6 +1,6 @@
 //! The row of a device.
 ghost use Rattle.std.specs.Prelude.{◌≡◌, ◌≤◌, ◌<◌, ◌+◌, ◌↔◌, [], length, IfOk, OnErr, IfErr, IsSome, option_copied};
-ghost use Rattle.device_types.specs.Journal.{version_of, session_of, pushed_count, taken_count};
+ghost use Rattle.device_types.specs.Journal.{version_of, session_of, pushed_count, taken_count, awaited_call};
 ghost use Rattle.device_types.specs.Look.{look_of, answer_look_of, look_behind, unless_awaited};
 ghost use Rattle.device_types.specs.Session.{IsSession};
 ghost use Rattle.effect_outbox.specs.Outbox.{number_on, with_number, settled_by, Holds};
@@ -57,12 +57,19 @@ impl<const W: u64> Row<W> {
         self.entries.len() as u64
     }
 
-    /// How many messages were taken.
+    /// How many messages were taken. It takes no memory.
     #[tactic(auto, using(crate::proofs::Steps::taken_is))]
-    fn taken(&self) -> u64
+    pub fn taken(&self) -> u64
         ensures { result ≡ taken_count self.now.journal }
     {
         self.replies.len() as u64
+    }
+
+    /// The call whose answer is awaited, by its lane and its number there, or `None`. It takes no memory.
+    pub fn awaited(&self) -> Option<(Lane, u64)>
+        ensures { result ≡ awaited_call self.now.journal }
+    {
+        self.awaited
     }
 
     /// The session of the last step, or the opening one. It fails for want of memory alone.

@@ -15,4 +15,4 @@ pub use charter::Charter;
 pub use echo_law::EchoLaw;
 pub use row_law::RowLaw;
 pub use row_store::RowStore;
-pub use store::Store;
+pub use store::{DeviceRow, Store};

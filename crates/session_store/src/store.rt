@@ -19,7 +19,7 @@ use std::alloc::{AllocError, Global};
 use std::marker::Model;
 
 /// A row that keeps the last four replies.
-type DeviceRow = Row<4>;
+pub type DeviceRow = Row<4>;
 
 /// The rows of all devices, under a law. Contracts see the charter of the law, and the rows in the order of the devices' numbers.
 /// A call on one device takes the same time however many devices and entries there are.
@@ -89,6 +89,14 @@ impl<L: RowLaw> Store<L> {
         let rows = opening_rows(alloc, devices)?;
         let _rows = law.charter().rows();
         Ok(Store { law, rows })
+    }
+
+    /// The row of the device. It takes no memory.
+    pub fn row(&self, d: DeviceId) -> &DeviceRow
+        requires { IsDevice (length self.now.rows) d.0 }
+        ensures { result.now ≡ row_of self.now.rows d.0 }
+    {
+        &self.rows[d.0 as usize - 1]
     }
 
     /// What is seen of the row of a device, about an input: with the reply exactly where it is a repeat. It changes nothing, and fails for want of memory alone.
