@@ -88,12 +88,12 @@ def case(lines, devices, name):
     return ("\n".join(text) + "\n").encode()
 
 
-def write_case(path, lines, devices, name):
+def write_case(path, make):
     """Writes a case text in a process of its own, since what this one holds would count as the program's memory."""
     child = os.fork()
     if child == 0:
         with open(path, "wb") as text:
-            text.write(case(lines, devices, name))
+            text.write(make())
         os._exit(0)
     assert os.waitpid(child, 0)[1] == 0, "no case text was written"
     return os.path.getsize(path)
@@ -127,7 +127,7 @@ def main():
     ]:
         for lines in (options.l // 4, options.l // 2, options.l):
             with tempfile.NamedTemporaryFile() as text:
-                size = write_case(text.name, lines, options.d, name)
+                size = write_case(text.name, lambda: case(lines, options.d, name))
                 runs = [run(options.program, word, text.name) for _ in range(options.r)]
                 seconds, memory, out = min(runs)
                 print("%-24s %8d %10d %8.0f %10d %10d" % (label, lines, size, seconds * 1000, memory, out), flush=True)

@@ -1,3 +1,5 @@
 pub mod Answer
 pub mod Command
+pub mod Options
+pub mod Replay
 pub mod Top

@@ -2,17 +2,21 @@
 
 ghost use Rattle.std.specs.Prelude.{◌≡◌, ◌≤◌, length, IfOk, IfErr, All};
 ghost use Rattle.echo_base.specs.Reason.{reason_number};
+ghost use Rattle.device_types.specs.Event.{IsInForm};
 ghost use Rattle.device_types.specs.Numbers.{IsWithin};
 ghost use Rattle.case_form.specs.Case.{most_lines};
 ghost use Rattle.entry_edge.specs.Trace.{history};
-ghost use Rattle.echo_run.specs.Answer.{plain_of, text_of, answer_of, IsAnswer, IsOfLine};
+ghost use Rattle.echo_run.specs.Answer.{IsAdmitted, plain_of, replay_of, text_of, answer_of, IsAnswer, IsOfLine};
+ghost use Rattle.echo_run.specs.Command.{IsInLimits};
 
 use crate::command::Command;
 use crate::ends::finals_of;
+use crate::replay::transcript;
 use case_form::{Case, CaseBad, read_case};
 use device_types::Octets;
 use echo_base::{OutOfMemory, Reason};
-use entry_edge::admit;
+use entry_edge::{Admitted, admit};
+use link_schedule::World;
 use report_text::{final_text, show_text};
 use std::alloc::Global;
 
@@ -51,27 +55,65 @@ fn refused(reason: Reason, line: u32) -> NoText
     }
 }
 
+/// What admission gives of a case.
+fn admitted(alloc: Global, case: &Case) -> Result<Admitted, OutOfMemory>
+    requires stations { All (λ line. IsWithin 65535 line.station) case.now.trace.items }
+    requires lines { length case.now.trace.items ≤ most_lines }
+    ensures { IfOk result (IsAdmitted case.now.table (history case.now.table case.now.trace.items)) }
+{
+    let admitted = admit(alloc, &case.table, &case.trace)?;
+    Ok(admitted)
+}
+
+/// The lines that admission refused, and what becomes of the devices.
+fn ends_text(alloc: Global, case: &Case, admitted: &Admitted) -> Result<Octets, OutOfMemory>
+    requires { IsAdmitted case.now.table (history case.now.table case.now.trace.items) admitted.now }
+    ensures { IfOk result (λ text. text ≡ plain_of case.now.table (history case.now.table case.now.trace.items)) }
+{
+    let _rows = case.table.rows();
+    let finals = finals_of(alloc, &case.table, &admitted.book)?;
+    final_text(alloc, &case.table, &admitted.refused, &finals)
+}
+
 /// What becomes of the devices of a case.
 fn plain(alloc: Global, case: &Case) -> Result<Octets, OutOfMemory>
     requires stations { All (λ line. IsWithin 65535 line.station) case.now.trace.items }
     requires lines { length case.now.trace.items ≤ most_lines }
     ensures { IfOk result (λ text. text ≡ plain_of case.now.table (history case.now.table case.now.trace.items)) }
 {
-    let _rows = case.table.rows();
-    let admitted = admit(alloc, &case.table, &case.trace)?;
-    let finals = finals_of(alloc, &case.table, &admitted.book)?;
-    final_text(alloc, &case.table, &admitted.refused, &finals)
+    let admitted = admitted(alloc, case)?;
+    ends_text(alloc, case, &admitted)
+}
+
+/// What the events of a case come to in a world with so many replicas, and then what becomes of the devices.
+fn replay(alloc: Global, case: &Case, replicas: u32) -> Result<Octets, OutOfMemory>
+    requires stations { All (λ line. IsWithin 65535 line.station) case.now.trace.items }
+    requires lines { length case.now.trace.items ≤ most_lines }
+    requires events { All (IsInForm (length case.now.table)) case.now.schedule.items }
+    requires replicas { IsWithin 16 replicas }
+    ensures { let turns = history case.now.table case.now.trace.items in
+        IfOk result (λ text. text ≡ replay_of case.now.table turns case.now.schedule.items replicas) }
+{
+    let admitted = admitted(alloc, case)?;
+    let mut world = World::new(alloc, &case.table, &admitted.book, replicas)?;
+    let mut text = transcript(alloc, &mut world, &case.schedule)?;
+    let ends = ends_text(alloc, case, &admitted)?;
+    text.append(ends)?;
+    Ok(text)
 }
 
 /// The text that a command makes of a case.
 #[tactic(auto, unfolding(crate::specs::Answer::text_of))]
 fn text_of(alloc: Global, command: Command, case: &Case) -> Result<Octets, OutOfMemory>
+    requires limits { IsInLimits command }
     requires stations { All (λ line. IsWithin 65535 line.station) case.now.trace.items }
     requires lines { length case.now.trace.items ≤ most_lines }
-    ensures { IfOk result (λ text. text ≡ text_of command case.now.table case.now.trace.items) }
+    requires events { All (IsInForm (length case.now.table)) case.now.schedule.items }
+    ensures { IfOk result (λ text. text ≡ text_of command case.now.table case.now.trace.items case.now.schedule.items) }
 {
     match command {
         Command::Plain => plain(alloc, case),
+        Command::Replay { replicas } => replay(alloc, case, replicas),
         Command::Show => show_text(alloc, &case.trace),
     }
 }
@@ -79,6 +121,7 @@ fn text_of(alloc: Global, command: Command, case: &Case) -> Result<Octets, OutOf
 /// What a command makes of a case text.
 #[tactic(auto, unfolding(crate::specs::Answer::answer_of))]
 pub fn answer(alloc: Global, command: Command, octets: &[u8]) -> Result<Octets, NoText>
+    requires { IsInLimits command }
     ensures answer { IsAnswer result (answer_of command octets.now) }
     ensures of_line { IfErr result IsOfLine }
 {

@@ -4,6 +4,8 @@
 mod answer;
 mod command;
 mod ends;
+mod options;
+mod replay;
 #[cfg(test)]
 mod tests;
 mod top;

@@ -70,8 +70,8 @@ release-inactivity 001700110000020063000400010001000240020280
 release-inactivity-two 001700110000020063000400010002000240020280
 ";
 
-/// A command, a case text, and what is written, or the status line. A bar stands for the end of a line, and the name of a row or
-/// a message at the end of a line for it.
+/// The words of a command, a case text, and what is written, or the status line. A bar stands for the end of a line, and the name of a
+/// row or a message at the end of a line for it.
 const CASES: &str = "\
 plain = [subscribers]|row|[trace]|1 service = device 208930000000001 messages 1 steps 1|down 1 1 reject|session detached link off area 000000 0 bearer none radio 0
 plain = [subscribers]|row|[trace]|1 attach|1 response|1 secured|1 done|1 capability|1 complete = device 208930000000001 messages 6 steps 10|down 1 1 authentication|down 2 1 security|down 3 1 setup|gateway 1 create|gateway 2 modify c0a80002 2|subscriber 1 vectors|subscriber 2 location|session connected link 1/1 area 02f839 1 bearer active radio 2
@@ -82,6 +82,15 @@ plain = [subscribers]|row|[trace]|1 attach|2 service|1 request = refused 6 31 Un
 plain = [subscribers]|row|[trace]|1 service|2 request|1 two|1 released = refused 5 31 UnknownPair 2 1|refused 6 31 UnknownPair 1 2|device 208930000000001 messages 2 steps 2|down 1 1 reject|session detached link off area 000000 0 bearer none radio 0
 plain = [subscribers]|row|second-row|[trace]|1 service|1 other|1 request = refused 7 31 UnknownPair 1 1|device 208930000000001 messages 1 steps 1|down 1 1 reject|session detached link off area 000000 0 bearer none radio 0|device 208930000000002 messages 1 steps 2|down 1 1 authentication-other|subscriber 1 vectors|session authenticating link 1/1 area 02f839 1 bearer none radio 0
 plain = [subscribers]|row|[trace]|1 0g = refused 4 29 BadHex|device 208930000000001 messages 0 steps 0|session detached link off area 000000 0 bearer none radio 0
+replay = [subscribers]|row|[trace]|1 attach|[schedule]|send 1 1|take 1 1 1|take 2 1 1|read 1|read 2|write 1|write 2 = event 1: sent|event 2: taken|event 3: taken|event 4: ready 0|event 5: ready 0|event 6: committed 1|event 7: stale 0 1|device 208930000000001 messages 1 steps 2|down 1 1 authentication|subscriber 1 vectors|session authenticating link 1/1 area 02f839 1 bearer none radio 0
+replay = [subscribers]|row|[trace]|1 attach|[schedule]|send 1 1|take 1 1 1|read 1|write 1|stop 1|send 1 1|take 2 1 1|read 2|reply 1 1|reply 1 1 = event 1: sent|event 2: taken|event 3: ready 0|event 4: committed 1|event 5: stopped|event 6: sent|event 7: taken|event 8: repeat 1|event 9: acked 1|event 10: old 1|device 208930000000001 messages 1 steps 2|down 1 1 authentication|subscriber 1 vectors|session authenticating link 1/1 area 02f839 1 bearer none radio 0
+replay = [subscribers]|row|[trace]|1 attach|1 response|[schedule]|send 1 2|take 1 1 2|read 1|send 1 1|take 2 1 1|read 2|write 2|read 1|write 1 = event 1: sent|event 2: taken|event 3: ahead 0|event 4: sent|event 5: taken|event 6: ready 0|event 7: committed 1|event 8: waiting subscriber 1|event 9: void hand|device 208930000000001 messages 2 steps 3|down 1 1 authentication|down 2 1 security|subscriber 1 vectors|session securing link 1/1 area 02f839 1 bearer none radio 0
+replay = [subscribers]|row|[trace]|1 attach|[schedule]|send 1 1|take 1 1 1|take 2 1 1|read 1|read 2|write 1|write 2|push 1 subscriber 1|effect 1 subscriber 1|effect 1 subscriber 1|effect 1 subscriber 1|answer 1 1 subscriber 1|read 1|write 1|answer 2 1 subscriber 1|read 2|settle 1 subscriber 1|settle 1 subscriber 1|push 1 subscriber 1 = event 1: sent|event 2: taken|event 3: taken|event 4: ready 0|event 5: ready 0|event 6: committed 1|event 7: stale 0 1|event 8: pushed|event 9: accepted 1|event 10: repeat 1|event 11: repeat 1|event 12: taken|event 13: ready 1|event 14: committed 2|event 15: taken|event 16: old subscriber 1|event 17: settled 1|event 18: old 1|event 19: void outbox|device 208930000000001 messages 1 steps 2|down 1 1 authentication|subscriber 1 vectors|session authenticating link 1/1 area 02f839 1 bearer none radio 0
+replay = [subscribers]|row|[trace]|1 service|1 service|1 service|1 service|1 service|[schedule]|send 1 1|take 1 1 1|read 1|write 1|send 1 2|take 1 1 2|read 1|write 1|send 1 3|take 1 1 3|read 1|write 1|send 1 4|take 1 1 4|read 1|write 1|reply 1 1|send 1 5|take 1 1 5|read 1|write 1|take 2 1 1|read 2|take 2 1 2|read 2|send 1 6 = event 1: sent|event 2: taken|event 3: ready 0|event 4: committed 1|event 5: sent|event 6: taken|event 7: ready 1|event 8: committed 2|event 9: sent|event 10: taken|event 11: ready 2|event 12: committed 3|event 13: sent|event 14: taken|event 15: ready 3|event 16: committed 4|event 17: acked 1|event 18: sent|event 19: taken|event 20: ready 4|event 21: committed 5|event 22: taken|event 23: settled 1|event 24: taken|event 25: repeat 2|event 26: void window|device 208930000000001 messages 5 steps 5|down 1 1 reject|down 2 1 reject|down 3 1 reject|down 4 1 reject|down 5 1 reject|session detached link off area 000000 0 bearer none radio 0
+replay = [subscribers]|row|[trace]|1 attach|1 response|1 secured|1 done|1 capability|1 complete = device 208930000000001 messages 6 steps 10|down 1 1 authentication|down 2 1 security|down 3 1 setup|gateway 1 create|gateway 2 modify c0a80002 2|subscriber 1 vectors|subscriber 2 location|session connected link 1/1 area 02f839 1 bearer active radio 2
+replay --replicas=1 = [subscribers]|row|[trace]|1 attach|[schedule]|stop 2|write 1|push 1 down 1|take 1 1 1|effect 1 down 1 = event 1: void replica|event 2: void hand|event 3: void outbox|event 4: void link|event 5: void link|device 208930000000001 messages 1 steps 2|down 1 1 authentication|subscriber 1 vectors|session authenticating link 1/1 area 02f839 1 bearer none radio 0
+replay = [subscribers]|row|[trace]|1 attach|1 response|1 secured|1 done|1 capability|1 complete|[schedule]|send 1 1|take 1 1 1|read 1|write 1|push 1 subscriber 1|effect 1 subscriber 1|answer 1 1 subscriber 1|read 1|write 1|send 1 2|take 1 1 2|read 1|write 1|send 1 3|take 1 1 3|read 1|write 1|push 1 subscriber 2|effect 1 subscriber 2|answer 1 1 subscriber 2|read 1|write 1|effect 1 gateway 2|push 1 gateway 1|effect 1 gateway 1|effect 1 gateway 1|answer 1 1 gateway 1|read 1|write 1|send 1 4|take 1 1 4|read 1|write 1|reply 1 4|send 1 5|take 1 1 5|read 1|write 1|send 1 6|take 1 1 6|read 1|write 1|push 1 gateway 2|effect 1 gateway 2|answer 1 1 gateway 2|read 1|write 1 = event 1: sent|event 2: taken|event 3: ready 0|event 4: committed 1|event 5: pushed|event 6: accepted 1|event 7: taken|event 8: ready 1|event 9: committed 2|event 10: sent|event 11: taken|event 12: ready 2|event 13: committed 3|event 14: sent|event 15: taken|event 16: ready 3|event 17: committed 4|event 18: pushed|event 19: accepted 2|event 20: taken|event 21: ready 4|event 22: committed 5|event 23: void link|event 24: pushed|event 25: accepted 1|event 26: repeat 1|event 27: taken|event 28: ready 5|event 29: committed 6|event 30: sent|event 31: taken|event 32: ready 6|event 33: committed 7|event 34: acked 4|event 35: sent|event 36: taken|event 37: ready 7|event 38: committed 8|event 39: sent|event 40: taken|event 41: ready 8|event 42: committed 9|event 43: pushed|event 44: accepted 2|event 45: taken|event 46: ready 9|event 47: committed 10|device 208930000000001 messages 6 steps 10|down 1 1 authentication|down 2 1 security|down 3 1 setup|gateway 1 create|gateway 2 modify c0a80002 2|subscriber 1 vectors|subscriber 2 location|session connected link 1/1 area 02f839 1 bearer active radio 2
+replay = [trace]|1 attach|[schedule]|stop 17 = echo: case refused 26 BadLine line 4
 show = [subscribers]|row|[trace]|1 attach = line 4 InitialUEMessage attach
 show = [trace]|1 attach = line 2 InitialUEMessage attach
 show = [trace]|1 request|1 no-cause = line 2 UEContextReleaseRequest request|line 3 refused 11 MissingIe 2 at 19
@@ -178,17 +187,19 @@ fn lines(alloc: Global, bars: &str) -> Result<String, AllocError> {
     Ok(text)
 }
 
-/// What a run over a text answers, with these words and plans, and the sink after it.
+/// What a run over a text answers, with these plans, and the sink after it. A space parts the words, and an empty line has none.
 fn run(
     alloc: Global,
-    words: &[&str],
+    words: &str,
     text: &str,
     reads: &[Give],
     writes: &[Give],
 ) -> Result<(Status, MemSink), AllocError> {
     let mut all = Vec::new(alloc);
-    for word in words {
-        all.push(String::from_str(alloc, word)?)?;
+    if !words.is_empty() {
+        for word in words.split(' ') {
+            all.push(String::from_str(alloc, word)?)?;
+        }
     }
     let mut input = MemSource::new(
         Vec::from_slice(alloc, text.as_bytes())?,
@@ -203,10 +214,10 @@ fn run(
 fn cases_give_their_texts(rt: HostRuntime) -> Result<(), Fail> {
     let alloc = rt.alloc();
     for case in CASES.lines() {
-        if let Some((word, rest)) = case.split_once(" = ") {
+        if let Some((words, rest)) = case.split_once(" = ") {
             if let Some((text, wanted)) = rest.split_once(" = ") {
                 let text = lines(alloc, text)?;
-                let (status, out) = run(alloc, &[word], text.as_str(), &[], &[])?;
+                let (status, out) = run(alloc, words, text.as_str(), &[], &[])?;
                 if status == Status::Done {
                     assert_eq!(rt; out.held(), lines(alloc, wanted)?.as_bytes(), "for {case}");
                 } else {
@@ -217,7 +228,7 @@ fn cases_give_their_texts(rt: HostRuntime) -> Result<(), Fail> {
             }
         }
     }
-    let (status, out) = run(alloc, &["plain"], "", &[], &[])?;
+    let (status, out) = run(alloc, "plain", "", &[], &[])?;
     assert_eq!(rt; status, Status::Done);
     assert!(rt; out.held().is_empty());
     Ok(())
@@ -233,7 +244,7 @@ fn traces_give_their_ends(rt: HostRuntime) -> Result<(), Fail> {
                 let octets = named(name);
                 writeln!(text, "1 {octets}")?;
             }
-            let (status, out) = run(alloc, &["plain"], text.as_str(), &[], &[])?;
+            let (status, out) = run(alloc, "plain", text.as_str(), &[], &[])?;
             assert_eq!(rt; status, Status::Done);
             assert_eq!(rt; out.held(), lines(alloc, wanted)?.as_bytes(), "for {names}");
         }
@@ -250,51 +261,149 @@ fn full_table(rt: HostRuntime) -> Result<(), Fail> {
     for i in 0..4097u32 {
         writeln!(text, "{{\"imsi\":\"{i:015}\",\"tmsi\":{i},\"rand{columns}")?;
     }
-    let (status, _) = run(alloc, &["show"], text.as_str(), &[], &[])?;
+    let (status, _) = run(alloc, "show", text.as_str(), &[], &[])?;
     let (number, line) = (24, 4098);
     assert_eq!(rt; status, Status::CaseRefused { number, line });
     Ok(())
 }
 
+/// Words that are no command, a line each. The first line has none.
+const USAGES: &str = "
+ plain
+Plain
+--plain
+plain plain
+plain --replicas=2
+show --text
+show --replicas 2
+make
+run
+load
+--replicas=2 replay
+replay plain
+replay 2
+replay -2
+replay replicas=2
+replay -replicas=2
+replay --replica=2
+replay --replicas2
+replay --Replicas=2
+replay --
+replay -- --replicas=2
+replay --=2
+replay --help
+replay --version
+replay --text
+replay --workers=2
+replay --replicas
+replay --replicas=
+replay --replicas=0
+replay --replicas 0
+replay --replicas=17
+replay --replicas 17
+replay --replicas==2
+replay --replicas=+2
+replay --replicas -2
+replay --replicas=2x
+replay --replicas=0x2
+replay --replicas=2.0
+replay --replicas=4294967298
+replay --replicas=9999999999
+replay --replicas=00000000002
+replay --replicas 00000000002
+replay --replicas=2 --
+replay --replicas=2 2
+replay --replicas 2 2
+replay --replicas = 2
+replay --replicas=2 --replicas=2
+replay --replicas 2 --replicas 2
+replay --replicas --replicas=2
+";
+
+/// Words of `replay`, and how many replicas there are.
+const REPLICAS: &str = "\
+replay: 2
+replay --replicas=1: 1
+replay --replicas 1: 1
+replay --replicas=2: 2
+replay --replicas 3: 3
+replay --replicas=16: 16
+replay --replicas 16: 16
+replay --replicas=02: 2
+replay --replicas 0000000009: 9
+replay --replicas=0000000010: 10
+";
+
+/// A case with an event for each replica that there may be, and what is written where there are so many.
+fn stops(alloc: Global, replicas: u32) -> Result<(String, String), AllocError> {
+    let mut text = lines(alloc, "[subscribers]|row|[schedule]")?;
+    let mut wanted = String::new(alloc);
+    for r in 1..=16u32 {
+        let answer = if r <= replicas {
+            "stopped"
+        } else {
+            "void replica"
+        };
+        writeln!(text, "stop {r}")?;
+        writeln!(wanted, "event {r}: {answer}")?;
+    }
+    put_line(&mut wanted, "device 208930000000001 messages 0 steps 0")?;
+    put_line(
+        &mut wanted,
+        "session detached link off area 000000 0 bearer none radio 0",
+    )?;
+    Ok((text, wanted))
+}
+
 #[test]
-fn words_and_faults(rt: HostRuntime) -> Result<(), Fail> {
+fn words_give_replicas(rt: HostRuntime) -> Result<(), Fail> {
+    let alloc = rt.alloc();
+    for line in REPLICAS.lines() {
+        if let Some((words, replicas)) = line.split_once(": ") {
+            let (text, wanted) = stops(alloc, replicas.parse::<u32>().unwrap_or(0))?;
+            let (status, out) = run(alloc, words, text.as_str(), &[], &[])?;
+            assert_eq!(rt; status, Status::Done, "for {words}");
+            assert_eq!(rt; out.held(), wanted.as_bytes(), "for {words}");
+        }
+    }
+    Ok(())
+}
+
+#[test]
+fn other_words_are_usage(rt: HostRuntime) -> Result<(), Fail> {
+    let alloc = rt.alloc();
+    for words in USAGES.lines() {
+        let (status, out) = run(alloc, words, "", &[], &[])?;
+        assert_eq!(rt; status, Status::Usage, "for {words}");
+        assert!(rt; out.held().is_empty());
+    }
+    Ok(())
+}
+
+#[test]
+fn faults(rt: HostRuntime) -> Result<(), Fail> {
     let alloc = rt.alloc();
     let text = lines(alloc, "[subscribers]|row|[trace]|1 service")?;
     let text = text.as_str();
-    let usages: [&[&str]; 7] = [
-        &[],
-        &[""],
-        &["Plain"],
-        &["--plain"],
-        &["plain", "plain"],
-        &["show", "--text"],
-        &["replay"],
-    ];
-    for words in usages {
-        let (status, out) = run(alloc, words, text, &[], &[])?;
-        assert_eq!(rt; status, Status::Usage);
-        assert!(rt; out.held().is_empty());
-    }
-
     // a source that gives one piece and fails, and one that fails behind all of the text
     for reads in [
         [Give::Piece(64), Give::Fail],
         [Give::Piece(4096), Give::Fail],
     ] {
-        let (status, out) = run(alloc, &["plain"], text, &reads, &[])?;
+        let (status, out) = run(alloc, "plain", text, &reads, &[])?;
         assert_eq!(rt; status, Status::ReadFault);
         assert!(rt; out.held().is_empty());
     }
 
     // a sink that takes ten octets and fails
     let writes = [Give::Piece(10), Give::Fail];
-    let (status, out) = run(alloc, &["plain"], text, &[], &writes)?;
+    let (status, out) = run(alloc, "plain", text, &[], &writes)?;
     assert_eq!(rt; status, Status::WriteFault);
     assert_eq!(rt; out.held(), "device 208".as_bytes());
 
     // small pieces both ways
     let pieces = [Give::Piece(1), Give::Piece(0), Give::Piece(7)];
-    let (status, out) = run(alloc, &["show"], text, &pieces, &pieces)?;
+    let (status, out) = run(alloc, "show", text, &pieces, &pieces)?;
     assert_eq!(rt; status, Status::Done);
     let wanted = lines(alloc, "line 4 InitialUEMessage service")?;
     assert_eq!(rt; out.held(), wanted.as_bytes());

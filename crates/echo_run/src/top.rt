@@ -14,8 +14,9 @@ use std::alloc::Global;
 const MOST_OCTETS: usize = 67_108_864;
 
 /// Reads a case text from the source, and writes what the command makes of it to the sink. The command is the words, without the
-/// program's name. `plain` tells which lines of the trace are refused, and what becomes of the devices, whose calls are answered at
-/// once. `show` tells what the lines of the trace are.
+/// program's name: `plain`, `show`, or `replay`, which may have the option `--replicas`, 1 to 16, and else has two. `plain` tells which
+/// lines of the trace are refused, and what becomes of the devices, whose calls are answered at once. `replay` first tells what each
+/// event of the schedule comes to with so many replicas. `show` tells what the lines of the trace are.
 ///
 /// The statuses, in the order in which they are found: `Usage`, before anything is read; `ReadFault`, where the source failed;
 /// `CaseRefused` with the number 6 (TooLong) and the line 0 for more than 67,108,864 octets, and with the number of the reason and
