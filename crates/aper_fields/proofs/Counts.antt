@@ -84,6 +84,23 @@ octet_count_is n c fits some holds needs =
     let le : n ≤ n = omega arith in
     omega (arith, needed_le n n (octet_count n) c le o.needs some holds, needed_le n n c (octet_count n) le needs o.some o.holds)
 
+-- a count that holds a number is no less
+pub octet_count_le : (n k : ℕ) → n < 2 ^ 64 → 1 ≤ k → n < 2 ^ (8 * k) → octet_count n ≤ k
+octet_count_le n k fits some holds = needed_le n n (octet_count n) k (omega arith) (IsLeastCount-octet_count n fits).needs some holds
+
+pub octet_count_back : (n k : ℕ) → n < 2 ^ 64 → octet_count n ≤ k → n < 2 ^ (8 * k)
+octet_count_back n k fits le =
+    let more : 8 * octet_count n ≤ 8 * k = omega (arith, le) in
+    omega (arith, octet_count_holds n fits, pow_mono more)
+
+-- of several octets the first is not 0
+pub octet_count_first : (n : ℕ) → n < 2 ^ 64 → (octet_count n ≡ 1) ⊎ (0 < n / 2 ^ (8 * (octet_count n - 1)))
+octet_count_first n fits =
+    elim (IsLeastCount-octet_count n fits).needs [
+      | inl one ↦ inl one
+      | inr low ↦ inr (le-div 1 n (2 ^ (8 * (octet_count n - 1))) (pow_pos (8 * (octet_count n - 1))) (omega (arith, low)))
+    ]
+
 pub octet_count_mono : (n top : ℕ) → n ≤ top → top < 2 ^ 64 → octet_count n ≤ octet_count top
 octet_count_mono n top le fits =
     let o = IsLeastCount-octet_count top fits in

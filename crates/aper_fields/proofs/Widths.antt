@@ -26,7 +26,11 @@ width_holds n fits =
     let w : width n ≡ t.0 = omega (arith, t.1) in
     rw w t.2
 
--- so does a smaller one
+-- so does it a greater one
+pub width_back : (n k : ℕ) → n < 2 ^ 64 → width n ≤ k → n < 2 ^ k
+width_back n k fits le = omega (arith, width_holds n fits, pow_mono le)
+
+-- a smaller number fits too
 pub width_covers : (top a : ℕ) → top < 2 ^ 64 → a ≤ top → a < 2 ^ width top
 width_covers top a fits le = omega (arith, width_holds top fits, le)
 

@@ -7,7 +7,7 @@ use Rattle.echo_base.specs.declared.refusal.Refusal.{Refusal}
 use Rattle.aper_fields.specs.declared.enumerated.EnumValue.{EnumValue}
 use Rattle.aper_fields.specs.Bits.{zeros, gap}
 use Rattle.aper_fields.specs.Reading.{Input, Read, refusal, width, open_at}
-use Rattle.aper_fields.specs.Run.{Run, octet_count, length_run, open_run, content_of}
+use Rattle.aper_fields.specs.Run.{Run, octet_count, length_run, open_run, content_of, closing}
 use Rattle.aper_fields.specs.Spelling.{Piece, Then, Just, Bits, Padding, Number, LengthOctets, Length, OctetsOf, FixedOctets, OctetString, FixedBits, Enumerated, Octets, Contained, IsExact}
 
 pub record Format (A : Type 0) : Type 1 where
@@ -186,9 +186,21 @@ EndRefuses i e = padding_in.Refuses i e ⊎ ((u : Unit {0}) × (j : Input) × St
 abbrev pub EndsExactly : Result (Unit {0}) Refusal → Input → Type 0
 EndsExactly result i = MatchResult result (λ _. i.left ≡ zeros (gap i.offset)) (EndRefuses i) × (i.left ≡ zeros (gap i.offset) → result ≡ Ok tt) × ((e : Refusal) → EndRefuses i e → result ≡ Err e)
 
+-- an octet of zeros, which stands for a value of no bits
+abbrev pub empty_in : Format ℕ
+empty_in = passing (λ octet. octet == 0) reasons.NonZeroPadding (bits_in 8)
+
+-- the end of a container is refused behind what was read of it; where that is nothing, for the octet of zeros too
+abbrev pub CloseRefuses : Input → Input → Refusal → Type 0
+CloseRefuses content i e = MatchBool (i.offset == content.offset) (empty_in.Refuses i e ⊎ ((octet : ℕ) × (j : Input) × Stands empty_in i octet j × EndRefuses j e)) (EndRefuses i e)
+
+-- what closing a container gives exactly: Ok where only the zeros that end it are left, else the refusal that is due
+abbrev pub ClosesExactly : Result (Unit {0}) Refusal → Input → Input → Type 0
+ClosesExactly result content i = MatchResult result (λ _. i.left ≡ zeros (closing content.offset i.offset)) (CloseRefuses content i) × (i.left ≡ zeros (closing content.offset i.offset) → result ≡ Ok tt) × ((e : Refusal) → CloseRefuses content i e → result ≡ Err e)
+
 -- a container is refused where its value is, or where it does not end behind it
 abbrev pub WholeRefuses : {A : Type 0} → Format A → Input → Refusal → Type 0
-WholeRefuses F content e = F.Refuses content e ⊎ ((v : _) × (j : Input) × Stands F content v j × EndRefuses j e)
+WholeRefuses F content e = F.Refuses content e ⊎ ((v : _) × (j : Input) × Stands F content v j × CloseRefuses content j e)
 
 -- an open type that contains a value
 abbrev pub contained_in : {A : Type 0} → Format A → Format A

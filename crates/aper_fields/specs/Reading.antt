@@ -143,11 +143,23 @@ end_at i = do
   padded ← padding_at i
   if length padded.1.left == 0 then Ok (tt, i) else refuse reasons.TrailingBytes padded.1
 
+-- a value of no bits
+abbrev pub nothing_at : Input → Read (Unit {0})
+nothing_at i = Ok (tt, i)
+
+-- an octet of zeros
+unfoldable pub empty_at : Input → Read ℕ
+empty_at i = bits_at 8 i >>= λ octet. if octet.0 == 0 then Ok octet else refuse reasons.NonZeroPadding i
+
+-- the end of a container behind what was read of it; where that is nothing, an octet of zeros stands before the end
+unfoldable pub close_at : Input → Input → Result (Unit {0}) Refusal
+close_at content i = if i.offset == content.offset then (empty_at i >>= λ octet. end_at octet.1 >>= λ end. Ok tt) else (end_at i >>= λ end. Ok tt)
+
 -- all of a container is a value
 unfoldable pub whole_at : {A : Type 0} → (Input → Read A) → Input → Result A Refusal
 whole_at read content = do
   v ← read content
-  end ← end_at v.1
+  end ← close_at content v.1
   Ok v.0
 
 -- an open type that contains a value

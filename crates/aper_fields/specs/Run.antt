@@ -69,6 +69,10 @@ enumerated_run roots extensible v = if v.extended then bits_run 1 1 ▸ bits_run
 abbrev pub content_of : List Bool → List Bool
 content_of body = if length body == 0 then zeros 8 else filled body
 
+-- How many zeros end a container in which a value stands from the one offset to the other: up to the next octet; in place of a value of no bits stands an octet of them.
+abbrev pub closing : ℕ → ℕ → ℕ
+closing start end = if end == start then 8 + gap (end + 8) else gap end
+
 -- an open type: the count of its octets, and the octets
 unfoldable pub open_run : List Bool → Run
 open_run body = length_run (length (content_of body) / 8) ▸ λ at. content_of body

@@ -2,9 +2,9 @@
 use Rattle.std.specs.Prelude.{◌≡◌, ℕ, ◌+◌, ◌*◌, ◌^◌, ◌<◌, ◌≤◌, MatchBool, Bool, true, List, [], ◌++◌, length, Ok}
 use Rattle.std.specs.List.{AllByRecursion}
 use Rattle.aper_fields.specs.declared.enumerated.EnumValue.{EnumValue}
-use Rattle.aper_fields.specs.Bits.{bits_of, zeros, gap}
+use Rattle.aper_fields.specs.Bits.{bits_of, zeros}
 use Rattle.aper_fields.specs.Reading.{Input, Read}
-use Rattle.aper_fields.specs.Run.{Run, bits_run, padding_run, number_run, length_octets, length_run, fixed_octets_run, octet_string_run, fixed_bits_run, enumerated_run}
+use Rattle.aper_fields.specs.Run.{Run, bits_run, padding_run, number_run, length_octets, length_run, fixed_octets_run, octet_string_run, fixed_bits_run, enumerated_run, closing}
 
 -- which runs of bits spell a value at an offset
 abbrev pub Piece : Type 0 → Type 1
@@ -68,9 +68,9 @@ Octets n at content run = (content.offset ≡ at) × (length content.left ≡ 8 
 abbrev pub Open : Piece Input
 Open = Then Padding (λ _. Then LengthOctets Octets)
 
--- all of the content spells a value, but for the zeros behind it
+-- All of the content spells a value, but for the zeros that end it.
 abbrev pub Holds : {A : Type 0} → Piece A → Input → A → Type 0
-Holds P content v = (run : List Bool) × P content.offset v run × (content.left ≡ run ++ zeros (gap (content.offset + length run)))
+Holds P content v = (run : List Bool) × P content.offset v run × (content.left ≡ run ++ zeros (closing content.offset (content.offset + length run)))
 
 -- an open type that contains a value
 abbrev pub Contained : {A : Type 0} → Piece A → Piece A

@@ -1,9 +1,9 @@
 //! Laws of the pieces, as clauses of functions that do nothing.
 
-ghost use Rattle.std.specs.Prelude.{ℕ, Bool, List, length, ◌+◌, ◌*◌, ◌^◌, ◌<◌, ◌≤◌};
+ghost use Rattle.std.specs.Prelude.{◌≡◌, ◌⊎◌, ◌↔◌, ℕ, Bool, List, [], length, ◌+◌, ◌-◌, ◌*◌, ◌/◌, ◌^◌, ◌<◌, ◌≤◌};
 ghost use Rattle.aper_fields.specs.declared.enumerated.EnumValue.{EnumValue};
-ghost use Rattle.aper_fields.specs.Reading.{number_at, length_at, fixed_octets_at, octet_string_at, fixed_bits_at, enumerated_at};
-ghost use Rattle.aper_fields.specs.Run.{number_run, length_run, fixed_octets_run, octet_string_run, fixed_bits_run, enumerated_run, content_of};
+ghost use Rattle.aper_fields.specs.Reading.{width, number_at, length_at, fixed_octets_at, octet_string_at, fixed_bits_at, enumerated_at, contained_at, nothing_at};
+ghost use Rattle.aper_fields.specs.Run.{octet_count, number_run, length_run, fixed_octets_run, octet_string_run, fixed_bits_run, enumerated_run, content_of, open_run};
 ghost use Rattle.aper_fields.specs.Spelling.{IsOctets, IsEnumValue};
 ghost use Rattle.aper_fields.specs.Format.{HasOneReading, IsReadBack, IsOpenReadBack, number_in, length_in, fixed_octets_in, octet_string_in, fixed_bits_in, enumerated_in, open_in};
 
@@ -34,4 +34,15 @@ pub fn written_is_read()
         → IsEnumValue roots extensible v
         → IsReadBack (enumerated_at roots extensible) (enumerated_run roots extensible v) v }
     ensures open_types { (body : List Bool) → length (content_of body) < 8 * 2 ^ 14 → IsOpenReadBack body }
+    // An open type that is written round a value of no bits contains it.
+    ensures no_bits { IsReadBack (contained_at nothing_at) (open_run []) tt }
+{}
+
+/// The bits and the octets that a number takes are the fewest that hold it.
+pub fn least_sizes()
+    ensures bits { (n k : ℕ) → n < 2 ^ 64 → (n < 2 ^ k) ↔ (width n ≤ k) }
+    ensures octets { (n k : ℕ) → n < 2 ^ 64 → 1 ≤ k → (n < 2 ^ (8 * k)) ↔ (octet_count n ≤ k) }
+    // Of several octets the first is not 0.
+    ensures first { (n : ℕ) → n < 2 ^ 64
+        → (octet_count n ≡ 1) ⊎ (0 < n / 2 ^ (8 * (octet_count n - 1))) }
 {}

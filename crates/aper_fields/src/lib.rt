@@ -14,11 +14,12 @@ mod writer;
 mod writing;
 
 pub use enumerated::EnumValue;
-pub use laws::{one_reading, written_is_read};
+pub use laws::{least_sizes, one_reading, written_is_read};
 pub use ranged::Ranged;
 pub use reader::BitReader;
 pub use reading::{
-    end, read_bits_fixed, read_enum, read_len, read_octet_string, read_octets_fixed, read_open,
+    close, end, read_bits_fixed, read_enum, read_len, read_octet_string, read_octets_fixed,
+    read_open,
 };
 pub use writer::{BitWriter, Mark};
 pub use writing::{

@@ -20,6 +20,7 @@ pub struct Ranged<const LOW: u64, const HIGH: u64>;
 impl<const LOW: u64, const HIGH: u64> Ranged<LOW, HIGH> {
     /// Reads a number: Truncated, NonZeroPadding, NotMinimal where its first octet of several is 0, and OutOfRange
     /// above HIGH.
+    #[inline(always)]
     pub fn read(r: &mut BitReader) -> Result<u64, Refusal>
         requires order { LOW ≤ HIGH }
         requires small { HIGH < 2 ^ 63 }

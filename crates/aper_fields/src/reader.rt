@@ -1,6 +1,6 @@
 //! A place in octets that are read bit by bit.
 
-ghost use Rattle.std.specs.Prelude.{◌≡◌, ℕ, ◌+◌, ◌*◌, ◌/◌, ◌%◌, ◌^◌, ◌<◌, ◌≤◌, ◌↔◌, IsTrue, OnOk, IfOk, length, take, drop};
+ghost use Rattle.std.specs.Prelude.{◌≡◌, ◌==◌, ℕ, ◌+◌, ◌*◌, ◌/◌, ◌%◌, ◌^◌, ◌<◌, ◌≤◌, ◌↔◌, IsTrue, OnOk, IfOk, length, take, drop};
 ghost use Rattle.aper_fields.specs.Bits.{number_of, bits_of, octets_of, gap};
 
 use echo_base::{Reason, Refusal};
@@ -58,6 +58,7 @@ impl<'a> BitReader<'a> {
     }
 
     /// The octet of the next bit, counted from the start of the PDU.
+    #[inline(always)]
     pub fn place(&self) -> u64
         ensures { result ≡ self.now.offset / 8 }
     {
@@ -65,6 +66,7 @@ impl<'a> BitReader<'a> {
     }
 
     /// The same place once more.
+    #[inline(always)]
     pub fn ahead(&self) -> BitReader<'a>
         ensures { result ≡ self.now }
     {
@@ -76,6 +78,7 @@ impl<'a> BitReader<'a> {
     }
 
     /// The refusal of what is due here.
+    #[inline(always)]
     pub fn refusal(&self, reason: Reason) -> Refusal
         ensures { result ≡ refusal reason self.now }
     {
@@ -86,6 +89,7 @@ impl<'a> BitReader<'a> {
     }
 
     /// How many bits of the next octet are left.
+    #[inline(always)]
     fn room(&self) -> u32
         ensures { result + self.now.offset % 8 ≡ 8 }
     {
@@ -93,6 +97,7 @@ impl<'a> BitReader<'a> {
     }
 
     /// How many bits lead to the next octet.
+    #[inline(always)]
     fn gap(&self) -> u32
         ensures { result ≡ gap self.now.offset }
     {
@@ -100,6 +105,7 @@ impl<'a> BitReader<'a> {
     }
 
     /// Are that many bits left?
+    #[inline(always)]
     fn has(&self, count: u32) -> bool
         requires { count ≤ 64 }
         ensures { IsTrue result ↔ (count ≤ length self.now.left) }
@@ -108,6 +114,7 @@ impl<'a> BitReader<'a> {
     }
 
     /// Are that many octets left?
+    #[inline(always)]
     pub(crate) fn has_octets(&self, count: usize) -> bool
         requires { gap self.now.offset ≡ 0 }
         ensures { IsTrue result ↔ (8 * count ≤ length self.now.left) }
@@ -116,13 +123,22 @@ impl<'a> BitReader<'a> {
     }
 
     /// Is nothing left?
+    #[inline(always)]
     pub(crate) fn is_empty(&self) -> bool
         ensures { IsTrue result ↔ (length self.now.left ≡ 0) }
     {
         self.bytes.is_empty()
     }
 
+    /// Does the next bit stand where that of the other does?
+    pub(crate) fn is_at(&self, other: &BitReader) -> bool
+        ensures { result ≡ (self.now.offset == other.now.offset) }
+    {
+        self.place == other.place && self.used == other.used
+    }
+
     /// The next bits, all of one octet.
+    #[inline(always)]
     fn take_bits(&mut self, count: u32) -> u64
         requires in_octet { self.old.offset % 8 + count ≤ 8 }
         requires here { count ≤ length self.old.left }
@@ -147,6 +163,7 @@ impl<'a> BitReader<'a> {
 
     /// So many bits as a number, or Truncated.
     #[tactic(auto, unfolding(crate::specs::Reading::bits_at))]
+    #[inline(always)]
     pub(crate) fn read_bits(&mut self, count: u32) -> Result<u64, Refusal>
         requires { count ≤ 64 }
         ensures read { Gives result self.old self.new (bits_at count self.old) }
@@ -154,6 +171,9 @@ impl<'a> BitReader<'a> {
     {
         if !self.has(count) {
             return Err(self.refusal(Reason::Truncated));
+        }
+        if 1 <= count && count <= self.room() {
+            return Ok(self.take_bits(count));
         }
         let mut value = 0;
         let mut wanted = count;
@@ -167,6 +187,7 @@ impl<'a> BitReader<'a> {
 
     /// Passes over the zeros up to the next octet: Truncated, or NonZeroPadding.
     #[tactic(auto, unfolding(crate::specs::Reading::padding_at))]
+    #[inline(always)]
     pub(crate) fn align(&mut self) -> Result<(), Refusal>
         ensures read { Gives result self.old self.new (padding_at self.old) }
         ensures aligned { OnOk result (gap self.new.offset ≡ 0) }
@@ -180,6 +201,7 @@ impl<'a> BitReader<'a> {
     }
 
     /// The next octets, as a container of their own.
+    #[inline(always)]
     pub(crate) fn split(&mut self, count: usize) -> BitReader<'a>
         requires aligned { gap self.old.offset ≡ 0 }
         requires here { 8 * count ≤ length self.old.left }
@@ -199,6 +221,7 @@ impl<'a> BitReader<'a> {
 
     /// The next octets; where they do not fit, what stands at `start` is Truncated.
     #[tactic(auto, unfolding(crate::specs::Reading::octets_at))]
+    #[inline(always)]
     pub(crate) fn read_octets(
         &mut self,
         start: &BitReader,

@@ -3,9 +3,9 @@
 
 ghost use Rattle.std.specs.Prelude.{◌≡◌, ◌+◌, ◌-◌, ◌*◌, ◌^◌, ◌<◌, ◌≤◌, IfOk, OnOk, length, true, false};
 ghost use Rattle.aper_fields.specs.Bits.{gap};
-ghost use Rattle.aper_fields.specs.Reading.{Gives, GivesBy, width, within_at, counted_at, number_at, length_octets_at, length_at, fixed_octets_at, octet_string_at, fixed_bits_at, root_at, extended_at, enumerated_at, open_at, end_at};
+ghost use Rattle.aper_fields.specs.Reading.{Gives, GivesBy, width, within_at, counted_at, number_at, length_octets_at, length_at, fixed_octets_at, octet_string_at, fixed_bits_at, root_at, extended_at, enumerated_at, open_at, end_at, empty_at, close_at};
 ghost use Rattle.aper_fields.specs.Spelling.{IsEnumValue};
-ghost use Rattle.aper_fields.specs.Format.{ReadsExactly, ReadsExactlyBy, length_in, fixed_octets_in, octet_string_in, fixed_bits_in, enumerated_in, open_in, EndsExactly};
+ghost use Rattle.aper_fields.specs.Format.{ReadsExactly, ReadsExactlyBy, length_in, fixed_octets_in, octet_string_in, fixed_bits_in, enumerated_in, open_in, EndsExactly, ClosesExactly};
 
 use crate::enumerated::EnumValue;
 use crate::reader::BitReader;
@@ -14,6 +14,7 @@ use echo_base::{Reason, Refusal};
 
 /// `low` and a number of `count` bits, which is at most `top`.
 #[tactic(auto, unfolding(crate::specs::Reading::within_at))]
+#[inline(always)]
 fn read_within(r: &mut BitReader, low: u64, top: u64, count: u32) -> Result<u64, Refusal>
     requires fits { low + top < 2 ^ 63 }
     requires small { count ≤ 64 }
@@ -57,6 +58,7 @@ fn read_counted(r: &mut BitReader, low: u64, top: u64, most: u32) -> Result<u64,
 
 /// A whole number from `low` to `low + top`.
 #[tactic(auto, unfolding(crate::specs::Reading::number_at))]
+#[inline(always)]
 pub(crate) fn read_number(r: &mut BitReader, low: u64, top: u64) -> Result<u64, Refusal>
     requires { low + top < 2 ^ 63 }
     ensures read { Gives result r.old r.new (number_at low top r.old) }
@@ -80,6 +82,7 @@ pub(crate) fn read_number(r: &mut BitReader, low: u64, top: u64) -> Result<u64, 
 
 /// A length at the start of an octet: one octet below 128, else two that begin with the bits 10.
 #[tactic(auto, unfolding(crate::specs::Reading::length_octets_at))]
+#[inline(always)]
 fn length_octets(r: &mut BitReader) -> Result<usize, Refusal>
     ensures read { Gives result r.old r.new (length_octets_at r.old) }
     ensures small { IfOk result (λ n. n < 2 ^ 14) }
@@ -122,6 +125,7 @@ pub fn read_len(r: &mut BitReader) -> Result<usize, Refusal>
 /// Reads an octet string of the fixed size `n` above 2 (ITU-T X.691, Encoding the octetstring type): padding and
 /// the octets. NonZeroPadding, or Truncated, at the first octet where they do not fit.
 #[tactic(auto, unfolding(crate::specs::Reading::fixed_octets_at))]
+#[inline(always)]
 pub fn read_octets_fixed<'a>(r: &mut BitReader<'a>, n: usize) -> Result<&'a [u8], Refusal>
     requires { 2 < n }
     ensures read { GivesBy (λ x. x.now) result r.old r.new (fixed_octets_at n r.old) }
@@ -139,6 +143,7 @@ pub fn read_octets_fixed<'a>(r: &mut BitReader<'a>, n: usize) -> Result<&'a [u8]
 /// Reads an octet string of free size (ITU-T X.691, Encoding the octetstring type): its length and the octets. It
 /// is refused as a length is, and its length is TooLong above `most`, and Truncated where the octets do not fit.
 #[tactic(auto, unfolding(crate::specs::Reading::octet_string_at))]
+#[inline(always)]
 pub fn read_octet_string<'a>(r: &mut BitReader<'a>, most: usize) -> Result<&'a [u8], Refusal>
     ensures read { GivesBy (λ x. x.now) result r.old r.new (octet_string_at most r.old) }
     ensures exact { ReadsExactlyBy (λ x. x.now) (octet_string_in most) result r.old r.new }
@@ -159,6 +164,7 @@ pub fn read_octet_string<'a>(r: &mut BitReader<'a>, most: usize) -> Result<&'a [
 /// Reads a bit string of the fixed size `n` (ITU-T X.691, Encoding the bitstring type), the first bit highest:
 /// padding above 16 bits, and the bits. NonZeroPadding, or Truncated.
 #[tactic(auto, unfolding(crate::specs::Reading::fixed_bits_at))]
+#[inline(always)]
 pub fn read_bits_fixed(r: &mut BitReader, n: u32) -> Result<u64, Refusal>
     requires some { 1 ≤ n }
     requires most { n ≤ 64 }
@@ -177,6 +183,7 @@ pub fn read_bits_fixed(r: &mut BitReader, n: u32) -> Result<u64, Refusal>
 }
 
 /// The index of a root.
+#[inline(always)]
 fn read_root(r: &mut BitReader, roots: u32) -> Result<EnumValue, Refusal>
     requires some { 1 ≤ roots }
     requires most { roots ≤ 64 }
@@ -211,6 +218,7 @@ fn read_extended(r: &mut BitReader) -> Result<EnumValue, Refusal>
 /// mark or without: the extension bit, and the index of a root as a whole number, or a bit 0 and six bits.
 /// Truncated, or OutOfRange where the index is beyond the roots, or not one below 64 behind the extension bit.
 #[tactic(auto, unfolding(crate::specs::Reading::enumerated_at))]
+#[inline(always)]
 pub fn read_enum(r: &mut BitReader, roots: u32, extensible: bool) -> Result<EnumValue, Refusal>
     requires some { 1 ≤ roots }
     requires most { roots ≤ 64 }
@@ -234,6 +242,7 @@ pub fn read_enum(r: &mut BitReader, roots: u32, extensible: bool) -> Result<Enum
 /// Reads an open type (ITU-T X.691, Open type fields): its length, and the octets as a container of their own. It
 /// is refused as a length is, and its length is Truncated where the octets do not fit.
 #[tactic(auto, unfolding(crate::specs::Reading::open_at, crate::specs::Reading::content_at))]
+#[inline(always)]
 pub fn read_open<'a>(r: &mut BitReader<'a>) -> Result<BitReader<'a>, Refusal>
     ensures read { Gives result r.old r.new (open_at r.old) }
     ensures exact { ReadsExactly open_in result r.old r.new }
@@ -252,6 +261,7 @@ pub fn read_open<'a>(r: &mut BitReader<'a>) -> Result<BitReader<'a>, Refusal>
 
 /// The end of a container: zeros up to the next octet, else NonZeroPadding, and nothing more, else TrailingBytes.
 #[tactic(auto, unfolding(crate::specs::Reading::end_at))]
+#[inline(always)]
 pub fn end(r: &BitReader) -> Result<(), Refusal>
     ensures read { Gives result r.now r.now (end_at r.now) }
     ensures exact { EndsExactly result r.now }
@@ -261,5 +271,37 @@ pub fn end(r: &BitReader) -> Result<(), Refusal>
     if !ahead.is_empty() {
         return Err(ahead.refusal(Reason::TrailingBytes));
     }
+    Ok(())
+}
+
+/// Passes over an octet of zeros.
+#[tactic(auto, unfolding(crate::specs::Reading::empty_at))]
+fn skip_empty(r: &mut BitReader) -> Result<u64, Refusal>
+    ensures { Gives result r.old r.new (empty_at r.old) }
+{
+    let mut ahead = r.ahead();
+    let octet = ahead.read_bits(8)?;
+    if octet != 0 {
+        return Err(r.refusal(Reason::NonZeroPadding));
+    }
+    *r = ahead;
+    Ok(octet)
+}
+
+/// The end of a container behind what was read of it, as `end` gives it. A value of no bits has an octet of zeros in its
+/// place (ITU-T X.691, Complete encoding), so where nothing was read that octet is passed over first: Truncated, or
+/// NonZeroPadding.
+#[tactic(auto, unfolding(crate::specs::Reading::close_at))]
+pub fn close(content: &BitReader, r: &BitReader) -> Result<(), Refusal>
+    ensures read { result ≡ close_at content.now r.now }
+    ensures exact { ClosesExactly result content.now r.now }
+{
+    if r.is_at(content) {
+        let mut ahead = r.ahead();
+        skip_empty(&mut ahead)?;
+        end(&ahead)?;
+        return Ok(());
+    }
+    end(r)?;
     Ok(())
 }

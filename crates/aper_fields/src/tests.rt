@@ -1,8 +1,8 @@
 //! Octets worked out by hand from ITU-T X.691, and what is read from them.
 
 use crate::{
-    BitReader, EnumValue, Ranged, end, read_bits_fixed, read_enum, read_len, read_octet_string,
-    read_octets_fixed, read_open,
+    BitReader, EnumValue, Ranged, close, end, read_bits_fixed, read_enum, read_len,
+    read_octet_string, read_octets_fixed, read_open,
 };
 use echo_base::{Reason, Refusal};
 use std::test::Fail;
@@ -194,5 +194,57 @@ fn ends(rt: HostRuntime) {
         let mut r = BitReader::new(octets, BASE);
         assert!(rt; read_bits_fixed(&mut r, 1).is_ok(), "{octets:?}");
         assert_eq!(rt; end(&r), want, "{octets:?}");
+    }
+}
+
+#[test]
+fn two_octets_and_more(rt: HostRuntime) {
+    // A number of 257, in two octets, and a bit string of 17 bits, each behind one bit and so seven of padding.
+    let cases: [(&[u8], Read<u64>, Read<u64>); 4] = [
+        (b"\x80\x01\x00\x00", Ok(256), Ok(0x200)),
+        (
+            b"\x80\x01\x01\x80",
+            refused(Reason::OutOfRange, 11),
+            Ok(0x203),
+        ),
+        (b"\x80\x00\x05", Ok(5), refused(Reason::Truncated, 11)),
+        (
+            b"\xc0\x01\x00\x00",
+            refused(Reason::NonZeroPadding, 10),
+            refused(Reason::NonZeroPadding, 10),
+        ),
+    ];
+    for (octets, number, bits) in cases {
+        let mut r = BitReader::new(octets, BASE);
+        assert!(rt; read_bits_fixed(&mut r, 1).is_ok(), "{octets:?}");
+        assert_eq!(rt;
+            Ranged::<0, 256>::read(&mut r.ahead()),
+            number,
+            "{octets:?}"
+        );
+        assert_eq!(rt; read_bits_fixed(&mut r, 17), bits, "{octets:?}");
+    }
+}
+
+#[test]
+fn values_of_no_bits(rt: HostRuntime) {
+    // An open type round one: an octet 00, and what stands in its place.
+    let cases: [(&[u8], Read<()>); 4] = [
+        (b"\x01\x00", Ok(())),
+        (b"\x00", refused(Reason::Truncated, 11)),
+        (b"\x01\x01", refused(Reason::NonZeroPadding, 11)),
+        (b"\x02\x00\x00", refused(Reason::TrailingBytes, 12)),
+    ];
+    for (octets, want) in cases {
+        let mut r = BitReader::new(octets, BASE);
+        let closed = match read_open(&mut r) {
+            Ok(content) => {
+                let mut inside = content.ahead();
+                assert_eq!(rt; Ranged::<7, 7>::read(&mut inside), Ok(7), "{octets:?}");
+                close(&content, &inside)
+            }
+            Err(refusal) => Err(refusal),
+        };
+        assert_eq!(rt; closed, want, "{octets:?}");
     }
 }

@@ -1,10 +1,17 @@
 -- What follows of a sample.
-use Rattle.std.proofs.Common.{ℕ, List, [], ◌∷◌, Ok, Err, All, ◌≡◌, sym, subst}
+use Rattle.std.proofs.Common.{ℕ, ◌+◌, ◌<◌, List, [], ◌∷◌, length, Ok, Err, All, ◌≡◌, sym, subst, arith}
+use Rattle.std.proofs.lemmas.List.{length-append}
 use Rattle.std.proofs.lemmas.List.Elements.{All-append, All-from_recursion}
 use Rattle.echo_base.specs.declared.refusal.Bad.{Bad}
 use Rattle.echo_base.specs.declared.refusal.Bad.TheVariants.{Refused}
 use Rattle.echo_base.specs.declared.refusal.Refusal.{Refusal}
 use Rattle.s1ap_messages.specs.declared.pdu.Pdu.{Pdu}
+use Rattle.aper_fields.specs.Run.{Run, ◌▸◌, fixed_bits_run, number_run, open_run}
+use Rattle.aper_fields.proofs.BitLaws.{length-bits}
+use Rattle.aper_fields.proofs.Packed.{length-packed}
+use Rattle.s1ap_ies.specs.Run.{choice_run}
+use Rattle.s1ap_messages.specs.Messages.{header_of, kind_of, values_of}
+use Rattle.s1ap_messages.specs.Run.{header_run, ies_run, pdu_run, written}
 use Rattle.s1ap_messages.specs.Answer.{IsAnswer}
 use Rattle.codec_bench.specs.declared.sample.Sample.{Sample}
 use Rattle.codec_bench.specs.Sample.{IsSample, IsMore}
@@ -16,3 +23,21 @@ not_refused p _ e is answer = cc
 
 pub still_samples : (line : List ℕ) (old new : List Sample) → All IsSample old → IsMore line old new → All IsSample new
 still_samples line old new all more = subst (All IsSample) (sym more.2) (All-append IsSample old (more.0 ∷ []) all (All-from_recursion IsSample (more.0 ∷ []) (more.1.1, tt)))
+
+-- what begins with something is something
+first_some : (f g : Run) (at : ℕ) → 0 < length (f at) → 0 < length ((f ▸ g) at)
+first_some f g at h = omega (arith, h, length-append (f at) (g (at + length (f at))))
+
+bit_some : 0 < length (fixed_bits_run 1 0 0)
+unfolding fixed_bits_run
+bit_some = omega (arith, length-bits 1 0)
+
+-- a message is written in some octets
+pub written_some : (p : Pdu) → 0 < length (written p)
+unfolding written pdu_run header_run
+written_some p =
+    let header = header_of (kind_of p) in
+    let choice = first_some (fixed_bits_run 1 0) (fixed_bits_run 2 header.outcome) 0 bit_some in
+    let first = first_some (choice_run 2 header.outcome) (fixed_bits_run 5 0 ▸ number_run 0 255 header.code ▸ fixed_bits_run 2 header.criticality) 0 choice in
+    let whole = first_some (header_run header) (open_run (ies_run (kind_of p) (values_of p) 0)) 0 first in
+    omega (arith, whole, length-packed (pdu_run (kind_of p) (values_of p) 0))

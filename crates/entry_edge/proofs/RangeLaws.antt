@@ -1,5 +1,5 @@
 -- Admitted messages are in their ranges, and numbered from 1.
-use Rattle.std.proofs.Common.{◌≡◌, ℕ, ◌+◌, ◌^◌, ◌<◌, ◌≤◌, Bool, true, false, eqb, List, [], ◌∷◌, ◌++◌, length, map, fold, Option, Some, None, suc, zero, refl, sym, ap, ◌∙◌, subst, inl, inr, arith}
+use Rattle.std.proofs.Common.{◌≡◌, ℕ, ◌+◌, ◌^◌, ◌<◌, Bool, true, false, eqb, List, [], ◌∷◌, ◌++◌, length, map, fold, Option, Some, None, suc, zero, refl, sym, ap, ◌∙◌, subst, inl, inr, arith}
 use Rattle.std.specs.Prelude.{if◌then◌else◌, All, find, ◌==◌, Result, Ok, Err, IfOk, IfSome}
 use Rattle.std.specs.List.{AllByRecursion, range_with_len}
 use Rattle.std.proofs.lemmas.Bool.{cases_Bool}
@@ -12,10 +12,9 @@ use Rattle.device_types.specs.declared.subscriber.Subscriber.{Subscriber}
 use Rattle.device_types.specs.declared.subscriber.DeviceId.{DeviceId}
 use Rattle.device_types.specs.declared.message.Body.{Body}
 use Rattle.device_types.specs.declared.message.Message.{Message}
-use Rattle.device_types.specs.Line.{number_of, IsNumbered, IsLine}
+use Rattle.device_types.specs.Line.{number_of, IsLine}
 use Rattle.device_types.specs.Message.{IsBody, IsMessage}
 use Rattle.device_types.specs.Numbers.{IsWithin}
-use Rattle.device_types.specs.Octets.{AreOctets}
 use Rattle.case_form.specs.declared.case.TraceLine.{TraceLine}
 use Rattle.s1ap_ies.specs.declared.tai.Tai.{Tai}
 use Rattle.s1ap_ies.specs.declared.stmsi.Stmsi.{Stmsi}

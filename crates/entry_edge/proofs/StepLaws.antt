@@ -1,7 +1,6 @@
 -- What a line makes of the bindings and of the messages.
-use Rattle.std.proofs.Common.{◌≡◌, ◌≢◌, ℕ, Bool, true, false, ◌&&◌, eqb, List, [], ◌∷◌, ◌++◌, map, Option, Some, None, Result, Ok, Err, refl, sym, ap, ◌∙◌, inl, inr}
+use Rattle.std.proofs.Common.{◌≡◌, ◌≢◌, ℕ, Bool, true, false, ◌&&◌, eqb, List, ◌∷◌, Option, Some, None, Ok, Err, refl, sym, ap, ◌∙◌, inl, inr}
 use Rattle.std.specs.Prelude.{if◌then◌else◌}
-use Rattle.std.specs.List.{range_with_len}
 use Rattle.std.proofs.lemmas.Bool.{cases_Bool, eqb-true, eq-eqb, ne_eqb}
 use Rattle.echo_base.specs.declared.refusal.Refusal.{Refusal}
 use Rattle.device_types.specs.declared.subscriber.DeviceId.{DeviceId}
@@ -9,7 +8,7 @@ use Rattle.device_types.specs.declared.subscriber.Subscriber.{Subscriber}
 use Rattle.case_form.specs.declared.case.TraceLine.{TraceLine}
 use Rattle.entry_edge.specs.declared.check.Taken.{Taken}
 use Rattle.entry_edge.specs.declared.admission.RefusedLine.{RefusedLine}
-use Rattle.entry_edge.specs.Trace.{Turn, Admitted, Refused, Pair, pair_of, same_pair, binds, frees, left_by, opened, place, is_there, if_there, bound, taken_at, turn_of, turn, and_message, messages_of, book_of, refused_of}
+use Rattle.entry_edge.specs.Trace.{Turn, Admitted, Refused, Pair, pair_of, same_pair, binds, frees, left_by, opened, place, is_there, if_there, bound, taken_at, turn, and_message, messages_of}
 use Rattle.entry_edge.specs.Bound.{without, bound_after}
 
 -- ---- a pair and a device

@@ -1,6 +1,6 @@
 //! Admission of a trace.
 
-ghost use Rattle.std.specs.Prelude.{◌≡◌, ◌-◌, ◌∷◌, ◌++◌, [], ℕ, List, length, replicate, All, OnOk, IfOk, slice_index_or, slice_set};
+ghost use Rattle.std.specs.Prelude.{◌≡◌, ◌-◌, ◌≤◌, ◌∷◌, ◌++◌, [], ℕ, List, length, replicate, All, OnOk, IfOk, slice_index_or, slice_set};
 ghost use Rattle.device_types.specs.Line.{IsLine};
 ghost use Rattle.device_types.specs.Numbers.{IsWithin};
 ghost use Rattle.entry_edge.specs.Trace.{Turn, turn, history, and_message, book_of, refused_of};
@@ -148,6 +148,8 @@ pub fn admit(alloc: Global, table: &SubsTable, trace: &[TraceLine]) -> Result<Ad
     ensures book { IfOk result (λ a. a.book ≡ book_of (length table.now) (history table.now trace.now)) }
     ensures refused { IfOk result (λ a. a.refused.items ≡ refused_of (history table.now trace.now)) }
     ensures lines { IfOk result (λ a. All IsLine a.book) }
+    ensures rows { IfOk result (λ a. length a.book ≡ length table.now) }
+    ensures few { IfOk result (λ a. All (λ messages. length messages ≤ length trace.now) a.book) }
 {
     let mut state = begin(alloc, table)?;
     for line in trace {

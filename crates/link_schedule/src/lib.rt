@@ -18,6 +18,8 @@ mod settle;
 mod settling;
 mod stop;
 mod take;
+#[cfg(test)]
+mod tests;
 mod world;
 mod write;
 

@@ -1,15 +1,13 @@
 -- The reply that a replica makes is that of the journal.
-use Rattle.std.proofs.Common.{◌≡◌, ℕ, ◌+◌, ◌≤◌, ◌<◌, zero, suc, true, List, [], ◌∷◌, ◌++◌, length, take, Option, Some, None, refl, sym, ap, ◌∙◌, subst, arith}
+use Rattle.std.proofs.Common.{◌≡◌, ℕ, ◌+◌, zero, suc, true, List, [], ◌∷◌, ◌++◌, length, take, Some, refl, sym, ap, ◌∙◌, subst, arith}
 use Rattle.std.specs.Prelude.{◌↔◌, slice_get, IsSome}
 use Rattle.std.proofs.lemmas.List.{length-take-le}
-use Rattle.device_types.specs.declared.event.Lane.TheVariants as lane
 use Rattle.device_types.specs.declared.input.Input.{Input}
 use Rattle.device_types.specs.declared.input.Input.TheVariants as inputs
 use Rattle.device_types.specs.declared.message.Message.{Message}
 use Rattle.device_types.specs.declared.look.Look.TheVariants.{Ready}
 use Rattle.device_types.specs.declared.step.Entry.{Entry}
-use Rattle.device_types.specs.declared.step.Reply.{Reply}
-use Rattle.device_types.specs.Journal.{effects_on, is_message, taken_count, reply_to, reply_of}
+use Rattle.device_types.specs.Journal.{is_message, taken_count, reply_to, reply_of}
 use Rattle.device_types.proofs.Journals.{reply_more}
 use Rattle.replica_worker.specs.Replies.{told_by, told_of, reply_when}
 use Rattle.replica_worker.specs.Writes.{committed_reply, IsMessageCommitted}

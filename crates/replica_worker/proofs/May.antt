@@ -1,5 +1,5 @@
 -- What a replica that has read may write.
-use Rattle.std.proofs.Common.{◌≡◌, ◌==◌, ℕ, ◌+◌, ◌-◌, ◌≤◌, ◌&&◌, Bool, true, false, cond, List, [], ◌∷◌, ◌++◌, length, take, drop, Option, Some, None, refl, sym, ap, ◌∙◌, subst, arith, length-append}
+use Rattle.std.proofs.Common.{◌≡◌, ◌==◌, ℕ, ◌+◌, ◌-◌, ◌≤◌, ◌&&◌, Bool, true, false, cond, List, [], ◌∷◌, length, take, drop, Option, Some, None, refl, sym, ap, ◌∙◌, subst, arith, length-append}
 use Rattle.std.specs.Prelude.{nat_le, nat_lt, option_map, slice_get, IsSomeAnd}
 use Rattle.std.proofs.lemmas.Grind.{common_steps, flat_map-append}
 use Rattle.std.proofs.lemmas.List.{take-append-le, take-append-drop, take_all, length-take}
@@ -16,7 +16,7 @@ use Rattle.device_types.specs.declared.message.Message.{Message}
 use Rattle.device_types.specs.declared.step.Entry.{Entry}
 use Rattle.device_types.specs.declared.subscriber.DeviceId.{DeviceId}
 use Rattle.device_types.specs.declared.subscriber.Subscriber.{Subscriber}
-use Rattle.device_types.specs.Alone.{input_at, next_input, next_entry, entry_of, alone_to, alone_of}
+use Rattle.device_types.specs.Alone.{input_at, next_input, entry_of, alone_to, alone_of}
 use Rattle.device_types.specs.Awaited.{awaited_by, lane_of}
 use Rattle.device_types.specs.Journal.{version_of, session_of, effects_on, effects_of, pushed_count, taken_count, awaited_call}
 use Rattle.device_types.specs.Look.{unless_awaited, same_lane, is_call}
@@ -26,10 +26,10 @@ use Rattle.device_types.proofs.Prefixes.{is_alone, prefix}
 use Rattle.replica_worker.specs.declared.hand.Hand.{Hand}
 use Rattle.replica_worker.specs.declared.hand.Hand.TheVariants as hands
 use Rattle.replica_worker.specs.Hands.{CanBeRead, step_at, hand_of, hand_after}
-use Rattle.replica_worker.specs.Writes.{IsOwnInput, IsOwn, OwnsHeld, CanWrite, MayWrite}
+use Rattle.replica_worker.specs.Writes.{IsOwnInput, IsOwn, OwnsHeld, MayWrite}
 use Rattle.session_store.specs.declared.asked.Asked.{Asked}
 use Rattle.session_store.specs.AloneLaw.{lawful_is_alone}
-use Rattle.session_store.specs.Charter.{CharterState, alone_with, alone_in, follows_alone}
+use Rattle.session_store.specs.Charter.{CharterState, alone_with, follows_alone}
 use Rattle.session_store.specs.Law.{window, IsLawful}
 use Rattle.session_store.specs.Rows.{IsDevice, Begins}
 use Rattle.session_store.specs.Seen.{IsAsked, asked_of, look_to}

@@ -1,5 +1,5 @@
 -- The reply to a message, made before its step is committed.
-use Rattle.std.specs.Prelude.{ℕ, List, Option, Some, None}
+use Rattle.std.specs.Prelude.{Option, Some, None}
 use Rattle.device_types.specs.declared.event.Lane.TheVariants as lane
 use Rattle.device_types.specs.declared.input.Input.{Input}
 use Rattle.device_types.specs.declared.input.Input.TheVariants as inputs
@@ -7,10 +7,10 @@ use Rattle.device_types.specs.declared.step.Entry.{Entry}
 use Rattle.device_types.specs.declared.step.Reply.{Reply}
 use Rattle.device_types.specs.Journal.{effects_on}
 use Rattle.replica_worker.specs.declared.hand.Hand.{Hand}
-use Rattle.replica_worker.specs.declared.hand.Hand.TheVariants.{Empty, Taken, Ready}
+use Rattle.replica_worker.specs.declared.hand.Hand.TheVariants.{Ready}
 use Rattle.replica_worker.specs.declared.replies.Told.{Told}
 use Rattle.session_row.specs.declared.commit.Commit.{Commit}
-use Rattle.session_row.specs.declared.commit.Commit.TheVariants.{Committed, Stale}
+use Rattle.session_row.specs.declared.commit.Commit.TheVariants.{Committed}
 
 -- what the device is told of the entry, if it is one of a message
 abbrev pub told_by : Input → Entry → Option Told

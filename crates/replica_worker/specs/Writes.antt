@@ -11,9 +11,9 @@ use Rattle.device_types.specs.Alone.{alone_of}
 use Rattle.device_types.specs.Journal.{effects_of, reply_of}
 use Rattle.device_types.specs.PeerAnswer.{answer_of}
 use Rattle.replica_worker.specs.declared.hand.Hand.{Hand}
-use Rattle.replica_worker.specs.declared.hand.Hand.TheVariants.{Empty, Taken, Ready}
+use Rattle.replica_worker.specs.declared.hand.Hand.TheVariants.{Ready}
 use Rattle.session_row.specs.declared.commit.Commit.{Commit}
-use Rattle.session_row.specs.declared.commit.Commit.TheVariants.{Committed, Stale}
+use Rattle.session_row.specs.declared.commit.Commit.TheVariants.{Committed}
 use Rattle.session_store.specs.Charter.{CharterState, follows_alone}
 use Rattle.session_store.specs.Rows.{IsDevice, IsKnownAfter}
 

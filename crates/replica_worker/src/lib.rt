@@ -5,6 +5,8 @@ mod hand;
 mod laws;
 mod replica;
 mod replies;
+#[cfg(test)]
+mod tests;
 
 pub use hand::Hand;
 pub use laws::more_known_keeps;

@@ -4,4 +4,5 @@ pub mod Lines
 pub mod Session
 pub mod Show
 pub mod Status
+pub mod Summary
 pub mod Transcript

@@ -5,6 +5,9 @@ mod device;
 mod session;
 mod show;
 mod status;
+mod summary;
+#[cfg(test)]
+mod summary_tests;
 #[cfg(test)]
 mod tests;
 mod transcript;
@@ -15,4 +18,5 @@ mod whole;
 pub use show::show_text;
 pub use status::status_line;
 pub use transcript::transcript_line;
+pub use summary::{Scheduled, Summary, summary_line};
 pub use whole::final_text;

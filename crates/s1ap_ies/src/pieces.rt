@@ -14,6 +14,7 @@ use echo_base::{OutOfMemory, Reason, Refusal};
 
 /// Reads the bit.
 #[tactic(auto, unfolding(crate::specs::Reading::zero_bit_at))]
+#[inline(always)]
 fn zero_bit(r: &mut BitReader, reason: Reason) -> Result<u64, Refusal>
     ensures { Gives result r.old r.new (zero_bit_at reason r.old) }
 {
@@ -28,6 +29,7 @@ fn zero_bit(r: &mut BitReader, reason: Reason) -> Result<u64, Refusal>
 
 /// Reads a bit that has to be 0, as an extension bit has. It is refused as Truncated where it is not there, and for that
 /// reason where it is 1.
+#[inline(always)]
 pub fn read_zero_bit(r: &mut BitReader, reason: Reason) -> Result<u64, Refusal>
     ensures read { Gives result r.old r.new (zero_bit_at reason r.old) }
     ensures exact { ReadsExactly (zero_bit_in reason) result r.old r.new }
@@ -37,6 +39,7 @@ pub fn read_zero_bit(r: &mut BitReader, reason: Reason) -> Result<u64, Refusal>
 
 /// Reads the two bits.
 #[tactic(auto, unfolding(crate::specs::Reading::criticality_at))]
+#[inline(always)]
 fn criticality(r: &mut BitReader) -> Result<u64, Refusal>
     ensures { Gives result r.old r.new (criticality_at r.old) }
 {
@@ -51,6 +54,7 @@ fn criticality(r: &mut BitReader) -> Result<u64, Refusal>
 
 /// Reads a criticality (TS 36.413, 9.3): 0 reject, 1 ignore, 2 notify. It is refused as Truncated, and as BadCriticality where
 /// the two bits are 3.
+#[inline(always)]
 pub fn read_criticality(r: &mut BitReader) -> Result<u64, Refusal>
     ensures read { Gives result r.old r.new (criticality_at r.old) }
     ensures exact { ReadsExactly criticality_in result r.old r.new }
@@ -60,6 +64,7 @@ pub fn read_criticality(r: &mut BitReader) -> Result<u64, Refusal>
 
 /// Reads the bit of an extension and the index.
 #[tactic(auto, unfolding(crate::specs::Reading::choice_at))]
+#[inline(always)]
 fn choice(r: &mut BitReader, roots: u64, count: u32) -> Result<u64, Refusal>
     requires some { 1 ≤ count }
     requires small { count ≤ 64 }
@@ -79,6 +84,7 @@ fn choice(r: &mut BitReader, roots: u64, count: u32) -> Result<u64, Refusal>
 
 /// Reads the index of a CHOICE of so many roots, with an extension mark, in so many bits (ITU-T X.691, 23). It is refused as
 /// Truncated, and as BadChoice where the bit of an extension is 1, at that bit, or where the index is that of no root, at the index.
+#[inline(always)]
 pub fn read_choice(r: &mut BitReader, roots: u64, count: u32) -> Result<u64, Refusal>
     requires some { 1 ≤ count }
     requires small { count ≤ 64 }

@@ -13,6 +13,7 @@ use echo_base::{OutOfMemory, Reason, Refusal};
 
 /// Reads the bits before the fields: the extension bit, which has to be 0, and whether there are iE-Extensions.
 #[tactic(auto, unfolding(crate::specs::Reading::preamble_at))]
+#[inline(always)]
 pub fn read_preamble(r: &mut BitReader) -> Result<bool, Refusal>
     ensures { Gives result r.old r.new (preamble_at r.old) }
 {
@@ -25,6 +26,7 @@ pub fn read_preamble(r: &mut BitReader) -> Result<bool, Refusal>
 
 /// Reads a bit that says whether an optional part is there.
 #[tactic(auto, unfolding(crate::specs::Reading::present_at))]
+#[inline(always)]
 pub fn read_present(r: &mut BitReader) -> Result<bool, Refusal>
     ensures { Gives result r.old r.new (present_at r.old) }
 {
@@ -73,6 +75,7 @@ fn skip_entries(r: &mut BitReader, count: u64) -> Result<(), Refusal>
 
 /// Passes over the iE-Extensions, where they are present.
 #[tactic(auto, unfolding(crate::specs::Reading::extensions_at))]
+#[inline(always)]
 pub fn skip_extensions(r: &mut BitReader, present: bool) -> Result<(), Refusal>
     ensures { Gives result r.old r.new (extensions_at present r.old) }
 {

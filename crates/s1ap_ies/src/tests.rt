@@ -245,9 +245,10 @@ fn counted_numbers(rt: HostRuntime) -> Result<(), Fail> {
 
 #[test]
 fn causes(rt: HostRuntime) -> Result<(), Fail> {
-    let cases: [(Value, &[u8]); 8] = [
-        // choice: e 010; of 4 roots: e 10
+    let cases: [(Value, &[u8]); 9] = [
+        // choice: e 010; of 4 roots: e 10, and e 11
         (cause(2, false, 2), b"\x24"),
+        (cause(2, false, 3), b"\x26"),
         // choice: e 000; of 36 roots: e 100011, so 0000 0100 011
         (cause(0, false, 35), b"\x04\x60"),
         // choice: e 001; of 2 roots: e 1, so 0001 01

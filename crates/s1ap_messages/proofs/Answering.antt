@@ -1,5 +1,6 @@
 -- Octets have one answer.
-use Rattle.std.proofs.Common.{◌≡◌, ◌⊎◌, ℕ, ◌+◌, ◌/◌, ◌<◌, Bool, List, [], ◌∷◌, ◌++◌, length, Result, Ok, Err, refl, sym, ap, ◌∙◌, append_assoc, inl, inr, arith}
+use Rattle.std.proofs.Common.{◌≡◌, ◌⊎◌, ℕ, ◌+◌, ◌/◌, ◌<◌, Bool, false, eqb, List, [], ◌∷◌, ◌++◌, length, Result, Ok, Err, refl, sym, ap, ◌∙◌, append_assoc, inl, inr, arith}
+use Rattle.std.proofs.lemmas.Bool.{ne_eqb}
 use Rattle.std.proofs.lemmas.List.{length-append}
 use Rattle.echo_base.specs.declared.reason.Reason.TheVariants as reasons
 use Rattle.echo_base.specs.declared.refusal.Refusal.{Refusal}
@@ -11,6 +12,8 @@ use Rattle.s1ap_messages.specs.declared.pdu.Pdu.{Pdu}
 use Rattle.s1ap_messages.specs.Messages.{kind_of}
 use Rattle.s1ap_messages.specs.Grammar.{Spells, Refused}
 use Rattle.s1ap_messages.specs.Built.{message_at}
+use Rattle.s1ap_messages.proofs.Frame.{pdu_some}
+use Rattle.s1ap_messages.proofs.Opens.{closing_some}
 use Rattle.s1ap_messages.proofs.Exact.{found_message, only_message, wrong_message, refused_message}
 
 pub one_message : (octets : List ℕ) (p q : Pdu) → Spells octets p → Spells octets q → p ≡ q
@@ -38,13 +41,15 @@ bits_of-append (octet ∷ a) b = ap (λ (l : List Bool). bits 8 octet ++ l) (bit
 pub trailing : (octets more : List ℕ) (p : Pdu) → Spells octets p → 0 < length more → Refused (octets ++ more) (record { reason = reasons.TrailingBytes; place = length octets })
 trailing octets more p s some =
     let run = s.1.0 in
-    let here : bits_of octets ≡ run ++ zeros (gap (0 + length run)) = s.1.2 in
+    let some_bits : 0 < length run = pdu_some 0 (kind_of p, s.0) run s.1.1 in
+    let here : bits_of octets ≡ run ++ zeros (gap (0 + length run)) = s.1.2 ∙ ap (λ n. run ++ zeros n) (closing_some 0 run some_bits) in
     let pad = zeros (gap (0 + length run)) in
     let behind = input (0 + length run) (pad ++ bits_of more) in
     let last = input (0 + length run + length pad) (bits_of more) in
     let left : bits_of (octets ++ more) ≡ run ++ (pad ++ bits_of more) = bits_of-append octets more ∙ ap (λ (l : List Bool). l ++ bits_of more) here ∙ append_assoc run pad (bits_of more) in
     let place : length octets ≡ (0 + length run + length pad) / 8 = omega (arith, ap length here, length-bits_of octets, length-append run pad) in
-    inl (inr ((kind_of p, s.0), behind, (run, s.1.1, left, refl), inr (tt, last, (pad, refl, refl, refl), omega (arith, some, length-bits_of more), ap (λ n. record { reason = reasons.TrailingBytes; place = n }) place)))
+    let moved : eqb (0 + length run) 0 ≡ false = ne_eqb _ _ (λ e. absurd (omega (arith, e, some_bits))) in
+    inl (inr ((kind_of p, s.0), behind, (run, s.1.1, left, refl), rw moved (inr (tt, last, (pad, refl, refl, refl), omega (arith, some, length-bits_of more), ap (λ n. record { reason = reasons.TrailingBytes; place = n }) place))))
 
 none_more : (more : List ℕ) → (0 < length more → ⊥) → more ≡ []
 none_more [] none = refl

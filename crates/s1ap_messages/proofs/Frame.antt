@@ -1,13 +1,17 @@
 -- Headers and lists of IEs are read exactly, with the IEs kept as they stand.
-use Rattle.std.proofs.Common.{cond, eqb, List, [], arith}
+use Rattle.std.proofs.Common.{◌≡◌, ℕ, ◌<◌, Bool, cond, eqb, List, [], length, ap, ◌∙◌, arith}
+use Rattle.std.proofs.lemmas.List.{length-append}
 use Rattle.echo_base.specs.declared.reason.Reason.TheVariants as reasons
 use Rattle.aper_fields.specs.Reading.{number_at, open_at, contained_at}
+use Rattle.aper_fields.specs.Run.{fixed_bits_run}
 use Rattle.aper_fields.specs.Format.{IsExactly, fixed_bits_in}
+use Rattle.aper_fields.proofs.BitLaws.{length-bits}
 use Rattle.aper_fields.proofs.Formats.{either_exactly, just_exactly, passing_exactly}
 use Rattle.aper_fields.proofs.ExactNumbers.{number_exactly}
 use Rattle.aper_fields.proofs.ExactPieces.{fixed_bits_exactly}
 use Rattle.aper_fields.proofs.Containers.{open_exactly, contained_exactly}
 use Rattle.s1ap_ies.specs.declared.tables.MessageKind.{MessageKind}
+use Rattle.s1ap_ies.specs.Grammar.{zero_bit_in, choice_in}
 use Rattle.s1ap_ies.specs.Reading.{Reader, ◌>>=◌, done, zero_bit_at, criticality_at}
 use Rattle.s1ap_ies.proofs.Exact.{zero_bit_exactly, criticality_exactly, choice_exactly}
 use Rattle.s1ap_messages.specs.Many.{many_at, inside_at, looked_up_at}
@@ -63,3 +67,11 @@ ies_exactly kind =
 pub pdu_exactly : IsExactly pdu_in pdu_kept_at
 unfolding pdu_in pdu_kept_at
 pdu_exactly = behind _ _ _ _ header_exactly (λ kind. behind _ _ _ _ (contained_exactly (ies_in kind) (ies_kept_at kind) (ies_exactly kind)) (λ ies. just_exactly (kind, ies)))
+
+-- a message is something
+pub pdu_some : (at : ℕ) (x : MessageKind × List Ie) (run : List Bool) → pdu_in.Spells at x run → 0 < length run
+unfolding pdu_in header_in choice_in zero_bit_in fixed_bits_run
+pdu_some at x run s =
+    let choice = s.4.4 in
+    let bit : length choice.1 ≡ 1 = ap length choice.4.1.1 ∙ length-bits 1 choice.0 in
+    omega (arith, bit, ap length choice.3, length-append choice.1 choice.2, ap length s.4.3, length-append s.4.1 s.4.2, ap length s.3, length-append s.1 s.2)

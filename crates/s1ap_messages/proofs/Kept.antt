@@ -5,7 +5,7 @@ use Rattle.std.proofs.lemmas.Bool.{cases_Bool, eqb-true, eq-eqb}
 use Rattle.echo_base.specs.declared.reason.Reason.{Reason}
 use Rattle.echo_base.specs.declared.reason.Reason.TheVariants as reasons
 use Rattle.echo_base.specs.declared.refusal.Refusal.{Refusal}
-use Rattle.aper_fields.specs.Reading.{Input, Read, number_at, open_at, end_at, whole_at, contained_at}
+use Rattle.aper_fields.specs.Reading.{Input, Read, number_at, open_at, close_at, whole_at, contained_at}
 use Rattle.aper_fields.specs.Format as formats
 use Rattle.aper_fields.specs.Format.{IsExactly, either, just}
 use Rattle.aper_fields.proofs.Formats.{bind, ok_of}
@@ -45,10 +45,10 @@ behind_maps h f g k same i =
 whole_maps : {A B : Type 0} (h : A → B) (f : Reader A) (g : Reader B) → Maps h f g → (c : Input) → whole_at g c ≡ bind (whole_at f c) (λ v. Ok (h v))
 unfolding whole_at
 whole_maps h f g same c =
-    ap (λ r. bind r (λ v. bind (end_at v.1) (λ e. Ok v.0))) (same c)
-    ∙ bind_assoc (f c) (λ x. Ok (h x.0, x.1)) (λ v. bind (end_at v.1) (λ e. Ok v.0))
-    ∙ bind_same (f c) _ _ (λ x. sym (bind_assoc (end_at x.1) (λ e. Ok x.0) (λ v. Ok (h v))))
-    ∙ sym (bind_assoc (f c) (λ v. bind (end_at v.1) (λ e. Ok v.0)) (λ v. Ok (h v)))
+    ap (λ r. bind r (λ v. bind (close_at c v.1) (λ e. Ok v.0))) (same c)
+    ∙ bind_assoc (f c) (λ x. Ok (h x.0, x.1)) (λ v. bind (close_at c v.1) (λ e. Ok v.0))
+    ∙ bind_same (f c) _ _ (λ x. sym (bind_assoc (close_at c x.1) (λ e. Ok x.0) (λ v. Ok (h v))))
+    ∙ sym (bind_assoc (f c) (λ v. bind (close_at c v.1) (λ e. Ok v.0)) (λ v. Ok (h v)))
 
 contained_maps : {A B : Type 0} (h : A → B) (f : Reader A) (g : Reader B) → Maps h f g → Maps h (contained_at f) (contained_at g)
 unfolding contained_at

@@ -4,7 +4,7 @@ use Rattle.std.proofs.lemmas.Bool.{ne_eqb, lt-ltb, le-ltb, cases_lt}
 use Rattle.std.proofs.lemmas.List.{length-replicate}
 use Rattle.aper_fields.specs.Bits.{zeros, gap, filled}
 use Rattle.aper_fields.specs.Reading.{Input}
-use Rattle.aper_fields.specs.Run.{Run, length_octets, length_run, open_run, content_of}
+use Rattle.aper_fields.specs.Run.{Run, length_octets, length_run, open_run, content_of, closing}
 use Rattle.aper_fields.specs.Spelling.{Open, Holds}
 use Rattle.aper_fields.specs.Format.{Format}
 use Rattle.aper_fields.proofs.BitLaws.{length-bits}
@@ -39,6 +39,10 @@ open_offset at content run s =
 pub content_some : (body : List Bool) → 0 < length body → content_of body ≡ filled body
 content_some body some = let ne : eqb (length body) 0 ≡ false = ne_eqb _ _ (λ z. absurd (omega (arith, z))) in rw ne refl
 
+-- a container ends at the next octet behind a value of some bits
+pub closing_some : (at : ℕ) (run : List Bool) → 0 < length run → closing at (at + length run) ≡ gap (at + length run)
+closing_some at run some = let ne : eqb (at + length run) at ≡ false = ne_eqb _ _ (λ e. absurd (omega (arith, e, some))) in rw ne refl
+
 open_back : (at : ℕ) (body : List Bool) → Fits body → (content : Input) × Open at content (open_run body at) × (content.left ≡ filled body)
 unfolding open_run length_run
 open_back at body short =
@@ -61,4 +65,5 @@ open_holds F v run at spelled periodic short =
     let offset : content.offset ≡ 8 * k + 0 = open_offset at content (open_run (run 0) at) o.1 ∙ omega arith in
     let body : run content.offset ≡ run 0 = ap run offset ∙ periodic k 0 in
     let pad : gap (content.offset + length (run content.offset)) ≡ gap (length (run 0)) = rw body (omega (arith, offset)) in
-    (content, o.1, (run content.offset, spelled.everywhere content.offset, o.2 ∙ sym (rw (pad, body) refl)))
+    let ends : closing content.offset (content.offset + length (run content.offset)) ≡ gap (length (run 0)) = closing_some content.offset (run content.offset) (omega (arith, short.0, ap length body)) ∙ pad in
+    (content, o.1, (run content.offset, spelled.everywhere content.offset, o.2 ∙ sym (rw (ends, body) refl)))

@@ -9,7 +9,7 @@ use Rattle.echo_base.specs.declared.refusal.Bad.TheVariants.{Refused, OutOfMemor
 use Rattle.echo_base.specs.declared.refusal.Refusal.{Refusal}
 use Rattle.aper_fields.specs.Bits.{bits, zeros, gap}
 use Rattle.aper_fields.specs.Reading.{Input}
-use Rattle.aper_fields.specs.Run.{number_run, fixed_bits_run, padding_run, open_run}
+use Rattle.aper_fields.specs.Run.{number_run, fixed_bits_run, padding_run, open_run, closing}
 use Rattle.aper_fields.specs.Spelling.{Open, IsOctets}
 use Rattle.aper_fields.specs.Format as formats
 use Rattle.aper_fields.specs.Format.{Format, ◌>>=◌, either, just}
@@ -234,7 +234,7 @@ pdu_right at x run s =
     let whole : content.offset % 8 ≡ 0 = omega (arith, open_offset _ content opened.1 opened.4) in
     let right = ies_least s.0 content.offset s.5.0 held.0 whole held.1 in
     let small : length content.left ≤ 8 * 16383 = omega (arith, opened.4.5.4.0, opened.4.5.5.1) in
-    subst AreWritable (sym same) (right.0, right.1, omega (arith, right.2, small, ap length held.2, length-append held.0 (zeros (gap (content.offset + length held.0)))))
+    subst AreWritable (sym same) (right.0, right.1, omega (arith, right.2, small, ap length held.2, length-append held.0 (zeros (closing content.offset (content.offset + length held.0)))))
 
 -- what each value of a message is
 abbrev EachValue : (FieldValue → Type 0) → List (Option FieldValue) → Type 0

@@ -4,7 +4,7 @@ use Rattle.std.proofs.lemmas.Bool.{eqb-true}
 use Rattle.std.proofs.lemmas.List.{length-append, length-replicate}
 use Rattle.aper_fields.specs.Bits.{gap}
 use Rattle.aper_fields.specs.Reading.{Input}
-use Rattle.aper_fields.specs.Run.{Run, ◌▸◌, number_run, fixed_bits_run, open_run, content_of}
+use Rattle.aper_fields.specs.Run.{Run, ◌▸◌, number_run, fixed_bits_run, open_run, content_of, closing}
 use Rattle.aper_fields.specs.Spelling.{Open, Holds}
 use Rattle.aper_fields.specs.Format.{Format, ◌>>=◌}
 use Rattle.aper_fields.proofs.Packed.{length-filled}
@@ -16,7 +16,7 @@ use Rattle.s1ap_messages.specs.Values.{FieldValue, erabs_in, value_in}
 use Rattle.s1ap_messages.specs.Run.{items_run, erabs_run, value_run}
 use Rattle.s1ap_messages.proofs.Cases.{HoldsOfEach, each_value}
 use Rattle.s1ap_messages.proofs.Ends.{EndsBy, nothing_ends, then_ends, front_ends, number_ends, fixed_bits_ends, fixed_octets_ends, octet_string_ends, enumerated_ends, open_ends}
-use Rattle.s1ap_messages.proofs.Opens.{open_offset, content_some}
+use Rattle.s1ap_messages.proofs.Opens.{open_offset, content_some, closing_some}
 use Rattle.s1ap_messages.proofs.Runs.{erab_done_periodic, erab_to_setup_periodic, erab_done_some, erab_to_setup_some}
 use Rattle.s1ap_messages.proofs.ValueEnds.{tai_ends, cgi_ends, stmsi_ends, bit_rates_ends, sec_caps_ends, cause_ends, ue_ids_ends, erab_done_ends, erab_to_setup_ends}
 
@@ -37,8 +37,9 @@ open_room F v f at content run least opened held =
     let whole : offset ≡ 8 * k + 0 = open_offset at content run opened ∙ omega arith in
     let same : f offset ≡ f 0 = ap f whole ∙ least.periodic k 0 in
     let short : offset + length (f offset) ≤ offset + length held.0 = least.ends offset held.0 held.1 offset (omega arith) in
-    let size : length content.left ≡ length held.0 + gap (offset + length held.0) = ap length held.2 ∙ length-append held.0 _ ∙ ap (λ n. length held.0 + n) (length-replicate (gap (offset + length held.0)) _) in
     let few : length (f 0) ≤ length held.0 = omega (arith, short, ap length same) in
+    let ends : closing offset (offset + length held.0) ≡ gap (offset + length held.0) = closing_some offset held.0 (omega (arith, few, least.some)) in
+    let size : length content.left ≡ length held.0 + gap (offset + length held.0) = ap length held.2 ∙ length-append held.0 _ ∙ ap (λ n. length held.0 + n) (length-replicate (closing offset (offset + length held.0)) _ ∙ ends) in
     (omega (arith, few, size), omega (arith, few, size, whole, ap length (content_some (f 0) least.some), length-filled (f 0)))
 
 -- ---- items

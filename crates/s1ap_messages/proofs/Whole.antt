@@ -5,7 +5,7 @@ use Rattle.std.proofs.lemmas.Bool.{eq-eqb, eqb-true, eqb-false, ne_eqb, leb-true
 use Rattle.std.proofs.lemmas.List.{append-nil, length-append}
 use Rattle.std.proofs.lemmas.List.Sums.{count_by-le-length, sum_by-cons}
 use Rattle.aper_fields.specs.Bits.{zeros, gap}
-use Rattle.aper_fields.specs.Run.{◌▸◌, fixed_bits_run, number_run, open_run}
+use Rattle.aper_fields.specs.Run.{◌▸◌, fixed_bits_run, number_run, open_run, closing}
 use Rattle.aper_fields.proofs.BitLaws.{length-bits}
 use Rattle.aper_fields.proofs.Packed.{bits_of-packed}
 use Rattle.aper_fields.proofs.Periodic.{IsPeriodic, constant_periodic, then_periodic, number_periodic, fixed_bits_periodic}
@@ -25,7 +25,8 @@ use Rattle.s1ap_messages.specs.Messages.{header_of, kind_of, values_of}
 use Rattle.s1ap_messages.specs.Grammar.{Ie, Named, found, has_ie, or_other, kind_with, kind_among, header_in, ie_in, ies_in, pdu_in, Spells}
 use Rattle.s1ap_messages.specs.Run.{value_run, ie_run, fields_run, count_of, ies_run, header_run, pdu_run, written, IsRightField, HasOctetsIn, IsRight, HasOctets}
 use Rattle.s1ap_messages.proofs.Kept.{found-append}
-use Rattle.s1ap_messages.proofs.Opens.{open_holds}
+use Rattle.s1ap_messages.proofs.Frame.{pdu_some}
+use Rattle.s1ap_messages.proofs.Opens.{open_holds, closing_some}
 use Rattle.s1ap_messages.proofs.Runs.{value_periodic, value_some, item_periodic}
 use Rattle.s1ap_messages.proofs.Spelled.{criticality_spelled, value_spelled}
 use Rattle.s1ap_messages.proofs.Typed.{id_of}
@@ -245,4 +246,6 @@ unfolding written written_ies
 written_spelled p right octets =
     let run = pdu_run (kind_of p) (values_of p) 0 in
     let from_start : 0 + length run ≡ length run = omega arith in
-    (written_ies p, (run, pdu_there p right octets, bits_of-packed run ∙ sym (ap (λ n. run ++ zeros (gap n)) from_start)), named_found (rows_of (kind_of p)) (values_of p) (ids_distinct (kind_of p)) (of_values p))
+    let there = pdu_there p right octets in
+    let ends : closing 0 (0 + length run) ≡ gap (length run) = closing_some 0 run (pdu_some 0 (kind_of p, named (rows_of (kind_of p)) (values_of p)) run there) ∙ ap gap from_start in
+    (written_ies p, (run, there, bits_of-packed run ∙ sym (ap (λ n. run ++ zeros n) ends)), named_found (rows_of (kind_of p)) (values_of p) (ids_distinct (kind_of p)) (of_values p))

@@ -11,7 +11,7 @@ ghost use Rattle.s1ap_messages.specs.Many.{many_at};
 ghost use Rattle.s1ap_messages.specs.Reading.{erab_at, erabs_at};
 ghost use Rattle.s1ap_messages.specs.Run.{items_run, erabs_run, AreSome};
 
-use aper_fields::{BitReader, BitWriter, Ranged, end};
+use aper_fields::{BitReader, BitWriter, Ranged, close};
 use device_types::ListOf;
 use echo_base::{Bad, OutOfMemory};
 use s1ap_ies::{ErabDone, ErabToSetup, read_item, write_item};
@@ -78,8 +78,9 @@ fn read_one<T: Erab>(alloc: Global, r: &mut BitReader, id: u16) -> Result<T, Bad
 {
     let mut ahead = r.ahead();
     let mut content = read_item(&mut ahead, id)?;
+    let start = content.ahead();
     let erab = T::read_erab(alloc, &mut content)?;
-    end(&content)?;
+    close(&start, &content)?;
     *r = ahead;
     Ok(erab)
 }

@@ -16,7 +16,7 @@ use crate::header::read_header;
 use crate::pdu::{Pdu, is_downlink};
 use crate::slots::Slots;
 use crate::value::{OwnedValue, read_value};
-use aper_fields::{BitReader, Ranged, end, read_open};
+use aper_fields::{BitReader, Ranged, close, read_open};
 use echo_base::{Bad, Reason, Refusal};
 use s1ap_ies::{IeRow, IeTable, MessageKind, ies_of, read_criticality, read_zero_bit};
 use std::alloc::Global;
@@ -53,8 +53,9 @@ fn read_ie(
         *r = ahead;
         return Ok(None);
     };
+    let start = content.ahead();
     let value = read_value(alloc, &mut content, id)?;
-    end(&content)?;
+    close(&start, &content)?;
     *r = ahead;
     Ok(Some((place, value)))
 }
@@ -107,8 +108,9 @@ fn read_parts(alloc: Global, r: &mut BitReader) -> Result<(MessageKind, Slots), 
     let mut ahead = r.ahead();
     let kind = read_header(&mut ahead)?;
     let mut content = read_open(&mut ahead)?;
+    let start = content.ahead();
     let slots = read_ies(alloc, &mut content, kind)?;
-    end(&content)?;
+    close(&start, &content)?;
     *r = ahead;
     Ok((kind, slots))
 }
@@ -118,9 +120,10 @@ fn read_parts(alloc: Global, r: &mut BitReader) -> Result<(MessageKind, Slots), 
 fn read_message(alloc: Global, bytes: &[u8]) -> Result<Pdu, Bad>
     ensures { IsAnswer (message_at bytes.now) result }
 {
-    let mut r = BitReader::new(bytes, 0);
+    let start = BitReader::new(bytes, 0);
+    let mut r = start.ahead();
     let (kind, mut slots) = read_parts(alloc, &mut r)?;
-    end(&r)?;
+    close(&start, &r)?;
     match message(kind, &mut slots) {
         Ok(pdu) => Ok(pdu),
         Err(id) => Err(Bad::Refused(Refusal {

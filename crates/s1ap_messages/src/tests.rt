@@ -10,9 +10,11 @@ use std::process::Abort;
 use std::test::Fail;
 
 mod contexts;
+mod long;
 mod orders;
 mod refused;
 mod refused_ies;
+mod spellings;
 mod uplink;
 mod worked;
 

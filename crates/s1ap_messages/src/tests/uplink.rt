@@ -1,9 +1,8 @@
-//! Which messages an MME receives; and the longest NAS-PDU.
+//! Which messages an MME receives.
 
-use super::{cases, refusal_of};
-use crate::{Pdu, read_pdu, read_uplink};
-use echo_base::Reason::TooLong;
-use echo_base::{Bad, OutOfMemory, Refusal};
+use super::cases;
+use crate::read_uplink;
+use echo_base::{Bad, OutOfMemory};
 use std::alloc::Global;
 use std::process::Abort;
 use std::test::Fail;
@@ -63,48 +62,3 @@ const NOT_RECEIVED: &str = "
 2017000f000001000040020001000840020001 13 TrailingBytes at 13
 00110000 9 OtherProcedure 17 at 1
 ";
-
-/// The octets of the text, and behind them so many octets ab.
-fn with_octets(alloc: Global, text: &str, number: usize) -> Result<Vec<u8>, Fail> {
-    let mut octets = hex::decode(alloc, text)?;
-    for _ in 0..number {
-        octets.push(0xab)?;
-    }
-    Ok(octets)
-}
-
-#[test]
-fn longest_nas(rt: HostRuntime) -> Result<(), Fail> {
-    // 2,048 octets: 8800; with their length 2,050: 8802; all IEs with the octets before them 2,070: 8816
-    let text = "000b408816000003000000020001000800020001001a0088028800";
-    let octets = with_octets(rt.alloc(), text, 2048)?;
-    let pdu = read_pdu(rt.alloc(), &octets)?;
-    let Pdu::DownlinkNasTransport {
-        mme: _,
-        enb: _,
-        nas,
-    } = &pdu
-    else {
-        assert!(rt; false);
-        return Ok(());
-    };
-    assert_eq!(rt; nas.items().len(), 2048);
-    // 2,049 octets behind their length in octet 25; and of as many none, behind their length in octet 23
-    let text = "000b408817000003000000020001000800020001001a0088038801";
-    let octets = with_octets(rt.alloc(), text, 2049)?;
-    let want = Some(Refusal {
-        reason: TooLong,
-        place: 25,
-    });
-    assert_eq!(rt; refusal_of(rt.alloc(), &octets)?, want);
-    let text = "000b4015000003000000020001000800020001001a00028801";
-    let want = Some(Refusal {
-        reason: TooLong,
-        place: 23,
-    });
-    assert_eq!(rt;
-        refusal_of(rt.alloc(), &hex::decode(rt.alloc(), text)?)?,
-        want
-    );
-    Ok(())
-}

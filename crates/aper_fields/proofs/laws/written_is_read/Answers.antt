@@ -2,7 +2,7 @@ use Rattle.std.proofs.Common.{refl}
 use Rattle.aper_fields.specs.Run.{number_run, length_run, fixed_octets_run, octet_string_run, fixed_bits_run, enumerated_run}
 use Rattle.aper_fields.proofs.ExactNumbers.{number_exact}
 use Rattle.aper_fields.proofs.ExactPieces.{length_exact, fixed_octets_exact, octet_string_exact, fixed_bits_exact, enumerated_exact}
-use Rattle.aper_fields.proofs.ReadBack.{open_back}
+use Rattle.aper_fields.proofs.ReadBack.{open_back, nothing_back}
 use Rattle.aper_fields.proofs.laws.written_is_read.Goals as goal
 
 pub returns-clause-numbers : goal.returns-clause-numbers
@@ -25,3 +25,6 @@ returns-clause-enumerations c = λ roots extensible v some fits in_range at rest
 
 pub returns-clause-open_types : goal.returns-clause-open_types
 returns-clause-open_types c = λ body small. open_back body small
+
+pub returns-clause-no_bits : goal.returns-clause-no_bits
+returns-clause-no_bits c = nothing_back

@@ -20,11 +20,15 @@ loop-wanted-preserved c =
     record {
       within = omega arith;
       here = here;
-      value = rw (turn, l.invariant.value, c.take_bits.ensures.value, behind) (gathered m k i.left (omega arith) (omega arith));
-      moved = rw turn (c.take_bits.ensures.moved ∙ ap (forward k) l.invariant.moved ∙ forward-add m k i);
+      value = rw (turn, l.invariant.value, c.take_bits-in-loop-wanted.ensures.value, behind) (gathered m k i.left (omega arith) (omega arith));
+      moved = rw turn (c.take_bits-in-loop-wanted.ensures.moved ∙ ap (forward k) l.invariant.moved ∙ forward-add m k i);
     }
 
 pub returns-clause-fits : goal.returns-clause-fits
 returns-clause-fits c =
     let all : c.args.count - c.loop-wanted.wanted ≡ c.args.count = omega arith in
     rw (c.loop-wanted.invariant.value, all) (number_of-take-lt c.args.count c.args.self.now.left c.loop-wanted.invariant.here)
+
+pub returns-then-count-room-clause-fits : goal.returns-then-count-room-clause-fits
+returns-then-count-room-clause-fits c =
+    rw c.take_bits.ensures.value (number_of-take-lt c.args.count c.args.self.now.left (omega (arith, c.if-not-has.ensures)))

@@ -1,6 +1,4 @@
 use Rattle.std.proofs.Common.{◌≡◌, Some, IsSomeAnd, rules, sym, subst, ap, ◌∙◌}
-use Rattle.device_types.specs.declared.input.Input.{Input}
-use Rattle.device_types.specs.declared.subscriber.DeviceId.{DeviceId}
 use Rattle.replica_worker.specs.Hands.{held_in, CanBeRead, hand_after}
 use Rattle.replica_worker.proofs.May.{asked_in, may_read}
 use Rattle.session_store.specs.declared.asked.Seen.{Seen}

@@ -1,8 +1,7 @@
 use Rattle.std.proofs.Common.{◌≡◌, sym, ap, ◌∙◌}
-use Rattle.device_types.specs.declared.step.Entry.{Entry}
 use Rattle.replica_worker.specs.declared.hand.Hand.{Hand}
 use Rattle.replica_worker.specs.declared.hand.Hand.TheVariants as hands
-use Rattle.replica_worker.specs.Replies.{told_of, told_in, reply_when}
+use Rattle.replica_worker.specs.Replies.{told_in, reply_when}
 use Rattle.replica_worker.specs.Writes.{written_reply}
 use Rattle.replica_worker.proofs.Answered.{reply_is}
 use Rattle.replica_worker.proofs.replica.Replica.write.Goals as goal

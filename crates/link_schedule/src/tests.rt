@@ -1,0 +1,497 @@
+//! Schedules over the worlds of two devices, with what each event comes to, by hand.
+ghost use Rattle.std.specs.Prelude.{◌≡◌, ◌≤◌, true, length, All, IfOk};
+ghost use Rattle.device_types.specs.Line.{IsLine};
+ghost use Rattle.device_types.specs.Message.{IsBody, IsMessage};
+ghost use Rattle.device_types.specs.Numbers.{IsWithin};
+ghost use Rattle.link_schedule.specs.Answer.{IsEvent};
+ghost use Rattle.link_schedule.specs.World.{IsShort};
+
+use crate::World;
+use case_form::read_case;
+use device_types::{Body, Book, DeviceId, Event, Lane, Message, Messages, Octets};
+use session_store::RowLaw;
+use std::alloc::{AllocError, Global};
+use std::test::Fail;
+use subs_table::SubsTable;
+
+/// The two devices.
+const ROWS: &str = "\
+{\"imsi\":\"208930000000001\",\"tmsi\":1,\"rand\":\"000102030405060708090a0b0c0d0e0f\",\"autn\":\"101112131415161718191a1b1c1d1e1f\",\
+\"res\":\"a0a1a2a3a4a5a6a7\",\"key\":\"1111111111111111111111111111111111111111111111111111111111111111\",\"apn\":\"internet\",\
+\"ip\":\"0a2d0001\",\"sgw\":\"c0a80001\",\"teid\":1,\"ambr_dl\":1000000000,\"ambr_ul\":1000000000,\"forbidden\":[9]}
+{\"imsi\":\"208930000000002\",\"tmsi\":2,\"rand\":\"000102030405060708090a0b0c0d0e0f\",\"autn\":\"101112131415161718191a1b1c1d1e1f\",\
+\"res\":\"a0a1a2a3a4a5a6a7\",\"key\":\"1111111111111111111111111111111111111111111111111111111111111111\",\"apn\":\"internet\",\
+\"ip\":\"0a2d0002\",\"sgw\":\"c0a80001\",\"teid\":2,\"ambr_dl\":1000000000,\"ambr_ul\":1000000000,\"forbidden\":[]}
+";
+
+/// Schedules, each behind a line with the messages of device 1, the number of replicas, and what it shows. With `attach` device 1
+/// attaches, its base station fails to set its context up, it is released, and attaches again; with `services` it asks for service
+/// five times, and is rejected each time. Device 2 asks for service once.
+const SCHEDULES: &str = "\
+attach 2: two replicas read one row, and one of them commits; a call arrives three times, and its answer twice
+send 1 1 = Sent
+take 1 1 1 = Taken
+take 2 1 1 = Taken
+read 1 = Ready(0)
+read 2 = Ready(0)
+write 1 = Committed(1)
+write 2 = Stale { read: 0, current: 1 }
+push 1 subscriber 1 = Pushed
+effect 1 subscriber 1 = Accepted(1)
+effect 1 subscriber 1 = Repeat(1)
+effect 1 subscriber 1 = Repeat(1)
+answer 1 1 subscriber 1 = Taken
+read 1 = Ready(1)
+write 1 = Committed(2)
+answer 2 1 subscriber 1 = Taken
+read 2 = OldCall(Subscriber, 1)
+settle 1 subscriber 1 = Settled(1)
+settle 1 subscriber 1 = Old(1)
+push 1 subscriber 1 = VoidOutbox
+
+attach 2: a replica stops between its commit and the reply, and another finds the reply
+send 1 1 = Sent
+take 1 1 1 = Taken
+read 1 = Ready(0)
+write 1 = Committed(1)
+stop 1 = Stopped
+send 1 1 = Sent
+take 2 1 1 = Taken
+read 2 = Repeat(1)
+write 2 = VoidHand
+reply 1 1 = Acked(1)
+reply 1 1 = Old(1)
+
+attach 2: a message overtakes the one before it, and then waits for the answer to a call
+send 1 2 = Sent
+take 1 1 2 = Taken
+read 1 = Ahead(0)
+send 1 1 = Sent
+take 2 1 1 = Taken
+read 2 = Ready(0)
+write 2 = Committed(1)
+read 1 = Waiting(Subscriber, 1)
+write 1 = VoidHand
+
+services 2: the window moves with what is acknowledged, and replies out of it are no longer kept
+send 1 5 = VoidWindow
+send 1 1 = Sent
+take 1 1 1 = Taken
+read 1 = Ready(0)
+write 1 = Committed(1)
+send 1 2 = Sent
+take 1 1 2 = Taken
+read 1 = Ready(1)
+write 1 = Committed(2)
+send 1 3 = Sent
+take 1 1 3 = Taken
+read 1 = Ready(2)
+write 1 = Committed(3)
+send 1 4 = Sent
+take 1 1 4 = Taken
+read 1 = Ready(3)
+write 1 = Committed(4)
+send 1 5 = VoidWindow
+reply 1 1 = Acked(1)
+send 1 1 = VoidWindow
+send 1 5 = Sent
+take 1 1 5 = Taken
+read 1 = Ready(4)
+write 1 = Committed(5)
+take 2 1 1 = Taken
+read 2 = Settled(1)
+take 2 1 2 = Taken
+read 2 = Repeat(2)
+reply 1 1 = Old(1)
+reply 1 4 = Acked(4)
+reply 1 3 = Old(3)
+send 1 6 = VoidWindow
+
+attach 1: there is no second replica, and nothing was sent, made or pushed
+stop 2 = VoidReplica
+write 1 = VoidHand
+push 1 down 1 = VoidOutbox
+take 1 1 1 = VoidLink
+effect 1 down 1 = VoidLink
+read 1 = VoidHand
+answer 1 1 gateway 1 = VoidLink
+answer 1 1 subscriber 1 = VoidLink
+reply 1 1 = VoidLink
+settle 1 down 1 = VoidLink
+settle 1 gateway 1 = VoidLink
+settle 1 subscriber 1 = VoidLink
+push 1 gateway 1 = VoidOutbox
+push 1 subscriber 1 = VoidOutbox
+take 2 1 1 = VoidReplica
+answer 2 1 gateway 1 = VoidReplica
+read 2 = VoidReplica
+write 16 = VoidReplica
+send 1 7 = VoidWindow
+send 2 2 = VoidWindow
+
+services 2: hands are lost, replaced and left as they are
+send 1 1 = Sent
+send 1 2 = Sent
+take 1 1 1 = Taken
+write 1 = VoidHand
+read 1 = Ready(0)
+read 1 = Ready(0)
+take 1 1 3 = VoidLink
+take 2 1 1 = Taken
+read 2 = Ready(0)
+write 2 = Committed(1)
+write 1 = Stale { read: 0, current: 1 }
+read 1 = VoidHand
+take 1 1 2 = Taken
+read 1 = Ready(1)
+stop 1 = Stopped
+write 1 = VoidHand
+take 1 1 2 = Taken
+read 1 = Ready(1)
+take 1 1 1 = Taken
+write 1 = VoidHand
+read 1 = Repeat(1)
+
+services 1: messages to the device arrive out of turn, and are settled at once
+send 1 1 = Sent
+take 1 1 1 = Taken
+read 1 = Ready(0)
+write 1 = Committed(1)
+send 1 2 = Sent
+take 1 1 2 = Taken
+read 1 = Ready(1)
+write 1 = Committed(2)
+push 1 down 2 = Pushed
+effect 1 down 2 = Ahead(0)
+push 1 down 1 = Pushed
+effect 1 down 1 = Accepted(1)
+effect 1 down 2 = Accepted(2)
+effect 1 down 1 = Repeat(1)
+settle 1 down 2 = Settled(2)
+settle 1 down 1 = Old(1)
+effect 1 down 2 = Repeat(2)
+push 1 down 2 = VoidOutbox
+push 1 down 3 = VoidOutbox
+
+attach 2: what is of one device is not of the other, and no lane is another
+send 1 1 = Sent
+take 1 2 1 = VoidLink
+send 2 1 = Sent
+take 1 1 1 = Taken
+take 2 2 1 = Taken
+read 1 = Ready(0)
+read 2 = Ready(0)
+write 1 = Committed(1)
+write 2 = Committed(1)
+reply 2 1 = Acked(1)
+reply 1 2 = VoidLink
+push 2 subscriber 1 = VoidOutbox
+push 1 subscriber 1 = Pushed
+effect 2 subscriber 1 = VoidLink
+effect 1 gateway 1 = VoidLink
+effect 1 subscriber 1 = Accepted(1)
+answer 1 2 subscriber 1 = VoidLink
+answer 1 1 gateway 1 = VoidLink
+settle 2 subscriber 1 = VoidLink
+settle 1 gateway 1 = VoidLink
+settle 1 subscriber 1 = Settled(1)
+push 1 subscriber 1 = VoidOutbox
+push 2 down 1 = Pushed
+effect 1 down 1 = VoidLink
+effect 2 down 1 = Accepted(1)
+send 1 1 = Sent
+send 2 1 = VoidWindow
+
+attach 2: a device comes and goes, with calls on both lanes, and comes again
+send 1 1 = Sent
+take 1 1 1 = Taken
+read 1 = Ready(0)
+write 1 = Committed(1)
+push 1 subscriber 1 = Pushed
+effect 1 subscriber 1 = Accepted(1)
+answer 1 1 subscriber 1 = Taken
+read 1 = Ready(1)
+write 1 = Committed(2)
+send 1 2 = Sent
+take 2 1 2 = Taken
+read 2 = Ready(2)
+write 2 = Committed(3)
+send 1 3 = Sent
+take 1 1 3 = Taken
+read 1 = Ready(3)
+write 1 = Committed(4)
+take 2 1 3 = Taken
+read 2 = Repeat(3)
+send 1 4 = Sent
+take 2 1 4 = Taken
+read 2 = Waiting(Subscriber, 2)
+answer 1 1 subscriber 2 = VoidLink
+push 1 subscriber 2 = Pushed
+effect 1 subscriber 2 = Accepted(2)
+answer 1 1 subscriber 2 = Taken
+read 1 = Ready(4)
+write 1 = Committed(5)
+read 2 = Waiting(Gateway, 1)
+push 1 gateway 1 = Pushed
+effect 1 gateway 1 = Accepted(1)
+effect 1 gateway 1 = Repeat(1)
+answer 1 1 gateway 1 = Taken
+read 1 = Ready(5)
+write 1 = Committed(6)
+read 2 = Ready(6)
+write 2 = Committed(7)
+answer 2 1 gateway 1 = Taken
+read 2 = OldCall(Gateway, 1)
+push 1 gateway 2 = Pushed
+effect 1 gateway 2 = Accepted(2)
+answer 2 1 gateway 2 = Taken
+read 2 = Ready(7)
+write 2 = Committed(8)
+reply 1 5 = VoidLink
+reply 1 4 = Acked(4)
+reply 1 2 = Old(2)
+send 1 5 = Sent
+take 1 1 5 = Taken
+read 1 = Ready(8)
+write 1 = Committed(9)
+reply 1 1 = Old(1)
+send 1 6 = Sent
+take 1 1 6 = Taken
+read 1 = Ready(9)
+write 1 = Committed(10)
+push 1 subscriber 4 = Pushed
+effect 1 subscriber 4 = Ahead(2)
+push 1 subscriber 3 = Pushed
+effect 1 subscriber 3 = Accepted(3)
+effect 1 subscriber 4 = Accepted(4)
+answer 1 1 subscriber 3 = Taken
+read 1 = OldCall(Subscriber, 3)
+answer 2 1 subscriber 4 = Taken
+read 2 = Ready(10)
+settle 1 subscriber 4 = Settled(4)
+settle 1 subscriber 2 = Old(2)
+effect 1 subscriber 4 = Repeat(4)
+settle 1 gateway 1 = Settled(1)
+push 1 gateway 1 = VoidOutbox
+push 1 gateway 2 = Pushed
+settle 1 gateway 2 = Settled(2)
+settle 1 gateway 1 = Old(1)
+push 1 down 5 = VoidOutbox
+push 1 down 4 = Pushed
+effect 1 down 4 = Ahead(0)
+settle 1 down 4 = VoidLink
+effect 1 down 1 = VoidLink
+";
+
+fn message(number: u64, body: Body) -> Message
+    requires { IsBody body }
+    ensures number { result.number ≡ number }
+    ensures message { IsMessage result }
+{
+    Message {
+        number,
+        station: 1,
+        enb: 1,
+        body,
+    }
+}
+
+fn attach() -> Body
+    ensures { IsBody result }
+{
+    Body::Attach {
+        plmn: 0x02f839,
+        tac: 1,
+        eea: 224,
+        eia: 224,
+        pti: 1,
+    }
+}
+
+/// The right response to the challenge.
+fn response(alloc: Global) -> Result<Body, AllocError>
+    ensures { IfOk result IsBody }
+{
+    let res = [0xa0, 0xa1, 0xa2, 0xa3, 0xa4, 0xa5, 0xa6, 0xa7];
+    Ok(Body::Response {
+        res: Octets::from(Vec::from_array(alloc, res)?),
+    })
+}
+
+fn attaching(alloc: Global) -> Result<Messages, AllocError>
+    ensures line { IfOk result IsLine }
+    ensures short { IfOk result IsShort }
+{
+    let messages = [
+        message(1, attach()),
+        message(2, response(alloc)?),
+        message(3, Body::Secured),
+        message(4, Body::ContextFailed),
+        message(5, Body::Released),
+        message(6, attach()),
+    ];
+    Ok(Messages::from(Vec::from_array(alloc, messages)?))
+}
+
+fn services(alloc: Global) -> Result<Messages, AllocError>
+    ensures line { IfOk result IsLine }
+    ensures short { IfOk result IsShort }
+{
+    let messages = [
+        message(1, Body::Service),
+        message(2, Body::Service),
+        message(3, Body::Service),
+        message(4, Body::Service),
+        message(5, Body::Service),
+    ];
+    Ok(Messages::from(Vec::from_array(alloc, messages)?))
+}
+
+fn service(alloc: Global) -> Result<Messages, AllocError>
+    ensures line { IfOk result IsLine }
+    ensures short { IfOk result IsShort }
+{
+    let messages = [message(1, Body::Service)];
+    Ok(Messages::from(Vec::from_array(alloc, messages)?))
+}
+
+/// The messages of device 1, by their name.
+fn named(alloc: Global, name: &str) -> Result<Messages, AllocError>
+    ensures line { IfOk result IsLine }
+    ensures short { IfOk result IsShort }
+{
+    match name {
+        "attach" => attaching(alloc),
+        _ => services(alloc),
+    }
+}
+
+fn book(alloc: Global, name: &str) -> Result<Book, AllocError>
+    ensures lines { IfOk result (λ book. length book ≡ 2) }
+    ensures short { IfOk result (All IsShort) }
+{
+    let first = named(alloc, name)?;
+    let second = service(alloc)?;
+    let mut book = Book::new(alloc);
+    book.push(first)?;
+    book.push(second)?;
+    Ok(book)
+}
+
+/// The world of the two devices, with the messages of that name.
+fn opened(alloc: Global, table: &SubsTable, name: &str, replicas: u32) -> Result<World, Fail> {
+    if table.len() != 2 {
+        return Err(Fail::from("not two rows"));
+    }
+    if replicas == 0 {
+        return Err(Fail::from("no replica"));
+    }
+    if replicas > 16 {
+        return Err(Fail::from("too many replicas"));
+    }
+    let book = book(alloc, name)?;
+    Ok(World::new(alloc, table, &book, replicas)?)
+}
+
+fn is_replica(r: u32) -> bool
+    ensures { result ≡ true → IsWithin 16 r }
+{
+    r >= 1 && r <= 16
+}
+
+fn is_device(world: &World, d: DeviceId) -> bool
+    ensures { result ≡ true → IsWithin (length world.now.setting.rows) d.0 }
+{
+    d.0 >= 1 && d.0 as usize <= world.law.charter().rows().len()
+}
+
+/// Is it a device, and a number from 1?
+fn is_item(world: &World, d: DeviceId, n: u64) -> bool
+    ensures { result ≡ true → IsWithin (length world.now.setting.rows) d.0 × (1 ≤ n) }
+{
+    n >= 1 && is_device(world, d)
+}
+
+/// May the event happen in the world?
+fn may_happen(world: &World, event: Event) -> bool
+    ensures { result ≡ true → IsEvent world.now.setting event }
+{
+    match event {
+        Event::Send { d, n } | Event::Reply { d, n } => is_item(world, d, n),
+        Event::Take { r, d, n } => is_replica(r) && is_item(world, d, n),
+        Event::Answer {
+            lane: Lane::Down, ..
+        } => false,
+        Event::Answer { r, d, k, .. } => is_replica(r) && is_item(world, d, k),
+        Event::Read { r } | Event::Write { r } | Event::Stop { r } => is_replica(r),
+        Event::Push { d, k, .. } | Event::Effect { d, k, .. } | Event::Settle { d, k, .. } => {
+            is_item(world, d, k)
+        }
+    }
+}
+
+/// What the event comes to, put behind the text.
+fn happen(world: &mut World, told: &mut String, event: Event) -> Result<(), Fail> {
+    if !may_happen(world, event) {
+        return Err(Fail::from("not an event of the world"));
+    }
+    let answer = world.apply(event)?;
+    writeln!(told, "{answer:?}")?;
+    Ok(())
+}
+
+/// What the events come to, a line each.
+fn happened(alloc: Global, world: &mut World, events: &[Event]) -> Result<String, Fail> {
+    let mut told = String::new(alloc);
+    for event in events {
+        happen(world, &mut told, *event)?;
+    }
+    Ok(told)
+}
+
+/// The case text of the events of these lines.
+fn case_text(alloc: Global, lines: &str) -> Result<String, Fail> {
+    let mut text = format!(in alloc; "[subscribers]\n{ROWS}[schedule]\n")?;
+    for line in lines.lines() {
+        let (event, _) = line.split_once(" = ").ok_or("no answer")?;
+        writeln!(text, "{event}")?;
+    }
+    Ok(text)
+}
+
+/// What these lines say that the events come to.
+fn wanted(alloc: Global, lines: &str) -> Result<String, Fail> {
+    let mut text = String::new(alloc);
+    for line in lines.lines() {
+        let (_, answer) = line.split_once(" = ").ok_or("no answer")?;
+        writeln!(text, "{answer}")?;
+    }
+    Ok(text)
+}
+
+/// What the events of a schedule come to, behind its first line.
+fn answers(alloc: Global, title: &str, lines: &str) -> Result<String, Fail> {
+    let (name, rest) = title.split_once(" ").ok_or("no replicas")?;
+    let (count, _) = rest.split_once(": ").ok_or("no title")?;
+    let replicas = count.parse::<u32>()?;
+    let text = case_text(alloc, lines)?;
+    let case = read_case(alloc, text.as_bytes())?;
+    let mut world = opened(alloc, &case.table, name, replicas)?;
+    let told = happened(alloc, &mut world, &case.schedule)?;
+    if world.events().len() != case.schedule.len() {
+        return Err(Fail::from("not all events"));
+    }
+    Ok(told)
+}
+
+#[test]
+fn events_come_to_their_answers(rt: HostRuntime) -> Result<(), Fail> {
+    let alloc = rt.alloc();
+    for schedule in SCHEDULES.split("\n\n") {
+        let (title, lines) = schedule.split_once("\n").ok_or("no events")?;
+        let told = answers(alloc, title, lines)?;
+        let wanted = wanted(alloc, lines)?;
+        assert_eq!(rt; told.as_str(), wanted.as_str(), "{title}");
+    }
+    Ok(())
+}

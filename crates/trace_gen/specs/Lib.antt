@@ -1,0 +1,10 @@
+pub mod Draws
+pub mod Events
+pub mod Made
+pub mod Messages
+pub mod Nas
+pub mod Schedule
+pub mod Scripts
+pub mod State
+pub mod Subscribers
+pub mod Trace

@@ -1,0 +1,149 @@
+//! Events.
+
+ghost use Rattle.std.specs.Prelude.{◌≡◌, ◌++◌, ◌≤◌, Some, OnOk, string_bytes};
+ghost use Rattle.case_form.specs.Event.{lane_word};
+ghost use Rattle.trace_gen.specs.Events.{message_events, answered_events, notice_events, call_events, event_line};
+ghost use Rattle.trace_gen.specs.Made.{ended, events_text};
+ghost use Rattle.trace_gen.specs.Scripts.{lane_of};
+
+use crate::script::Call;
+use device_types::{DeviceId, Event, Lane};
+use echo_base::OutOfMemory;
+use std::fmt;
+
+/// The lane of a call.
+pub fn lane_of(call: Call) -> Lane
+    ensures { result ≡ lane_of call }
+{
+    match call {
+        Call::Gateway => Lane::Gateway,
+        Call::Subscriber | Call::Notice => Lane::Subscriber,
+    }
+}
+
+/// A lane, by its word.
+#[derive(Clone, Copy)]
+struct LaneWord(Lane);
+
+impl fmt::Display for LaneWord {
+    ghost output = { λ lane. Some (lane_word lane.0) };
+
+    fn fmt<W: fmt::Write>(&self, f: &mut fmt::Formatter<W>) -> fmt::Result {
+        match self.0 {
+            Lane::Down => write!(f, "down"),
+            Lane::Gateway => write!(f, "gateway"),
+            Lane::Subscriber => write!(f, "subscriber"),
+        }
+    }
+}
+
+/// The line of an event, without its end.
+#[derive(Clone, Copy)]
+struct EventLine(Event);
+
+impl fmt::Display for EventLine {
+    ghost output = { λ line. Some (event_line line.0) };
+
+    fn fmt<W: fmt::Write>(&self, f: &mut fmt::Formatter<W>) -> fmt::Result {
+        match self.0 {
+            Event::Send { d, n } => write!(f, "send {} {n}", d.0),
+            Event::Take { r, d, n } => write!(f, "take {r} {} {n}", d.0),
+            Event::Answer { r, d, lane, k } => {
+                write!(f, "answer {r} {} {} {k}", d.0, LaneWord(lane))
+            }
+            Event::Read { r } => write!(f, "read {r}"),
+            Event::Write { r } => write!(f, "write {r}"),
+            Event::Stop { r } => write!(f, "stop {r}"),
+            Event::Reply { d, n } => write!(f, "reply {} {n}", d.0),
+            Event::Push { d, lane, k } => write!(f, "push {} {} {k}", d.0, LaneWord(lane)),
+            Event::Effect { d, lane, k } => write!(f, "effect {} {} {k}", d.0, LaneWord(lane)),
+            Event::Settle { d, lane, k } => write!(f, "settle {} {} {k}", d.0, LaneWord(lane)),
+        }
+    }
+}
+
+/// Puts the line of an event behind a text.
+fn put_event(text: &mut String, event: Event) -> Result<(), OutOfMemory>
+    ensures { OnOk result (string_bytes text.new ≡ string_bytes text.old ++ ended (event_line event)) }
+{
+    let line = EventLine(event);
+    writeln!(text, "{line}")
+}
+
+/// Puts the lines of events behind a text.
+pub fn put_events(text: &mut String, events: &[Event]) -> Result<(), OutOfMemory>
+    ensures { OnOk result (string_bytes text.new ≡ string_bytes text.old ++ events_text events.now) }
+{
+    for event in events {
+        put_event(text, *event)?;
+    }
+    Ok(())
+}
+
+/// The events of message `n` of a device, where replica `r` takes it first, and `q` is the other.
+#[tactic(auto, unfolding(crate::specs::Events::message_events))]
+pub fn message_events(r: u32, d: DeviceId, n: u64) -> [Event; 8]
+    requires { r ≤ 3 }
+    ensures { result ≡ message_events r d n }
+{
+    let q = 3 - r;
+    [
+        Event::Send { d, n },
+        Event::Take { r, d, n },
+        Event::Take { r: q, d, n },
+        Event::Read { r },
+        Event::Read { r: q },
+        Event::Write { r },
+        Event::Write { r: q },
+        Event::Reply { d, n },
+    ]
+}
+
+/// The events of call `k` on a lane, whose answer replica `r` takes first.
+fn answered_events(r: u32, d: DeviceId, lane: Lane, k: u64) -> [Event; 10]
+    requires { r ≤ 3 }
+    ensures { result ≡ answered_events r d lane k }
+{
+    let q = 3 - r;
+    [
+        Event::Push { d, lane, k },
+        Event::Effect { d, lane, k },
+        Event::Effect { d, lane, k },
+        Event::Answer { r, d, lane, k },
+        Event::Read { r },
+        Event::Stop { r },
+        Event::Answer { r: q, d, lane, k },
+        Event::Read { r: q },
+        Event::Write { r: q },
+        Event::Settle { d, lane, k },
+    ]
+}
+
+/// The events of notice `k` on a lane.
+fn notice_events(d: DeviceId, lane: Lane, k: u64) -> [Event; 3]
+    ensures { result ≡ notice_events d lane k }
+{
+    [
+        Event::Push { d, lane, k },
+        Event::Effect { d, lane, k },
+        Event::Settle { d, lane, k },
+    ]
+}
+
+/// Puts the lines of the events of call `k` on its lane behind a text.
+pub fn put_call(
+    text: &mut String,
+    r: u32,
+    d: DeviceId,
+    call: Call,
+    k: u64,
+) -> Result<(), OutOfMemory>
+    requires { r ≤ 3 }
+    ensures { OnOk result (string_bytes text.new ≡ string_bytes text.old ++ events_text (call_events r d call k)) }
+{
+    let lane = lane_of(call);
+    match call {
+        Call::Subscriber | Call::Gateway => put_events(text, &answered_events(r, d, lane, k)),
+        Call::Notice => put_events(text, &notice_events(d, lane, k)),
+    }
+}

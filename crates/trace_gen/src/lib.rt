@@ -1,0 +1,17 @@
+//! Made cases: large valid case texts, each from a number.
+#![tactic(auto)]
+
+mod counts;
+mod draws;
+mod events;
+mod made;
+mod message;
+mod nas;
+mod schedule;
+mod script;
+mod subscribers;
+#[cfg(test)]
+mod tests;
+mod trace;
+
+pub use made::make_case;

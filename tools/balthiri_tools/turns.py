@@ -1,0 +1,107 @@
+"""Which message of which device each line of a trace is, and what the machine makes of each message.
+
+The program prints what becomes of whole devices. It is asked for the first message of each device, for the first two, and so on: what a
+device gains from one to the next is what that message made. A line that the program refuses is no message.
+"""
+
+from __future__ import annotations
+
+from dataclasses import dataclass, field
+from typing import Dict, List, Tuple
+
+from .case_text import CaseText, TraceLine
+from .command import BadInput, Progress
+from .messages import identity_of
+from .printed import Down, Final, Printed
+from .program import Program
+
+# Of the calls that one message makes, a call of an earlier name comes first.
+ORDER_OF_CALLS = ("vectors", "location", "create", "modify", "release", "delete", "purge")
+NOTICE = "purge"  # the one call whose answer no step awaits
+
+
+@dataclass(frozen=True)
+class Call:
+    """A call of a peer: its lane, its number there, its words."""
+
+    lane: str
+    number: int
+    words: str
+
+    @property
+    def is_awaited(self) -> bool:
+        return self.words != NOTICE
+
+
+@dataclass(frozen=True)
+class Message:
+    """A line of the trace as a message of a device, numbered from 1."""
+
+    device: int
+    number: int
+    line: TraceLine
+
+
+@dataclass
+class Turn:
+    """A message, and the calls and downs that it made, those of the answers to its calls among them."""
+
+    message: Message
+    calls: List[Call] = field(default_factory=list)
+    downs: List[Down] = field(default_factory=list)
+
+
+def _devices_by_name(case: CaseText) -> "tuple[Dict[str, int], Dict[int, int]]":
+    return {it.imsi: it.device for it in case.subscribers}, {it.tmsi: it.device for it in case.subscribers}
+
+
+def messages_of(case: CaseText, printed: Printed) -> List[Message]:
+    """The messages of the trace in its order: the lines that the program does not refuse."""
+    by_imsi, by_tmsi = _devices_by_name(case)
+    counts: Dict[int, int] = {}
+    messages = []
+    for line in case.trace:
+        if line.line in printed.refused:
+            continue
+        named = identity_of(line.octets() or b"")
+        device = named.mme_id or by_imsi.get(named.imsi or "") or by_tmsi.get(-1 if named.tmsi is None else named.tmsi)
+        if device is None:
+            raise BadInput(f"line {line.line}: it cannot be told whose message it is")
+        counts[device] = counts.get(device, 0) + 1
+        messages.append(Message(device, counts[device], line))
+    _check_counts(case, printed, counts)
+    return messages
+
+
+def _check_counts(case: CaseText, printed: Printed, counts: Dict[int, int]) -> None:
+    finals = printed.by_imsi()
+    for it in case.subscribers:
+        if finals[it.imsi].messages != counts.get(it.device, 0):
+            raise BadInput(f"device {it.imsi}: the program took other messages than its lines tell")
+
+
+def _gained(before: Final, after: Final) -> "tuple[List[Call], List[Down]]":
+    calls = []
+    for lane in ("gateway", "subscriber"):
+        since = len(before.calls(lane))
+        calls += [Call(lane, number, words) for number, words in enumerate(after.calls(lane)[since:], since + 1)]
+    calls.sort(key=lambda it: ORDER_OF_CALLS.index(it.words.split(" ")[0]))
+    return calls, after.downs[len(before.downs) :]
+
+
+def turns_of(program: Program, case: CaseText, printed: Printed, progress: Progress) -> List[Turn]:
+    """The messages of the trace in its order, each with what it made."""
+    messages = messages_of(case, printed)
+    imsis = {it.device: it.imsi for it in case.subscribers}
+    turns: Dict[Tuple[int, int], Turn] = {}
+    before = {it.imsi: Final(it.imsi, 0) for it in case.subscribers}
+    most = max([it.number for it in messages], default=0)
+    for number in range(1, most + 1):
+        progress.at(number, most)
+        fronts = [it.line for it in messages if it.number <= number]
+        after = program.plain(case.with_trace(fronts)).by_imsi()
+        for it in messages:
+            if it.number == number:
+                turns[it.device, number] = Turn(it, *_gained(before[imsis[it.device]], after[imsis[it.device]]))
+        before = after
+    return [turns[it.device, it.number] for it in messages]

@@ -1,0 +1,92 @@
+"""What the tests share: the folders, the tools as they are started, and what a test needs to be run."""
+
+from __future__ import annotations
+
+import os
+import shutil
+import subprocess
+import sys
+import tempfile
+import unittest
+from pathlib import Path
+from typing import Callable, List, Optional
+
+from balthiri_tools.program import BUILT
+
+TESTS = Path(__file__).resolve().parent
+TOOLS = TESTS.parent
+DATA = TESTS / "data"
+EXAMPLES = TOOLS.parent / "examples"
+
+PLAIN = ["plain_1", "plain_2", "plain_3"]
+REPLAYS = ["replay_1", "replay_2", "replay_3"]
+
+
+def needs(*commands: str) -> Callable[[type], type]:
+    """Skips the tests of a class where one of these commands is not installed, or the program is not built."""
+    missing = [it for it in commands if it != "program" and shutil.which(it) is None]
+    if "program" in commands and not os.access(BUILT, os.X_OK):
+        missing.append("the built program, crates/echo_cli/out/echo_cli (`rt ci` makes it)")
+    return unittest.skipIf(bool(missing), f"missing: {', '.join(missing)}")
+
+
+def has_replay() -> bool:
+    """Whether the built program has the command `replay`."""
+    if not os.access(BUILT, os.X_OK):
+        return False
+    return subprocess.run([str(BUILT), "replay"], input=b"", stdout=subprocess.DEVNULL, stderr=subprocess.DEVNULL, check=False).returncode == 0
+
+
+def run_program(word: str, case: bytes) -> bytes:
+    return subprocess.run([str(BUILT), word], input=case, stdout=subprocess.PIPE, check=True).stdout
+
+
+def run(tool: str, *words: object, given: bytes = b"") -> "subprocess.CompletedProcess[bytes]":
+    line = [sys.executable, str(TOOLS / tool), *map(str, words)]
+    return subprocess.run(line, input=given, stdout=subprocess.PIPE, stderr=subprocess.PIPE, check=False)
+
+
+def trace_of(case: bytes) -> List[str]:
+    """The lines of the trace, without comments; nothing of this is the tools' own reading."""
+    section: Optional[bytes] = None
+    lines = []
+    for it in (line[:-1] if line.endswith(b"\r") else line for line in case.split(b"\n")):
+        if it.startswith(b"["):
+            section = it
+        elif it and not it.startswith(b"#") and section == b"[trace]":
+            lines.append(it.decode("latin-1"))
+    return lines
+
+
+def subscribers_of(case: bytes) -> bytes:
+    return b"".join(it + b"\n" for it in case.replace(b"\r", b"").split(b"\n") if it.startswith(b"{"))
+
+
+class InFolder(unittest.TestCase):
+    """A test with a folder of its own."""
+
+    def setUp(self) -> None:
+        folder = tempfile.TemporaryDirectory()
+        self.addCleanup(folder.cleanup)
+        self.folder = Path(folder.name)
+
+    def file(self, name: str, octets: bytes) -> Path:
+        path = self.folder / name
+        path.write_bytes(octets)
+        return path
+
+    def ran(self, tool: str, *words: object, given: bytes = b"") -> "subprocess.CompletedProcess[bytes]":
+        """A run that is to end well."""
+        done = run(tool, *words, given=given)
+        self.assertEqual(done.returncode, 0, done.stderr)
+        return done
+
+    def refused(self, expected: str, tool: str, *words: object, given: bytes = b"") -> None:
+        """A run that is to be refused: status 2, one line on standard error that has these words, nothing written."""
+        made = self.folder / "made"
+        done = run(tool, *words, "-o", made, given=given)
+        self.assertEqual((done.returncode, done.stdout), (2, b""))
+        lines = done.stderr.decode().splitlines()
+        self.assertEqual(len(lines), 1, lines)
+        self.assertIn(expected, lines[0])
+        self.assertFalse(made.exists())
