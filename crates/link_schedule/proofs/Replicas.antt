@@ -1,5 +1,5 @@
 -- What a replica reads and writes, as the answer to the event, with the parts after it.
-use Rattle.std.proofs.Common.{◌≡◌, ℕ, ◌-◌, ◌≤◌, List, [], ◌∷◌, length, take, set, get_or, Some, None, refl, sym, ap, ◌∙◌, subst, arith}
+use Rattle.std.proofs.Common.{◌≡◌, ℕ, ◌-◌, ◌≤◌, List, ◌∷◌, length, take, set, get_or, Some, None, refl, sym, ap, ◌∙◌, subst, arith}
 use Rattle.std.specs.Prelude.{IsSomeAnd, slice_get}
 use Rattle.std.proofs.lemmas.List.{get_or_default, length-take-le}
 use Rattle.std.proofs.lemmas.Option.{some_pair_parts}
@@ -23,7 +23,7 @@ use Rattle.replica_worker.specs.Hands.{held_in, CanBeRead, step_at, hand_of as h
 use Rattle.replica_worker.specs.Writes.{MayWrite, WritesHeld}
 use Rattle.session_row.specs.declared.commit.Commit.{Commit}
 use Rattle.session_row.specs.Row.{RowState, Commits, look_at as row_look}
-use Rattle.session_store.specs.Charter.{CharterState, alone_in, follows_alone}
+use Rattle.session_store.specs.Charter.{CharterState, alone_in}
 use Rattle.session_store.specs.Rows.{StoreState, IsDevice, WritesRow, opening_row, row_of as row_stored, journal_of}
 use Rattle.session_store.specs.Seen.{IsAsked, asked_of, look_to}
 use Rattle.link_schedule.specs.Answer.{look_answer, answer, Lawful}

@@ -1,4 +1,4 @@
-use Rattle.std.proofs.Common.{◌≡◌, [], ◌∷◌, ◌++◌, false, refl, sym, ◌∙◌, subst}
+use Rattle.std.proofs.Common.{◌≡◌, false, refl, sym, ◌∙◌, subst}
 use Rattle.device_types.specs.declared.event.Event.TheVariants.{Effect}
 use Rattle.device_types.specs.declared.event.EventAnswer.TheVariants as told
 use Rattle.link_schedule.specs.Answer.{IsEvent, history}

@@ -1,10 +1,9 @@
-use Rattle.std.proofs.Common.{◌≡◌, ◌-◌, ◌<◌, ◌≤◌, true, List, [], ◌∷◌, ◌++◌, length, Some, refl, sym, ap, ◌∙◌, subst, arith}
+use Rattle.std.proofs.Common.{◌≡◌, ◌-◌, true, List, [], ◌∷◌, Some, sym, ap, ◌∙◌, subst, arith}
 use Rattle.std.specs.Prelude.{slice_get}
 use Rattle.device_types.specs.declared.effect.Effect.TheVariants as effects
 use Rattle.device_types.specs.declared.effect.GwCall.{GwCall}
 use Rattle.device_types.specs.declared.event.Event.TheVariants.{Effect}
 use Rattle.device_types.specs.declared.event.Lane.TheVariants.{Gateway}
-use Rattle.device_types.specs.declared.input.Offer.{Offer}
 use Rattle.device_types.specs.Journal.{effects_of}
 use Rattle.peer_calls.specs.Calls.{calls_of, offer_of, after_offer}
 use Rattle.peer_gateway.specs.Gateway.{gateway_answer_of}

@@ -1,4 +1,4 @@
-use Rattle.std.proofs.Common.{◌≡◌, ◌-◌, List, [], ◌∷◌, ◌++◌, Some, None, set, refl, sym, ap, ◌∙◌, subst}
+use Rattle.std.proofs.Common.{◌≡◌, ◌-◌, ◌∷◌, set, sym, ap, ◌∙◌, subst}
 use Rattle.device_types.specs.declared.event.Event.TheVariants.{Read}
 use Rattle.session_store.specs.Rows.{StoreState}
 use Rattle.device_types.specs.Numbers.{IsWithin}

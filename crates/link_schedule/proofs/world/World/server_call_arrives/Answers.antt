@@ -1,10 +1,9 @@
-use Rattle.std.proofs.Common.{◌≡◌, ◌-◌, ◌<◌, ◌≤◌, true, List, [], ◌∷◌, ◌++◌, length, Some, refl, sym, ap, ◌∙◌, subst, arith}
+use Rattle.std.proofs.Common.{◌≡◌, ◌-◌, true, List, [], ◌∷◌, Some, sym, ap, ◌∙◌, subst}
 use Rattle.std.specs.Prelude.{slice_get}
 use Rattle.device_types.specs.declared.effect.Effect.TheVariants as effects
 use Rattle.device_types.specs.declared.effect.SubCall.{SubCall}
 use Rattle.device_types.specs.declared.event.Event.TheVariants.{Effect}
 use Rattle.device_types.specs.declared.event.Lane.TheVariants.{Subscriber}
-use Rattle.device_types.specs.declared.input.Offer.{Offer}
 use Rattle.device_types.specs.Journal.{effects_of}
 use Rattle.peer_calls.specs.Calls.{calls_of, offer_of, after_offer}
 use Rattle.peer_subscriber.specs.Server.{subscriber_answer_of}

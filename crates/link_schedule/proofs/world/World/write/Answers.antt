@@ -1,4 +1,4 @@
-use Rattle.std.proofs.Common.{◌≡◌, ◌-◌, List, [], ◌∷◌, ◌++◌, set, refl, sym, ap, ◌∙◌, subst}
+use Rattle.std.proofs.Common.{◌≡◌, ◌-◌, ◌∷◌, set, refl, sym, ◌∙◌, subst}
 use Rattle.device_types.specs.declared.event.Event.TheVariants.{Write}
 use Rattle.device_types.specs.declared.event.EventAnswer.TheVariants as told
 use Rattle.replica_worker.specs.declared.hand.Hand.{Hand}
