@@ -420,7 +420,8 @@ fn may_happen(world: &World, event: Event) -> bool
         Event::Send { d, n } | Event::Reply { d, n } => is_item(world, d, n),
         Event::Take { r, d, n } => is_replica(r) && is_item(world, d, n),
         Event::Answer {
-            lane: Lane::Down, ..
+            lane: Lane::Down,
+            ..
         } => false,
         Event::Answer { r, d, k, .. } => is_replica(r) && is_item(world, d, k),
         Event::Read { r } | Event::Write { r } | Event::Stop { r } => is_replica(r),
