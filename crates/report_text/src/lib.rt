@@ -17,6 +17,6 @@ mod whole;
 
 pub use show::show_text;
 pub use status::status_line;
-pub use transcript::transcript_line;
 pub use summary::{Scheduled, Summary, summary_line};
+pub use transcript::transcript_line;
 pub use whole::final_text;

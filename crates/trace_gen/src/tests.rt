@@ -147,9 +147,9 @@ fn made(alloc: Global, number: u32, devices: u32, rounds: u32) -> Result<String,
         case.schedule.len(),
     );
     let (octets, hash) = (text.octets().len(), hash_of(text.octets()));
-    Ok(
-        format!(in alloc; "rows {rows} messages {messages} events {events} octets {octets} hash {hash}")?,
-    )
+    Ok(format!(in alloc;
+        "rows {rows} messages {messages} events {events} octets {octets} hash {hash}"
+    )?)
 }
 
 #[test]
