@@ -12,7 +12,7 @@ from balthiri_tools.frames import frames_of
 from balthiri_tools.packets import PCAP_HEADER, S1AP_PAYLOAD, S1AP_PORT, Frame, crc32c, ipv4_packet, pcap_of
 from balthiri_tools.printed import Down, Printed
 from balthiri_tools.turns import Message, Turn
-from support import DATA, EXAMPLES, PLAIN, InFolder, has_replay, needs, run, run_program, subscribers_of, trace_of
+from support import DATA, EXAMPLES, PLAIN, InFolder, has_replay, needs, run, run_program, subscribers_of, told, trace_of
 
 # What begins a message of a base station: outcome and procedure.
 FROM_STATIONS = ("000c", "000d", "2009", "4009", "0012", "2017", "0016")
@@ -106,19 +106,18 @@ class RoundTrip(InFolder):
         done = self.ran("case2pcap", case, DATA / "plain_1_text.txt", "-o", self.folder / "made")
         downs = sum(it.startswith(b"down ") for it in (DATA / "plain_1_text.txt").read_bytes().split(b"\n"))
         left_out = f"{len(lines) - len(there)} lines of the trace that are no message of a base station"
-        expected = f"case2pcap: {len(there)} messages up, {downs} down; left out: {left_out}\n"
-        self.assertEqual(done.stderr.decode(), expected)
+        self.assertEqual(told(done), [f"case2pcap: {len(there)} messages up, {downs} down; left out: {left_out}"])
         back = self.ran("pcap2case", self.folder / "made", "-", given=subscribers_of(case.read_bytes()))
-        self.assertEqual(back.stderr.decode(), f"pcap2case: {len(there)} lines of a trace; left out: {downs} of the MME, 0 of other procedures\n")
+        self.assertEqual(told(back), [f"pcap2case: {len(there)} lines of a trace; left out: {downs} of the MME, 0 of other procedures"])
 
     def test_up_and_down_in_order(self) -> None:
         capture = self.folder / "attach.pcap"
         self.ran("case2pcap", EXAMPLES / "attach.txt", EXAMPLES / "attach_text.txt", "-o", capture)
         words = ["tshark", "-n", "-r", str(capture), "-T", "fields", "-e", "ip.src", "-e", "s1ap.procedureCode"]
-        told = subprocess.run(words, stdout=subprocess.PIPE, stderr=subprocess.DEVNULL, check=True).stdout.decode().split()
+        found = subprocess.run(words, stdout=subprocess.PIPE, stderr=subprocess.DEVNULL, check=True).stdout.decode().split()
         station, mme = "10.1.0.1", "10.0.0.1"
         way = [(station, "12"), (mme, "11"), (station, "13"), (mme, "11"), (station, "13"), (mme, "9"), (station, "9"), (station, "22"), (station, "13")]
-        self.assertEqual(list(zip(told[::2], told[1::2])), way)
+        self.assertEqual(list(zip(found[::2], found[1::2])), way)
 
     def test_tshark_finds_nothing_malformed_in_what_goes_down(self) -> None:
         frames = 0
@@ -127,13 +126,13 @@ class RoundTrip(InFolder):
             words += ["-T", "fields", "-E", "separator=|"]
             for it in ("s1ap", "ip.checksum.status", "sctp.checksum.status", "_ws.malformed", "_ws.expert.message"):
                 words += ["-e", it]
-            told = subprocess.run(words, stdout=subprocess.PIPE, stderr=subprocess.DEVNULL, check=True).stdout.decode().splitlines()
-            for it in told:
+            found = subprocess.run(words, stdout=subprocess.PIPE, stderr=subprocess.DEVNULL, check=True).stdout.decode().splitlines()
+            for it in found:
                 s1ap, ip_checksum, sctp_checksum, malformed, expert = it.split("|")
                 self.assertTrue(s1ap)
                 self.assertEqual((ip_checksum, sctp_checksum), ("1", "1"))
                 self.assertIn(malformed + expert, ["", *KNOWN_MALFORMED])
-            frames += len(told)
+            frames += len(found)
         self.assertEqual(frames, sum((DATA / f"{it}_text.txt").read_bytes().count(b"\ndown ") for it in PLAIN))
 
     def test_the_capture_of_the_examples_comes_back(self) -> None:
@@ -153,10 +152,10 @@ class Captures(InFolder):
     message = bytes.fromhex(trace_of(ATTACH)[0].split(" ")[1])
     other = bytes.fromhex(trace_of(ATTACH)[3].split(" ")[1])
 
-    def back(self, octets: bytes) -> "Tuple[List[str], str]":
+    def back(self, octets: bytes) -> "Tuple[List[str], List[str]]":
         capture = self.file("capture", octets)
         done = self.ran("pcap2case", capture, "-", given=subscribers_of(ATTACH))
-        return trace_of(done.stdout), done.stderr.decode()
+        return trace_of(done.stdout), told(done)
 
     def line(self, station: int, message: bytes) -> str:
         return f"{station} {message.hex()}"
@@ -187,15 +186,15 @@ class Captures(InFolder):
     def test_other_procedures_and_the_mme_are_counted(self) -> None:
         frames = [Frame(True, 1, bytes.fromhex("00110000")), Frame(True, 1, self.message)]
         frames += [Frame(False, 1, bytes.fromhex(it)) for it in ("000b4017", "20110000")]
-        lines, told = self.back(pcap_of(frames))
+        lines, end = self.back(pcap_of(frames))
         self.assertEqual(lines, [self.line(1, self.message)])
-        self.assertEqual(told, "pcap2case: 1 line of a trace; left out: 1 of the MME, 2 of other procedures\n")
+        self.assertEqual(end, ["pcap2case: 1 line of a trace; left out: 1 of the MME, 2 of other procedures"])
 
     def test_a_message_too_long_for_a_line(self) -> None:
         long = bytes.fromhex("00164090") + bytes(4092)  # "1 " and 8,192 digits
-        lines, told = self.back(pcap_of([Frame(True, 1, long), Frame(True, 1, long[:-1])]))
+        lines, end = self.back(pcap_of([Frame(True, 1, long), Frame(True, 1, long[:-1])]))
         self.assertEqual(lines, [self.line(1, long[:-1])])
-        self.assertIn(", 1 too long for a line", told)
+        self.assertEqual(end, ["pcap2case: 1 line of a trace; left out: 0 of the MME, 0 of other procedures, 1 too long for a line"])
 
     def test_pcapng(self) -> None:
         capture = self.folder / "attach.pcapng"
