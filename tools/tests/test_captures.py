@@ -12,7 +12,7 @@ from balthiri_tools.frames import frames_of
 from balthiri_tools.packets import PCAP_HEADER, S1AP_PAYLOAD, S1AP_PORT, Frame, crc32c, ipv4_packet, pcap_of
 from balthiri_tools.printed import Down, Printed
 from balthiri_tools.turns import Message, Turn
-from support import DATA, EXAMPLES, PLAIN, InFolder, has_replay, needs, run, run_program, subscribers_of, trace_of
+from support import DATA, EXAMPLES, PLAIN, InFolder, has_replay, needs, run, run_program, subscribers_of, told, trace_of
 
 # What begins a message of a base station: outcome and procedure.
 FROM_STATIONS = ("000c", "000d", "2009", "4009", "0012", "2017", "0016")
@@ -76,6 +76,49 @@ class Order(unittest.TestCase):
         self.assertEqual(self.order(events), expected)
 
 
+# S1AP is there, the checksums of IP and SCTP are right, and nothing is malformed or remarked on, but for the known.
+WHOLE = [f"s1ap|1|1|{it}" for it in ["|", *KNOWN_MALFORMED]]
+
+
+def dissected(capture: Path) -> List[str]:
+    """What tshark finds of each frame that the MME sent."""
+    words = ["tshark", "-n", "-r", str(capture), "-o", "ip.check_checksum:TRUE", "-o", "sctp.checksum:CRC 32c", "-Y", "ip.src == 10.0.0.1"]
+    words += ["-T", "fields", "-E", "separator=|"]
+    for it in ("s1ap", "ip.checksum.status", "sctp.checksum.status", "_ws.malformed", "_ws.expert.message"):
+        words += ["-e", it]
+    return subprocess.run(words, stdout=subprocess.PIPE, stderr=subprocess.DEVNULL, check=True).stdout.decode().splitlines()
+
+
+@needs("tshark")
+class Dissected(InFolder):
+    # The types of the NAS messages that the MME sends, but for an Attach accept, which the printed texts have.
+    kinds = {"52", "54", "5d", "44", "4e", "4b", "49", "46"}
+
+    def test_every_down_of_the_printed_texts(self) -> None:
+        texts = "".join(it.read_text() for folder in (DATA, EXAMPLES) for it in sorted(folder.glob("*_text.txt")))
+        downs = [it.split(" ") for it in texts.split("\n") if it.startswith("down ")]
+        capture = self.file("downs", pcap_of([Frame(False, int(station), bytes.fromhex(octets)) for _, _, station, octets in downs]))
+        found = dissected(capture)
+        self.assertEqual([it for it in found if it not in WHOLE], [])
+        self.assertEqual(len(found), len(downs))
+
+    def test_each_kind_of_down(self) -> None:
+        # worked by hand: MME-UE-S1AP-ID 1, eNB-UE-S1AP-ID 1, and the NAS message
+        messages = ["07520000" + "11" * 15 + "10" + "22" * 16, "0754", "075d000002e0e0", "07440c", "074e0a", "074b0c", "074900", "0746"]
+        self.assertEqual({it[2:4] for it in messages}, self.kinds)
+        frames = []
+        for nas in messages:
+            length = len(nas) // 2
+            front = f"000b40{length + 20:02x}000003" + "000000020001" + "000800020001"
+            frames.append(Frame(False, 1, bytes.fromhex(front + f"001a00{length + 1:02x}{length:02x}" + nas)))
+        for cause in ("0120", "0122", "0124", "020280"):  # the release command, with an IE Cause of one octet or of two
+            length = 15 + len(cause) // 2 - 1
+            frames.append(Frame(False, 1, bytes.fromhex(f"001700{length:02x}000002" + "0063000400010001" + "000240" + cause)))
+        found = dissected(self.file("kinds", pcap_of(frames)))
+        self.assertEqual([it for it in found if it not in WHOLE], [])
+        self.assertEqual(len(found), 12)
+
+
 @needs("program")
 class Made(InFolder):
     def test_the_capture_of_the_examples(self) -> None:
@@ -106,35 +149,24 @@ class RoundTrip(InFolder):
         done = self.ran("case2pcap", case, DATA / "plain_1_text.txt", "-o", self.folder / "made")
         downs = sum(it.startswith(b"down ") for it in (DATA / "plain_1_text.txt").read_bytes().split(b"\n"))
         left_out = f"{len(lines) - len(there)} lines of the trace that are no message of a base station"
-        expected = f"case2pcap: {len(there)} messages up, {downs} down; left out: {left_out}\n"
-        self.assertEqual(done.stderr.decode(), expected)
+        self.assertEqual(told(done), [f"case2pcap: {len(there)} messages up, {downs} down; left out: {left_out}"])
         back = self.ran("pcap2case", self.folder / "made", "-", given=subscribers_of(case.read_bytes()))
-        self.assertEqual(back.stderr.decode(), f"pcap2case: {len(there)} lines of a trace; left out: {downs} of the MME, 0 of other procedures\n")
+        self.assertEqual(told(back), [f"pcap2case: {len(there)} lines of a trace; left out: {downs} of the MME, 0 of other procedures"])
 
     def test_up_and_down_in_order(self) -> None:
         capture = self.folder / "attach.pcap"
         self.ran("case2pcap", EXAMPLES / "attach.txt", EXAMPLES / "attach_text.txt", "-o", capture)
         words = ["tshark", "-n", "-r", str(capture), "-T", "fields", "-e", "ip.src", "-e", "s1ap.procedureCode"]
-        told = subprocess.run(words, stdout=subprocess.PIPE, stderr=subprocess.DEVNULL, check=True).stdout.decode().split()
+        found = subprocess.run(words, stdout=subprocess.PIPE, stderr=subprocess.DEVNULL, check=True).stdout.decode().split()
         station, mme = "10.1.0.1", "10.0.0.1"
         way = [(station, "12"), (mme, "11"), (station, "13"), (mme, "11"), (station, "13"), (mme, "9"), (station, "9"), (station, "22"), (station, "13")]
-        self.assertEqual(list(zip(told[::2], told[1::2])), way)
+        self.assertEqual(list(zip(found[::2], found[1::2])), way)
 
-    def test_tshark_finds_nothing_malformed_in_what_goes_down(self) -> None:
-        frames = 0
+    def test_what_goes_down_in_a_capture_is_whole(self) -> None:
         for name in PLAIN:
-            words = ["tshark", "-n", "-r", str(self.captured(name)), "-o", "ip.check_checksum:TRUE", "-o", "sctp.checksum:CRC 32c", "-Y", "ip.src == 10.0.0.1"]
-            words += ["-T", "fields", "-E", "separator=|"]
-            for it in ("s1ap", "ip.checksum.status", "sctp.checksum.status", "_ws.malformed", "_ws.expert.message"):
-                words += ["-e", it]
-            told = subprocess.run(words, stdout=subprocess.PIPE, stderr=subprocess.DEVNULL, check=True).stdout.decode().splitlines()
-            for it in told:
-                s1ap, ip_checksum, sctp_checksum, malformed, expert = it.split("|")
-                self.assertTrue(s1ap)
-                self.assertEqual((ip_checksum, sctp_checksum), ("1", "1"))
-                self.assertIn(malformed + expert, ["", *KNOWN_MALFORMED])
-            frames += len(told)
-        self.assertEqual(frames, sum((DATA / f"{it}_text.txt").read_bytes().count(b"\ndown ") for it in PLAIN))
+            found = dissected(self.captured(name))
+            self.assertEqual([it for it in found if it not in WHOLE], [])
+            self.assertEqual(len(found), (DATA / f"{name}_text.txt").read_bytes().count(b"\ndown "))
 
     def test_the_capture_of_the_examples_comes_back(self) -> None:
         back = self.ran("pcap2case", EXAMPLES / "attach.pcap", "-", given=subscribers_of(ATTACH))
@@ -153,10 +185,10 @@ class Captures(InFolder):
     message = bytes.fromhex(trace_of(ATTACH)[0].split(" ")[1])
     other = bytes.fromhex(trace_of(ATTACH)[3].split(" ")[1])
 
-    def back(self, octets: bytes) -> "Tuple[List[str], str]":
+    def back(self, octets: bytes) -> "Tuple[List[str], List[str]]":
         capture = self.file("capture", octets)
         done = self.ran("pcap2case", capture, "-", given=subscribers_of(ATTACH))
-        return trace_of(done.stdout), done.stderr.decode()
+        return trace_of(done.stdout), told(done)
 
     def line(self, station: int, message: bytes) -> str:
         return f"{station} {message.hex()}"
@@ -187,15 +219,15 @@ class Captures(InFolder):
     def test_other_procedures_and_the_mme_are_counted(self) -> None:
         frames = [Frame(True, 1, bytes.fromhex("00110000")), Frame(True, 1, self.message)]
         frames += [Frame(False, 1, bytes.fromhex(it)) for it in ("000b4017", "20110000")]
-        lines, told = self.back(pcap_of(frames))
+        lines, end = self.back(pcap_of(frames))
         self.assertEqual(lines, [self.line(1, self.message)])
-        self.assertEqual(told, "pcap2case: 1 line of a trace; left out: 1 of the MME, 2 of other procedures\n")
+        self.assertEqual(end, ["pcap2case: 1 line of a trace; left out: 1 of the MME, 2 of other procedures"])
 
     def test_a_message_too_long_for_a_line(self) -> None:
         long = bytes.fromhex("00164090") + bytes(4092)  # "1 " and 8,192 digits
-        lines, told = self.back(pcap_of([Frame(True, 1, long), Frame(True, 1, long[:-1])]))
+        lines, end = self.back(pcap_of([Frame(True, 1, long), Frame(True, 1, long[:-1])]))
         self.assertEqual(lines, [self.line(1, long[:-1])])
-        self.assertIn(", 1 too long for a line", told)
+        self.assertEqual(end, ["pcap2case: 1 line of a trace; left out: 0 of the MME, 0 of other procedures, 1 too long for a line"])
 
     def test_pcapng(self) -> None:
         capture = self.folder / "attach.pcapng"
