@@ -143,6 +143,11 @@ class Widths(unittest.TestCase):
         self.assertEqual(list(Chart(lines).columns()), ["station9", "station12", "agents", "replica9", "replica10", "store", "gateway", "subscriber"])
 
 
+def words_of(picture: bytes) -> List[bytes]:
+    """The words of an SVG in order; where they stand differs from one mscgen to another."""
+    return re.findall(rb"<text[^>]*>([^<]*)", picture)
+
+
 @needs("mscgen")
 class Pictures(unittest.TestCase):
     def test_mscgen_draws_each_chart(self) -> None:
@@ -154,7 +159,9 @@ class Pictures(unittest.TestCase):
     def test_the_pictures_of_the_readme_are_made_by_the_tool(self) -> None:
         for it in README_CHARTS:
             made = picture_of(chart_of(EXAMPLES / f"{it}.txt", EXAMPLES / f"{it}_text.txt").text(None), "svg")
-            self.assertEqual(made, (TOOLS.parent / "docs" / f"ladder_{it}.svg").read_bytes())
+            drawn = (TOOLS.parent / "docs" / f"ladder_{it}.svg").read_bytes()
+            self.assertEqual(words_of(made), words_of(drawn))
+            self.assertGreater(len(words_of(drawn)), 8)
 
 
 PLAIN_ATTACH = [
