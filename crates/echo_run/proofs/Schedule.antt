@@ -1,5 +1,5 @@
 -- The transcript grows by a line an event; and the events of a case are events of its world.
-use Rattle.std.proofs.Common.{◌≡◌, ℕ, ◌+◌, ◌<◌, ◌≤◌, List, [], ◌∷◌, ◌++◌, length, take, get_or, refl, sym, ap, subst, ◌∙◌, append_assoc, arith}
+use Rattle.std.proofs.Common.{◌≡◌, ℕ, ◌+◌, ◌<◌, List, [], ◌∷◌, ◌++◌, length, take, get_or, sym, ap, subst, ◌∙◌, append_assoc, arith}
 use Rattle.std.specs.Prelude.{All, map, reverse}
 use Rattle.std.specs.List.{fold}
 use Rattle.std.proofs.lemmas.List.{append-nil, reverse-append, length-map, length-reverse, length-take, take_more}

@@ -334,18 +334,22 @@ replay --replicas 0000000009: 9
 replay --replicas=0000000010: 10
 ";
 
+/// Puts the line of an event behind a text.
+fn put_answer(text: &mut String, number: u32, answer: &str) -> Result<(), AllocError> {
+    writeln!(text, "event {number}: {answer}")
+}
+
 /// A case with an event for each replica that there may be, and what is written where there are so many.
 fn stops(alloc: Global, replicas: u32) -> Result<(String, String), AllocError> {
     let mut text = lines(alloc, "[subscribers]|row|[schedule]")?;
     let mut wanted = String::new(alloc);
-    for r in 1..=16u32 {
-        let answer = if r <= replicas {
-            "stopped"
-        } else {
-            "void replica"
-        };
+    for r in 1..17u32 {
         writeln!(text, "stop {r}")?;
-        writeln!(wanted, "event {r}: {answer}")?;
+        if r <= replicas {
+            put_answer(&mut wanted, r, "stopped")?;
+        } else {
+            put_answer(&mut wanted, r, "void replica")?;
+        }
     }
     put_line(&mut wanted, "device 208930000000001 messages 0 steps 0")?;
     put_line(
