@@ -3,7 +3,8 @@
 #![tactic(auto)]
 
 use echo_base::{RealSink, RealSource, Status, write_all};
-use echo_run::replay_top;
+use echo_run::replay_own;
+use link_schedule::OwnFloor;
 use report_text::status_line;
 use std::env;
 use std::io::ErrorKind;
@@ -27,7 +28,8 @@ fn run(rt: &HostRuntime) -> Status {
         Ok(words) => {
             let mut input = RealSource::new(rt.stdin());
             let mut output = RealSink::new(rt.stdout());
-            replay_top(rt.alloc(), &words, &mut input, &mut output)
+            let mut floor = OwnFloor::new();
+            replay_own(rt.alloc(), &words, &mut input, &mut output, &mut floor)
         }
         Err(status) => status,
     }

@@ -1,8 +1,7 @@
--- The transcript grows by a line an event; and the events of a case are events of its world.
+-- What is told of a schedule grows by a line an event; and the events of a case are events of a floor that is open on it.
 use Rattle.std.proofs.Common.{◌≡◌, ℕ, ◌+◌, ◌<◌, List, [], ◌∷◌, ◌++◌, length, take, get_or, sym, ap, subst, ◌∙◌, append_assoc, arith}
-use Rattle.std.specs.Prelude.{All, map, reverse}
-use Rattle.std.specs.List.{fold}
-use Rattle.std.proofs.lemmas.List.{append-nil, reverse-append, length-map, length-reverse, length-take, take_more}
+use Rattle.std.specs.Prelude.{All, Option, Some, map}
+use Rattle.std.proofs.lemmas.List.{append-nil, map-append, length-map, length-take, take_more}
 use Rattle.std.proofs.lemmas.List.Elements.{All-weaker}
 use Rattle.device_types.specs.declared.event.Event.{Event}
 use Rattle.device_types.specs.declared.event.Event.TheVariants.{Send, Take, Answer, Read, Write, Stop, Reply, Push, Effect, Settle}
@@ -10,32 +9,15 @@ use Rattle.device_types.specs.declared.event.EventAnswer.{EventAnswer}
 use Rattle.device_types.specs.declared.message.Message.{Message}
 use Rattle.device_types.specs.declared.subscriber.Subscriber.{Subscriber}
 use Rattle.device_types.specs.Event.{IsInForm}
-use Rattle.link_schedule.specs.Answer.{answer, turn, history, answers, IsEvent}
+use Rattle.link_schedule.specs.Answer.{IsEvent}
 use Rattle.link_schedule.specs.Counts.{Turn}
+use Rattle.link_schedule.specs.Floor.{events_of, IsEventOn}
 use Rattle.link_schedule.specs.Promise.{setting}
 use Rattle.link_schedule.specs.Setting.{Setting}
-use Rattle.link_schedule.proofs.Events.{history_more}
 use Rattle.report_text.specs.Transcript.{transcript_line}
 use Rattle.echo_run.specs.Replay.{lines_from}
 
 -- ---- one event more
-
-answers_more : (s : Setting) (es : List Event) (e : Event) → answers s (es ++ e ∷ []) ≡ answers s es ++ answer s (history s es) e ∷ []
-answers_more s es e =
-    ap (λ (H : List Turn). reverse (map (λ t. t.1) H)) (history_more s es e)
-    ∙ reverse-append (answer s (history s es) e ∷ []) (map (λ t. t.1) (history s es))
-
-turns : (s : Setting) (H : List Turn) (es : List Event) → length (fold (turn s) H es) ≡ length H + length es
-turns s H [] = omega arith
-turns s H (e ∷ es) = let more = turns s (turn s H e) es in omega arith
-
-count : (s : Setting) (es : List Event) → length (answers s es) ≡ length es
-count s es =
-    let H = history s es in
-    let turned = length-reverse (map (λ (t : Turn). t.1) H) in
-    let told = length-map H (λ t. t.1) in
-    let each = turns s [] es in
-    omega (arith, turned, told, each)
 
 lines_more : (n m : ℕ) (given : List EventAnswer) (a : EventAnswer) → m ≡ n + length given → lines_from n (given ++ a ∷ []) ≡ lines_from n given ++ transcript_line m a
 lines_more n m [] a e = append-nil (transcript_line n a) ∙ ap (λ k. transcript_line k a) (omega (arith, e))
@@ -43,21 +25,20 @@ lines_more n m (b ∷ given) a e =
     ap (λ l. transcript_line n b ++ l) (lines_more (n + 1) m given a (omega (arith, e)))
     ∙ sym (append_assoc (transcript_line n b) (lines_from (n + 1) given) (transcript_line m a))
 
--- the event behind i others was taken, and its line is there
-pub one_more : (s t : Setting) (schedule es later : List Event) (i : ℕ) (d : Event) (text more : List ℕ) → i < length schedule → t ≡ s → es ≡ take i schedule → text ≡ lines_from 1 (answers s (take i schedule)) → later ≡ es ++ get_or schedule i d ∷ [] → more ≡ text ++ transcript_line (i + 1) (answer t (history t es) (get_or schedule i d)) → (later ≡ take (i + 1) schedule) × (more ≡ lines_from 1 (answers s (take (i + 1) schedule)))
-one_more s t schedule es later i d text more within same before so_far taken then =
-    let front = take i schedule in
+-- the event behind i others was given, and its line is there
+pub one_told : (schedule : List Event) (given later : List Turn) (i : ℕ) (d : Event) (a : EventAnswer) (text more : List ℕ) → i < length schedule → events_of given ≡ take i schedule → text ≡ lines_from 1 (map (λ t. t.1) given) → later ≡ given ++ (get_or schedule i d, a) ∷ [] → more ≡ text ++ transcript_line (i + 1) a → (events_of later ≡ take (i + 1) schedule) × (more ≡ lines_from 1 (map (λ t. t.1) later))
+one_told schedule given later i d a text more within before so_far taken then =
     let e = get_or schedule i d in
-    let long : i + 1 ≡ 1 + length (answers s front) = omega (arith, count s front, length-take i schedule, within) in
-    let one = take_more schedule i d within in (
-      taken ∙ ap (λ (xs : List Event). xs ++ e ∷ []) before ∙ sym one,
+    let told = map (λ (t : Turn). t.1) given in
+    let count = length-map given (λ t. t.1) in
+    let events = length-map given (λ t. t.0) in
+    let long : i + 1 ≡ 1 + length told = omega (arith, count, events, ap length before, length-take i schedule, within) in (
+      ap events_of taken ∙ map-append (λ t. t.0) given ((e, a) ∷ []) ∙ ap (λ (xs : List Event). xs ++ e ∷ []) before ∙ sym (take_more schedule i d within),
       then
-          ∙ ap (λ (x : Setting). text ++ transcript_line (i + 1) (answer x (history x es) e)) same
-          ∙ ap (λ l. l ++ transcript_line (i + 1) (answer s (history s es) e)) so_far
-          ∙ ap (λ (xs : List Event). lines_from 1 (answers s front) ++ transcript_line (i + 1) (answer s (history s xs) e)) before
-          ∙ sym (lines_more 1 (i + 1) (answers s front) (answer s (history s front) e) long)
-          ∙ ap (lines_from 1) (sym (answers_more s front e))
-          ∙ ap (λ (xs : List Event). lines_from 1 (answers s xs)) (sym one),
+          ∙ ap (λ l. l ++ transcript_line (i + 1) a) so_far
+          ∙ sym (lines_more 1 (i + 1) told a long)
+          ∙ ap (lines_from 1) (sym (map-append (λ t. t.1) given ((e, a) ∷ [])))
+          ∙ ap (λ (T : List Turn). lines_from 1 (map (λ t. t.1) T)) (sym taken),
     )
 
 -- ---- the events of a case
@@ -74,8 +55,7 @@ is_event s (Push d lane k) i = (i.0, i.1.0)
 is_event s (Effect d lane k) i = (i.0, i.1.0)
 is_event s (Settle d lane k) i = (i.0, i.1.0)
 
-are_events : (s : Setting) (es : List Event) → All (IsInForm (length s.rows)) es → All (IsEvent s) es
-are_events s es = All-weaker (IsInForm (length s.rows)) (IsEvent s) (is_event s) es
-
-pub case_events : (s : Setting) (rows : List Subscriber) (book : List (List Message)) (replicas : ℕ) (es : List Event) → s ≡ setting rows book replicas → All (IsInForm (length rows)) es → All (IsEvent s) es
-case_events s rows book replicas es e i = subst (λ (x : Setting). All (IsEvent x) es) (sym e) (are_events (setting rows book replicas) es i)
+pub case_events : (on : Option Setting) (rows : List Subscriber) (book : List (List Message)) (replicas : ℕ) (es : List Event) → on ≡ Some (setting rows book replicas) → All (IsInForm (length rows)) es → All (IsEventOn on) es
+case_events on rows book replicas es e i =
+    let s = setting rows book replicas in
+    subst (λ (x : Option Setting). All (IsEventOn x) es) (sym e) (All-weaker (IsInForm (length rows)) (IsEvent s) (is_event s) es i)

@@ -1,8 +1,9 @@
 -- What a command makes of a case text: a text, or a refusal with its number and line.
-use Rattle.std.specs.Prelude.{◌≡◌, ◌≤◌, ◌++◌, ℕ, List, length, All, Option, Some, None, Result, Ok, Err}
+use Rattle.std.specs.Prelude.{◌≡◌, ◌≤◌, ◌++◌, ℕ, Bool, List, length, All, Option, Some, None, Result, Ok, Err}
 use Rattle.echo_base.specs.Reason.{reason_number}
 use Rattle.echo_base.specs.declared.reason.Reason.{Reason}
 use Rattle.device_types.specs.declared.event.Event.{Event}
+use Rattle.device_types.specs.declared.finals.DeviceEnd.{DeviceEnd}
 use Rattle.device_types.specs.declared.subscriber.Subscriber.{Subscriber}
 use Rattle.case_form.specs.declared.case.TraceLine.{TraceLine}
 use Rattle.case_form.specs.Case.{first_bad, rows_of, trace_of, schedule_of}
@@ -11,6 +12,8 @@ use Rattle.device_types.specs.Line.{IsLine}
 use Rattle.entry_edge.specs.declared.admission.Admitted.{Admitted}
 use Rattle.entry_edge.specs.Trace.{Turn, history, book_of, refused_of}
 use Rattle.device_machine.specs.Ends.{finals_of}
+use Rattle.link_schedule.specs.Counts.{Turn as Answered}
+use Rattle.link_schedule.specs.Setting.{Setting}
 use Rattle.link_schedule.specs.World.{IsShort}
 use Rattle.report_text.specs.Show.{show_text}
 use Rattle.report_text.specs.Final.{final_text}
@@ -18,7 +21,7 @@ use Rattle.echo_run.specs.declared.command.Command.{Command}
 use Rattle.echo_run.specs.declared.command.Command.TheVariants.{Plain, Replay, Show}
 use Rattle.echo_run.specs.declared.answer.NoText.{NoText}
 use Rattle.echo_run.specs.declared.answer.NoText.TheVariants as no
-use Rattle.echo_run.specs.Replay.{setting_of, transcript_of}
+use Rattle.echo_run.specs.Replay.{setting_of, transcript_of, told_of, IsRun}
 
 -- what admission gives of a case
 pub record IsAdmitted (rows : List Subscriber) (H : List Turn) (admitted : Admitted) : Type 0 where
@@ -51,6 +54,36 @@ unfoldable pub answer_of : Command → List ℕ → Result (List ℕ) (ℕ × �
 answer_of command octets =
     let lines = lines_of octets in
     unless_bad (first_bad octets) (text_of command (rows_of lines) (trace_of lines) (schedule_of lines))
+
+-- ---- on a floor, which gave these answers and has these ends
+
+abbrev pub text_on : Command → List Subscriber → List TraceLine → List Event → List Answered → List DeviceEnd → List ℕ
+text_on Plain rows trace schedule given ends = plain_of rows (history rows trace)
+text_on (Replay replicas) rows trace schedule given ends = told_of rows (history rows trace) schedule given ends
+text_on Show rows trace schedule given ends = show_text trace
+
+-- the text of a case that is not refused
+unfoldable pub told_by : Command → List ℕ → List Answered → List DeviceEnd → Result (List ℕ) (ℕ × ℕ)
+told_by command octets given ends =
+    let lines = lines_of octets in
+    unless_bad (first_bad octets) (text_on command (rows_of lines) (trace_of lines) (schedule_of lines) given ends)
+
+abbrev pub RunsOn : Command → List Subscriber → List TraceLine → List Event → Bool → Option Setting → List Answered → List DeviceEnd → Type 0
+RunsOn Plain rows trace schedule exact setting given ends = Unit {0}
+RunsOn (Replay replicas) rows trace schedule exact setting given ends = IsRun rows (history rows trace) schedule replicas exact setting given ends
+RunsOn Show rows trace schedule exact setting given ends = Unit {0}
+
+-- `replay` ran the schedule of the case; of the other commands it says nothing
+unfoldable pub Ran : Command → List ℕ → Bool → Option Setting → List Answered → List DeviceEnd → Type 0
+Ran command octets exact setting given ends =
+    let lines = lines_of octets in
+    RunsOn command (rows_of lines) (trace_of lines) (schedule_of lines) exact setting given ends
+
+-- a command that runs no schedule
+abbrev pub IsWithoutFloor : Command → Type 0
+IsWithoutFloor Plain = Unit {0}
+IsWithoutFloor (Replay replicas) = ⊥
+IsWithoutFloor Show = Unit {0}
 
 -- that answer, unless memory ran out
 abbrev pub IsAnswer : Result (List ℕ) NoText → Result (List ℕ) (ℕ × ℕ) → Type 0

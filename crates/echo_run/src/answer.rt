@@ -1,13 +1,15 @@
 //! What a command makes of a case text.
 
-ghost use Rattle.std.specs.Prelude.{◌≡◌, ◌≤◌, length, IfOk, IfErr, All};
+ghost use Rattle.std.specs.Prelude.{◌≡◌, ◌≢◌, ◌≤◌, ℕ, length, true, Ok, Err, IfOk, IfErr, OnOk, All};
 ghost use Rattle.echo_base.specs.Reason.{reason_number};
 ghost use Rattle.device_types.specs.Event.{IsInForm};
 ghost use Rattle.device_types.specs.Numbers.{IsWithin};
 ghost use Rattle.case_form.specs.Case.{most_lines};
 ghost use Rattle.entry_edge.specs.Trace.{history};
-ghost use Rattle.echo_run.specs.Answer.{IsAdmitted, plain_of, replay_of, text_of, answer_of, IsAnswer, IsOfLine};
+ghost use Rattle.echo_run.specs.Answer.{IsAdmitted, plain_of, replay_of, text_of, answer_of, text_on, told_by, RunsOn, Ran, IsWithoutFloor, IsAnswer, IsOfLine};
 ghost use Rattle.echo_run.specs.Command.{IsInLimits};
+ghost use Rattle.echo_run.specs.Replay.{told_of, IsRun};
+ghost use Rattle.echo_run.specs.declared.answer.NoText.TheVariants as no_text;
 
 use crate::command::Command;
 use crate::ends::finals_of;
@@ -16,7 +18,7 @@ use case_form::{Case, CaseBad, read_case};
 use device_types::Octets;
 use echo_base::{OutOfMemory, Reason};
 use entry_edge::{Admitted, admit};
-use link_schedule::World;
+use link_schedule::Floor;
 use report_text::{final_text, show_text};
 use std::alloc::Global;
 
@@ -85,44 +87,77 @@ fn plain(alloc: Global, case: &Case) -> Result<Octets, OutOfMemory>
     ends_text(alloc, case, &admitted)
 }
 
-/// What the events of a case come to in a world with so many replicas, and then what becomes of the devices.
-fn replay(alloc: Global, case: &Case, replicas: u32) -> Result<Octets, OutOfMemory>
+/// The answers that a floor with so many replicas gives to the events of a case, and then, once it has settled, its ends.
+fn replay<F: Floor>(
+    alloc: Global,
+    case: &Case,
+    replicas: u32,
+    floor: &mut F,
+) -> Result<Octets, OutOfMemory>
     requires stations { All (λ line. IsWithin 65535 line.station) case.now.trace.items }
     requires lines { length case.now.trace.items ≤ most_lines }
     requires events { All (IsInForm (length case.now.table)) case.now.schedule.items }
     requires replicas { IsWithin 16 replicas }
-    ensures { let turns = history case.now.table case.now.trace.items in
-        IfOk result (λ text. text ≡ replay_of case.now.table turns case.now.schedule.items replicas) }
+    ensures exact { F.exact floor.new ≡ F.exact floor.old }
+    ensures run { let turns = history case.now.table case.now.trace.items in
+        OnOk result (IsRun case.now.table turns case.now.schedule.items replicas (F.exact floor.old) (F.setting floor.new) (F.given floor.new) (F.ends floor.new)) }
+    ensures text { let turns = history case.now.table case.now.trace.items in
+        IfOk result (λ text. text ≡ told_of case.now.table turns case.now.schedule.items (F.given floor.new) (F.ends floor.new)) }
+    ensures definition { let turns = history case.now.table case.now.trace.items in
+        IfOk result (λ text. F.exact floor.old ≡ true → text ≡ replay_of case.now.table turns case.now.schedule.items replicas) }
 {
     let admitted = admitted(alloc, case)?;
-    let mut world = World::new(alloc, &case.table, &admitted.book, replicas)?;
-    let mut text = transcript(alloc, &mut world, &case.schedule)?;
-    let ends = ends_text(alloc, case, &admitted)?;
+    floor.open(alloc, &case.table, &admitted.book, replicas)?;
+    let mut text = transcript(alloc, floor, &case.schedule)?;
+    floor.settle_all()?;
+    let finals = floor.finals(alloc)?;
+    let ends = final_text(alloc, &case.table, &admitted.refused, &finals)?;
     text.append(ends)?;
     Ok(text)
 }
 
 /// The text that a command makes of a case.
 #[tactic(auto, unfolding(crate::specs::Answer::text_of))]
-fn text_of(alloc: Global, command: Command, case: &Case) -> Result<Octets, OutOfMemory>
+fn text_of<F: Floor>(
+    alloc: Global,
+    command: Command,
+    case: &Case,
+    floor: &mut F,
+) -> Result<Octets, OutOfMemory>
     requires limits { IsInLimits command }
     requires stations { All (λ line. IsWithin 65535 line.station) case.now.trace.items }
     requires lines { length case.now.trace.items ≤ most_lines }
     requires events { All (IsInForm (length case.now.table)) case.now.schedule.items }
-    ensures { IfOk result (λ text. text ≡ text_of command case.now.table case.now.trace.items case.now.schedule.items) }
+    ensures exact { F.exact floor.new ≡ F.exact floor.old }
+    ensures other { IsWithoutFloor command → floor.new ≡ floor.old }
+    ensures run { OnOk result (RunsOn command case.now.table case.now.trace.items case.now.schedule.items (F.exact floor.old) (F.setting floor.new) (F.given floor.new) (F.ends floor.new)) }
+    ensures text { IfOk result (λ text. text ≡ text_on command case.now.table case.now.trace.items case.now.schedule.items (F.given floor.new) (F.ends floor.new)) }
+    ensures definition { IfOk result (λ text. F.exact floor.old ≡ true → text ≡ text_of command case.now.table case.now.trace.items case.now.schedule.items) }
 {
     match command {
         Command::Plain => plain(alloc, case),
-        Command::Replay { replicas } => replay(alloc, case, replicas),
+        Command::Replay { replicas } => replay(alloc, case, replicas, floor),
         Command::Show => show_text(alloc, &case.trace),
     }
 }
 
-/// What a command makes of a case text.
-#[tactic(auto, unfolding(crate::specs::Answer::answer_of))]
-pub fn answer(alloc: Global, command: Command, octets: &[u8]) -> Result<Octets, NoText>
+/// What a command makes of a case text. Where it runs the schedule, that is on the floor.
+#[tactic(auto, unfolding(crate::specs::Answer::answer_of, crate::specs::Answer::told_by, crate::specs::Answer::Ran))]
+pub fn answer<F: Floor>(
+    alloc: Global,
+    command: Command,
+    octets: &[u8],
+    floor: &mut F,
+) -> Result<Octets, NoText>
     requires { IsInLimits command }
-    ensures answer { IsAnswer result (answer_of command octets.now) }
+    ensures exact { F.exact floor.new ≡ F.exact floor.old }
+    ensures other { IsWithoutFloor command → floor.new ≡ floor.old }
+    ensures refused { (number line : ℕ) → result ≡ Err (no_text.Refused number line) → floor.new ≡ floor.old }
+    ensures ran { OnOk result (Ran command octets.now (F.exact floor.old) (F.setting floor.new) (F.given floor.new) (F.ends floor.new)) }
+    ensures told { IfOk result (λ text. told_by command octets.now (F.given floor.new) (F.ends floor.new) ≡ Ok text) }
+    ensures definition { F.exact floor.old ≡ true → IsAnswer result (answer_of command octets.now) }
+    ensures refusals { (number line : ℕ) → OnOk result (answer_of command octets.now ≢ Err (number, line)) }
+    ensures why_not { IfErr result (λ why. IsAnswer (Err why) (answer_of command octets.now)) }
     ensures of_line { IfErr result IsOfLine }
 {
     let case = match read_case(alloc, octets) {
@@ -130,6 +165,6 @@ pub fn answer(alloc: Global, command: Command, octets: &[u8]) -> Result<Octets, 
         Err(CaseBad::Refused { reason, line }) => return Err(refused(reason, line)),
         Err(CaseBad::OutOfMemory) => return Err(NoText::OutOfMemory),
     };
-    let text = text_of(alloc, command, &case)?;
+    let text = text_of(alloc, command, &case, floor)?;
     Ok(text)
 }

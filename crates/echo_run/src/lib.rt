@@ -5,9 +5,11 @@ mod answer;
 mod command;
 mod ends;
 mod options;
+mod own;
 mod replay;
 #[cfg(test)]
 mod tests;
 mod top;
 
+pub use own::replay_own;
 pub use top::replay_top;

@@ -1,49 +1,53 @@
 //! What the events of a schedule come to.
 
-ghost use Rattle.std.specs.Prelude.{◌≡◌, [], ◌∷◌, ◌++◌, All, IfOk, OnOk};
-ghost use Rattle.link_schedule.specs.Answer.{answer, history, IsEvent};
+ghost use Rattle.std.specs.Prelude.{◌≡◌, ◌+◌, [], ◌∷◌, ◌++◌, map, All, IfOk, OnOk, OnErr};
+ghost use Rattle.device_types.specs.declared.event.EventAnswer.{EventAnswer};
+ghost use Rattle.link_schedule.specs.Floor.{events_of, IsEventOn};
 ghost use Rattle.report_text.specs.Transcript.{transcript_line};
-ghost use Rattle.echo_run.specs.Replay.{transcript_of};
+ghost use Rattle.echo_run.specs.Replay.{lines_from};
 
 use device_types::{Event, Octets};
 use echo_base::OutOfMemory;
-use link_schedule::World;
+use link_schedule::Floor;
 use report_text::transcript_line;
 use std::alloc::Global;
 
-/// The world takes an event of that number, and its line goes behind the text.
-fn put_event(
+/// The floor is given an event of that number, and the line of its answer goes behind the text.
+fn put_event<F: Floor>(
     alloc: Global,
     text: &mut Octets,
-    world: &mut World,
+    floor: &mut F,
     number: u64,
     event: Event,
 ) -> Result<(), OutOfMemory>
-    requires { IsEvent world.old.setting event }
-    ensures text { let before = history world.old.setting world.old.events in
-        OnOk result (text.new ≡ text.old ++ transcript_line number (answer world.old.setting before event)) }
-    ensures setting { OnOk result (world.new.setting ≡ world.old.setting) }
-    ensures events { OnOk result (world.new.events ≡ world.old.events ++ event ∷ []) }
+    requires { IsEventOn (F.setting floor.old) event }
+    ensures exact { F.exact floor.new ≡ F.exact floor.old }
+    ensures setting { F.setting floor.new ≡ F.setting floor.old }
+    ensures given { OnOk result ((answer : EventAnswer)
+        × (F.given floor.new ≡ F.given floor.old ++ (event, answer) ∷ [])
+        × (text.new ≡ text.old ++ transcript_line number answer)) }
 {
-    let answer = world.apply(event)?;
+    let answer = floor.apply(event)?;
     let line = transcript_line(alloc, number, &answer)?;
     text.append(line)
 }
 
-/// The transcript of a schedule: a line for each event, with what it comes to in a world that has taken those before it.
-#[tactic(auto, unfolding(crate::specs::Replay::transcript_of))]
-pub(crate) fn transcript(
+/// The transcript of a schedule: a line for each event, with the answer that the floor gives.
+pub(crate) fn transcript<F: Floor>(
     alloc: Global,
-    world: &mut World,
+    floor: &mut F,
     schedule: &[Event],
 ) -> Result<Octets, OutOfMemory>
-    requires fresh { world.old.events ≡ [] }
-    requires events { All (IsEvent world.old.setting) schedule.now }
-    ensures { IfOk result (λ text. text ≡ transcript_of world.old.setting schedule.now) }
+    requires fresh { F.given floor.old ≡ [] }
+    requires events { All (IsEventOn (F.setting floor.old)) schedule.now }
+    ensures exact { F.exact floor.new ≡ F.exact floor.old }
+    ensures setting { F.setting floor.new ≡ F.setting floor.old }
+    ensures given { OnOk result (events_of (F.given floor.new) ≡ schedule.now) }
+    ensures text { IfOk result (λ text. text ≡ lines_from 1 (map (λ turn. turn.1) (F.given floor.new))) }
 {
     let mut text = Octets::new(alloc);
     for (index, event) in schedule.iter().enumerate() {
-        put_event(alloc, &mut text, world, index as u64 + 1, *event)?;
+        put_event(alloc, &mut text, floor, index as u64 + 1, *event)?;
     }
     Ok(text)
 }

@@ -1,7 +1,8 @@
 //! Runs of the top call. The octets are worked out from TS 36.413 and ITU-T X.691, not taken from the program.
 
-use crate::replay_top;
+use crate::replay_own;
 use echo_base::{Give, MemSink, MemSource, Status, SureSource};
+use link_schedule::OwnFloor;
 use std::alloc::{AllocError, Global};
 use std::test::Fail;
 
@@ -206,7 +207,7 @@ fn run(
         Vec::from_slice(alloc, reads)?,
     );
     let mut out = MemSink::new(alloc, 4096, Vec::from_slice(alloc, writes)?)?;
-    let status = replay_top(alloc, &all, &mut input, &mut out);
+    let status = replay_own(alloc, &all, &mut input, &mut out, &mut OwnFloor::new());
     Ok((status, out))
 }
 
@@ -428,7 +429,11 @@ fn the_longest_text(rt: HostRuntime) -> Result<(), Fail> {
     ] {
         let mut input = SureSource::new(vec![in alloc; b'x'; length]?);
         let mut out = MemSink::new(alloc, 16, Vec::new(alloc))?;
-        assert_eq!(rt; replay_top(alloc, &words, &mut input, &mut out), wanted);
+        let mut floor = OwnFloor::new();
+        assert_eq!(rt;
+            replay_own(alloc, &words, &mut input, &mut out, &mut floor),
+            wanted
+        );
         assert!(rt; out.held().is_empty());
     }
     Ok(())

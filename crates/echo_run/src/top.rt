@@ -1,13 +1,16 @@
 //! The top call.
 
-ghost use Rattle.std.specs.Prelude.{◌≡◌, ◌≢◌, ◌↔◌, ◌⊎◌, ◌+◌, ◌≤◌, ◌++◌, ℕ, List, length, Some, None, Ok, Err};
+ghost use Rattle.std.specs.Prelude.{◌≡◌, ◌≢◌, ◌↔◌, ◌⊎◌, ◌+◌, ◌≤◌, ◌++◌, ℕ, List, length, true, Some, None, Ok, Err};
 ghost use Rattle.echo_base.specs.Outside.{IsTakenBy, IsPut, Rose};
 ghost use Rattle.echo_run.specs.Command.{command_of};
-ghost use Rattle.echo_run.specs.Top.{most_octets, ReadWhole, Answers};
+ghost use Rattle.echo_run.specs.Top.{most_octets, ReadWhole, Answers, Tells};
+ghost use Rattle.echo_run.specs.Answer.{IsWithoutFloor};
+ghost use Rattle.echo_run.specs.declared.command.Command.{Command};
 
 use crate::answer::{NoText, answer};
 use crate::command::command_of;
 use echo_base::{ReadAll, Sink, Source, Status, read_all, write_all};
+use link_schedule::Floor;
 use std::alloc::Global;
 
 /// The most octets of a case text.
@@ -22,11 +25,12 @@ const MOST_OCTETS: usize = 67_108_864;
 /// `CaseRefused` with the number 6 (TooLong) and the line 0 for more than 67,108,864 octets, and with the number of the reason and
 /// the line for the first bad line; `WriteFault`, where the sink failed, and then a front of the text was written; `Done`.
 /// `OutOfMemory` may stand in place of any but `WriteFault`. On a status but `Done` and `WriteFault` nothing was written.
-pub fn replay_top<S: Source, K: Sink>(
+pub fn replay_top<S: Source, K: Sink, F: Floor>(
     alloc: Global,
     words: &[String],
     input: &mut S,
     out: &mut K,
+    floor: &mut F,
 ) -> Status
     // Usage comes exactly where the words are no command, before anything is read.
     ensures usage { (result ≡ Status.Usage) ↔ (command_of words.now ≡ None) }
@@ -46,16 +50,31 @@ pub fn replay_top<S: Source, K: Sink>(
         → (octets : List ℕ) × ReadWhole (S.left input.old) octets (S.left input.new)
         × Answers words.now octets (Err (number, line)) }
 
-    // Done: the source was read to its end, and the sink gained exactly what the command makes of the text.
+    // Done: the source was read to its end, the floor ran the schedule where the command does, and the sink gained exactly what the
+    // floor told: a line for each event with its answer, and then its ends.
     ensures done { result ≡ Status.Done → (octets text : List ℕ)
+        × ReadWhole (S.left input.old) octets (S.left input.new)
+        × Tells words.now octets (F.exact floor.old) (F.setting floor.new) (F.given floor.new) (F.ends floor.new) text
+        × IsPut (K.held out.old) text (K.held out.new) }
+    // On an exact floor that is what the command makes of the text by the definitions.
+    ensures done_exact { F.exact floor.old ≡ true → result ≡ Status.Done → (octets text : List ℕ)
         × ReadWhole (S.left input.old) octets (S.left input.new) × Answers words.now octets (Ok text)
         × IsPut (K.held out.old) text (K.held out.new) }
 
-    // A fault of writing comes only where the sink's count of faults rose, and a front of the text was written then.
+    // A fault of writing comes only where the sink's count of faults rose, and a front of the same text was written then.
     ensures write_fault { result ≡ Status.WriteFault → Rose (K.faults out.old) (K.faults out.new) }
     ensures front { result ≡ Status.WriteFault → (octets piece rest : List ℕ)
+        × ReadWhole (S.left input.old) octets (S.left input.new)
+        × Tells words.now octets (F.exact floor.old) (F.setting floor.new) (F.given floor.new) (F.ends floor.new) (piece ++ rest)
+        × IsPut (K.held out.old) piece (K.held out.new) }
+    ensures front_exact { F.exact floor.old ≡ true → result ≡ Status.WriteFault → (octets piece rest : List ℕ)
         × ReadWhole (S.left input.old) octets (S.left input.new) × Answers words.now octets (Ok (piece ++ rest))
         × IsPut (K.held out.old) piece (K.held out.new) }
+
+    // The floor is as it was where nothing was run: for other commands, and on other statuses but for want of memory.
+    ensures exact { F.exact floor.new ≡ F.exact floor.old }
+    ensures other { (command : Command) → command_of words.now ≡ Some command → IsWithoutFloor command → floor.new ≡ floor.old }
+    ensures floor { result ≢ Status.Done → result ≢ Status.WriteFault → result ≢ Status.OutOfMemory → floor.new ≡ floor.old }
 
     // On every other status the sink is as it was.
     ensures silent { result ≢ Status.Done → result ≢ Status.WriteFault → out.new ≡ out.old }
@@ -63,6 +82,11 @@ pub fn replay_top<S: Source, K: Sink>(
     // A command that makes a text of what the source has is done, with it, where no count rose.
     ensures complete { (octets text : List ℕ) → S.left input.old ≡ Some octets → length octets ≤ most_octets
         → Answers words.now octets (Ok text)
+        → ¬ Rose (S.faults input.old) (S.faults input.new) → ¬ Rose (K.faults out.old) (K.faults out.new)
+        → (result ≡ Status.OutOfMemory) ⊎ (result ≡ Status.Done) }
+    // On an exact floor, with that text.
+    ensures complete_exact { F.exact floor.old ≡ true → (octets text : List ℕ) → S.left input.old ≡ Some octets
+        → length octets ≤ most_octets → Answers words.now octets (Ok text)
         → ¬ Rose (S.faults input.old) (S.faults input.new) → ¬ Rose (K.faults out.old) (K.faults out.new)
         → (result ≡ Status.OutOfMemory) ⊎ ((result ≡ Status.Done) × IsPut (K.held out.old) text (K.held out.new)) }
     // A case that is to be refused is.
@@ -80,7 +104,7 @@ pub fn replay_top<S: Source, K: Sink>(
         Err(ReadAll::TooLong) => return Status::CaseRefused { number: 6, line: 0 },
         Err(ReadAll::OutOfMemory) => return Status::OutOfMemory,
     };
-    let text = match answer(alloc, command, &octets) {
+    let text = match answer(alloc, command, &octets, floor) {
         Ok(text) => text,
         Err(NoText::Refused { number, line }) => return Status::CaseRefused { number, line },
         Err(NoText::OutOfMemory) => return Status::OutOfMemory,

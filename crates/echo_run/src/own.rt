@@ -1,0 +1,78 @@
+//! The top call on a world of its own.
+
+ghost use Rattle.std.specs.Prelude.{◌≡◌, ◌≢◌, ◌↔◌, ◌⊎◌, ◌+◌, ◌≤◌, ◌++◌, ℕ, List, length, Some, None, Ok, Err};
+ghost use Rattle.echo_base.specs.Outside.{IsTakenBy, IsPut, Rose};
+ghost use Rattle.echo_run.specs.Answer.{IsWithoutFloor};
+ghost use Rattle.echo_run.specs.Command.{command_of};
+ghost use Rattle.echo_run.specs.Top.{most_octets, ReadWhole, Answers};
+ghost use Rattle.echo_run.specs.declared.command.Command.{Command};
+ghost use Rattle.link_schedule.specs.Own.{IsWhole};
+
+use crate::top::replay_top;
+use echo_base::{Sink, Source, Status};
+use link_schedule::OwnFloor;
+use std::alloc::Global;
+
+/// `replay_top` on a world of its own, which is exact: so what is written is what the command makes of the text by the definitions. Of
+/// the world that a command leaves which ran a schedule, each part is what its events make of it, each device's journal is whole, and
+/// each lane was accepted whole.
+pub fn replay_own<S: Source, K: Sink>(
+    alloc: Global,
+    words: &[String],
+    input: &mut S,
+    out: &mut K,
+    floor: &mut OwnFloor,
+) -> Status
+    // Usage comes exactly where the words are no command, before anything is read.
+    ensures usage { (result ≡ Status.Usage) ↔ (command_of words.now ≡ None) }
+    ensures unread { result ≡ Status.Usage → input.new ≡ input.old }
+
+    // A fault of reading comes only where the source's count of faults rose.
+    ensures read_fault { result ≡ Status.ReadFault → Rose (S.faults input.old) (S.faults input.new) }
+
+    // The case is refused for its length exactly where 67,108,865 octets came.
+    ensures too_long { result ≡ Status.CaseRefused 6 0
+        → IsTakenBy (λ n. n ≡ most_octets + 1) (S.left input.old) (S.left input.new) }
+    ensures short { result ≢ Status.CaseRefused 6 0
+        → IsTakenBy (λ n. n ≤ most_octets) (S.left input.old) (S.left input.new) }
+
+    // Any other refusal comes only where the source was read to its end, and it is that of the first bad line.
+    ensures refused { (number line : ℕ) → result ≡ Status.CaseRefused number line → result ≢ Status.CaseRefused 6 0
+        → (octets : List ℕ) × ReadWhole (S.left input.old) octets (S.left input.new)
+        × Answers words.now octets (Err (number, line)) }
+
+    // Done: the source was read to its end, and the sink gained exactly what the command makes of the text.
+    ensures done { result ≡ Status.Done → (octets text : List ℕ)
+        × ReadWhole (S.left input.old) octets (S.left input.new) × Answers words.now octets (Ok text)
+        × IsPut (K.held out.old) text (K.held out.new) }
+
+    // A fault of writing comes only where the sink's count of faults rose, and a front of the text was written then.
+    ensures write_fault { result ≡ Status.WriteFault → Rose (K.faults out.old) (K.faults out.new) }
+    ensures front { result ≡ Status.WriteFault → (octets piece rest : List ℕ)
+        × ReadWhole (S.left input.old) octets (S.left input.new) × Answers words.now octets (Ok (piece ++ rest))
+        × IsPut (K.held out.old) piece (K.held out.new) }
+
+    // The world that a schedule was run on has settled, and is whole.
+    ensures world { (command : Command) → command_of words.now ≡ Some command → ¬ IsWithoutFloor command
+        → (result ≡ Status.Done) ⊎ (result ≡ Status.WriteFault) → IsWhole floor.new.world }
+    ensures other { (command : Command) → command_of words.now ≡ Some command → IsWithoutFloor command → floor.new ≡ floor.old }
+    ensures floor { result ≢ Status.Done → result ≢ Status.WriteFault → result ≢ Status.OutOfMemory → floor.new ≡ floor.old }
+
+    // On every other status the sink is as it was.
+    ensures silent { result ≢ Status.Done → result ≢ Status.WriteFault → out.new ≡ out.old }
+
+    // A command that makes a text of what the source has is done, with it, where no count rose.
+    ensures complete { (octets text : List ℕ) → S.left input.old ≡ Some octets → length octets ≤ most_octets
+        → Answers words.now octets (Ok text)
+        → ¬ Rose (S.faults input.old) (S.faults input.new) → ¬ Rose (K.faults out.old) (K.faults out.new)
+        → (result ≡ Status.OutOfMemory) ⊎ ((result ≡ Status.Done) × IsPut (K.held out.old) text (K.held out.new)) }
+    // A case that is to be refused is.
+    ensures complete_refused { (octets : List ℕ) (number line : ℕ) → S.left input.old ≡ Some octets
+        → length octets ≤ most_octets → Answers words.now octets (Err (number, line))
+        → ¬ Rose (S.faults input.old) (S.faults input.new)
+        → (result ≡ Status.OutOfMemory) ⊎ (result ≡ Status.CaseRefused number line) }
+{
+    let status = replay_top(alloc, words, input, out, floor);
+    floor.recall();
+    status
+}
