@@ -1,7 +1,7 @@
 -- A world of which the ends are those of the definition is whole.
 use Rattle.std.proofs.Common.{◌≡◌, Some, sym, ap, ◌∙◌}
 use Rattle.link_schedule.specs.Own.{IsWholeByEnds}
-use Rattle.link_schedule.specs.Setting.{Setting}
+use Rattle.schedule_laws.specs.Setting.{Setting}
 use Rattle.link_schedule.specs.World.{WorldState, IsWorld}
 use Rattle.link_schedule.proofs.Ends.{settled_by_finals}
 use Rattle.device_machine.specs.Ends.{finals_of}

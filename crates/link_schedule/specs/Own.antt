@@ -7,11 +7,11 @@ use mathlib.Core.List.{reverse_aux}
 use Rattle.device_types.specs.declared.event.Event.{Event}
 use Rattle.device_types.specs.declared.finals.DeviceEnd.{DeviceEnd}
 use Rattle.device_machine.specs.Ends.{finals_of}
-use Rattle.link_schedule.specs.Answer.{turn, history}
-use Rattle.link_schedule.specs.Counts.{Turn}
+use Rattle.schedule_laws.specs.Answer.{turn, history}
+use Rattle.schedule_laws.specs.Counts.{Turn}
 use Rattle.link_schedule.specs.Finals.{finals_in}
 use Rattle.link_schedule.specs.Floor.{events_of, AreAnswered}
-use Rattle.link_schedule.specs.Setting.{Setting}
+use Rattle.schedule_laws.specs.Setting.{Setting}
 use Rattle.link_schedule.specs.Settled.{turns_in, IsSettled}
 use Rattle.link_schedule.specs.World.{WorldState, IsWorld}
 

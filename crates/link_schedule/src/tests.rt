@@ -3,7 +3,7 @@ ghost use Rattle.std.specs.Prelude.{◌≡◌, ◌≤◌, true, length, All, IfO
 ghost use Rattle.device_types.specs.Line.{IsLine};
 ghost use Rattle.device_types.specs.Message.{IsBody, IsMessage};
 ghost use Rattle.device_types.specs.Numbers.{IsWithin};
-ghost use Rattle.link_schedule.specs.Answer.{IsEvent};
+ghost use Rattle.schedule_laws.specs.Answer.{IsEvent};
 ghost use Rattle.link_schedule.specs.Floor.{IsOpen};
 ghost use Rattle.link_schedule.specs.Own.{setting_by};
 ghost use Rattle.link_schedule.specs.World.{IsShort};
@@ -530,12 +530,7 @@ fn settled_floor<F: Floor>(alloc: Global, floor: &mut F) -> Result<String, Fail>
 }
 
 /// The floor is opened on the two devices.
-fn open(
-    alloc: Global,
-    floor: &mut OwnFloor,
-    table: &SubsTable,
-    name: &str,
-) -> Result<(), Fail>
+fn open(alloc: Global, floor: &mut OwnFloor, table: &SubsTable, name: &str) -> Result<(), Fail>
     ensures { OnOk result (IsOpen (setting_by floor.new.world)) }
 {
     if table.len() != 2 {
