@@ -11,13 +11,13 @@ use Rattle.device_types.specs.declared.message.Message.{Message}
 use Rattle.device_types.specs.declared.subscriber.Subscriber.{Subscriber}
 use Rattle.device_machine.specs.Ends.{finals_of}
 use Rattle.entry_edge.specs.Trace.{Turn as Admission, book_of, refused_of}
-use Rattle.link_schedule.specs.Answer.{history}
-use Rattle.link_schedule.specs.Counts.{Turn}
+use Rattle.schedule_laws.specs.Answer.{history}
+use Rattle.schedule_laws.specs.Counts.{Turn}
 use Rattle.link_schedule.specs.Floor.{events_of, AreAnswered, EndsOn, AreEndsOn}
-use Rattle.link_schedule.specs.Lists.{Begins}
+use Rattle.schedule_laws.specs.Lists.{Begins}
 use Rattle.link_schedule.specs.Own.{setting_by, given_by, ends_by, IsWorldIn, IsSettledByEnds, IsWhole}
-use Rattle.link_schedule.specs.Promise.{setting}
-use Rattle.link_schedule.specs.Setting.{Setting}
+use Rattle.schedule_laws.specs.Promise.{setting}
+use Rattle.schedule_laws.specs.Setting.{Setting}
 use Rattle.link_schedule.specs.World.{WorldState}
 use Rattle.link_schedule.proofs.Whole.{whole}
 use Rattle.case_form.specs.Case.{rows_of, trace_of}

@@ -9,11 +9,11 @@ use Rattle.device_types.specs.declared.event.EventAnswer.{EventAnswer}
 use Rattle.device_types.specs.declared.message.Message.{Message}
 use Rattle.device_types.specs.declared.subscriber.Subscriber.{Subscriber}
 use Rattle.device_types.specs.Event.{IsInForm}
-use Rattle.link_schedule.specs.Answer.{IsEvent}
-use Rattle.link_schedule.specs.Counts.{Turn}
+use Rattle.schedule_laws.specs.Answer.{IsEvent}
+use Rattle.schedule_laws.specs.Counts.{Turn}
 use Rattle.link_schedule.specs.Floor.{events_of, IsEventOn}
-use Rattle.link_schedule.specs.Promise.{setting}
-use Rattle.link_schedule.specs.Setting.{Setting}
+use Rattle.schedule_laws.specs.Promise.{setting}
+use Rattle.schedule_laws.specs.Setting.{Setting}
 use Rattle.report_text.specs.Transcript.{transcript_line}
 use Rattle.echo_run.specs.Replay.{lines_from}
 

@@ -12,8 +12,8 @@ use Rattle.device_types.specs.Line.{IsLine}
 use Rattle.entry_edge.specs.declared.admission.Admitted.{Admitted}
 use Rattle.entry_edge.specs.Trace.{Turn, history, book_of, refused_of}
 use Rattle.device_machine.specs.Ends.{finals_of}
-use Rattle.link_schedule.specs.Counts.{Turn as Answered}
-use Rattle.link_schedule.specs.Setting.{Setting}
+use Rattle.schedule_laws.specs.Counts.{Turn as Answered}
+use Rattle.schedule_laws.specs.Setting.{Setting}
 use Rattle.link_schedule.specs.World.{IsShort}
 use Rattle.report_text.specs.Show.{show_text}
 use Rattle.report_text.specs.Final.{final_text}

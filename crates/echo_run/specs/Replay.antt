@@ -6,12 +6,12 @@ use Rattle.device_types.specs.declared.finals.DeviceEnd.{DeviceEnd}
 use Rattle.device_types.specs.declared.subscriber.Subscriber.{Subscriber}
 use Rattle.device_machine.specs.Ends.{finals_of}
 use Rattle.entry_edge.specs.Trace.{Turn, book_of, refused_of}
-use Rattle.link_schedule.specs.Answer.{answers}
-use Rattle.link_schedule.specs.Counts.{Turn as Answered}
+use Rattle.schedule_laws.specs.Answer.{answers}
+use Rattle.schedule_laws.specs.Counts.{Turn as Answered}
 use Rattle.link_schedule.specs.Floor.{events_of}
-use Rattle.link_schedule.specs.Lists.{Begins}
-use Rattle.link_schedule.specs.Promise.{setting}
-use Rattle.link_schedule.specs.Setting.{Setting}
+use Rattle.schedule_laws.specs.Lists.{Begins}
+use Rattle.schedule_laws.specs.Promise.{setting}
+use Rattle.schedule_laws.specs.Setting.{Setting}
 use Rattle.report_text.specs.Final.{final_text}
 use Rattle.report_text.specs.Transcript.{transcript_line}
 

@@ -5,8 +5,8 @@ use Rattle.echo_base.specs.Outside.{IsTaken, IsAtEnd}
 use Rattle.echo_run.specs.declared.command.Command.{Command}
 use Rattle.echo_run.specs.Command.{command_of}
 use Rattle.device_types.specs.declared.finals.DeviceEnd.{DeviceEnd}
-use Rattle.link_schedule.specs.Counts.{Turn}
-use Rattle.link_schedule.specs.Setting.{Setting}
+use Rattle.schedule_laws.specs.Counts.{Turn}
+use Rattle.schedule_laws.specs.Setting.{Setting}
 use Rattle.echo_run.specs.Answer.{answer_of, told_by, Ran}
 
 -- the most octets of a case text

@@ -22,19 +22,20 @@ use Rattle.device_types.proofs.Courses.{few_pushed, few_entries}
 use Rattle.effect_outbox.specs.Outbox.{LaneNumbers, number_on, with_number, settled_by}
 use Rattle.session_row.specs.Row.{RowState, look_at as row_look}
 use Rattle.session_store.specs.Rows.{opening_row, with_settled}
-use Rattle.link_schedule.specs.Answer.{look_answer, answer, Lawful}
-use Rattle.link_schedule.specs.Counts.{Turn, Arrival, hand, commits, acked, accepted, settled, effect_pushed, journal}
-use Rattle.link_schedule.specs.Input.{input_of}
-use Rattle.link_schedule.specs.Promise.{Holds}
-use Rattle.link_schedule.specs.Setting.{Setting, window, row_of, messages_of, entries_of}
+use Rattle.schedule_laws.specs.Answer.{look_answer, answer, Lawful}
+use Rattle.schedule_laws.specs.Counts.{Turn, Arrival, hand, commits, acked, accepted, settled, effect_pushed, journal}
+use Rattle.schedule_laws.specs.Input.{input_of}
+use Rattle.schedule_laws.specs.Promise.{Holds}
+use Rattle.schedule_laws.specs.Setting.{Setting, window, row_of, messages_of, entries_of}
 use Rattle.link_schedule.specs.Told.{settle_answer, reply_answer, down_answer}
 use Rattle.link_schedule.specs.World.{Parts, IsSetting, IsShort, row_in, row_after, IsWindowOf, AreGatewayCalls, AreSubscriberCalls, ArePartsOf}
-use Rattle.link_schedule.proofs.Events.{stays, acknowledges, reply_old, reply_new}
-use Rattle.link_schedule.proofs.Lanes.{settled_is, push_told, push_void, accepted_length, accepts_down, effect_next, effect_repeat, effect_ahead, settle_old, settle_new, settles}
-use Rattle.link_schedule.proofs.Laws.{taken_sent, version_is}
-use Rattle.link_schedule.proofs.Promises.{read_is, quiet_stays}
-use Rattle.link_schedule.proofs.Runs.{Begins-length, to_alone}
-use Rattle.link_schedule.proofs.Comparisons.{here, lt_false, le_of, gt_of, same_number}
+use Rattle.link_schedule.proofs.Events.{stays, acknowledges}
+use Rattle.schedule_laws.proofs.EachAnswer.{reply_old, reply_new, push_told, push_void, effect_next, effect_repeat, effect_ahead, settle_old, settle_new}
+use Rattle.link_schedule.proofs.Lanes.{settled_is, accepted_length, accepts_down, settles}
+use Rattle.schedule_laws.proofs.Laws.{taken_sent, version_is}
+use Rattle.schedule_laws.proofs.Promises.{read_is, quiet_stays}
+use Rattle.schedule_laws.proofs.Runs.{Begins-length, to_alone}
+use Rattle.schedule_laws.proofs.Comparisons.{here, lt_false, le_of, gt_of, same_number}
 use Rattle.link_schedule.proofs.Worlds.{held_arrival, look_same}
 
 -- an item is written that is the same

@@ -11,15 +11,15 @@ use Rattle.device_types.specs.Journal.{is_on, effects_on, effects_of}
 use Rattle.device_types.specs.Numbers.{IsWithin}
 use Rattle.effect_outbox.specs.Outbox.{number_on, unsettled_at}
 use Rattle.session_row.specs.Row.{RowState}
-use Rattle.link_schedule.specs.Answer.{Lawful}
-use Rattle.link_schedule.specs.Counts.{Turn, effect_pushed}
-use Rattle.link_schedule.specs.Lists.{has}
-use Rattle.link_schedule.specs.Setting.{Setting, entries_of}
+use Rattle.schedule_laws.specs.Answer.{Lawful}
+use Rattle.schedule_laws.specs.Counts.{Turn, effect_pushed}
+use Rattle.schedule_laws.specs.Lists.{has}
+use Rattle.schedule_laws.specs.Setting.{Setting, entries_of}
 use Rattle.link_schedule.specs.World.{LaneMarks, marks_on, Parts, row_after, accepted_effects, ArePushed, ArePartsOf, effect_at, IsOnLane}
-use Rattle.link_schedule.proofs.Comparisons.{le_true, le_false}
-use Rattle.link_schedule.proofs.Laws.{pushed_bound}
+use Rattle.schedule_laws.proofs.Comparisons.{le_true, le_false}
+use Rattle.schedule_laws.proofs.Laws.{pushed_bound}
 use Rattle.link_schedule.proofs.Links.{effect_content}
-use Rattle.link_schedule.proofs.Promises.{effect_there}
+use Rattle.schedule_laws.proofs.Promises.{effect_there}
 
 -- ---- where it is
 

@@ -30,12 +30,12 @@ use Rattle.device_machine.specs.Ends.{down_in, gateway_in, subscriber_in, end_of
 use Rattle.device_machine.proofs.Gathered.{downs_whole, gateway_whole, subscriber_whole, end_written}
 use Rattle.link_schedule.specs.Finals.{end_in, finals_in}
 use Rattle.link_schedule.specs.Floor.{IsEnd, EndsOn}
-use Rattle.link_schedule.specs.Lists.{Begins}
-use Rattle.link_schedule.specs.Setting.{Setting, no_row, row_of, messages_of, entries_of}
+use Rattle.schedule_laws.specs.Lists.{Begins}
+use Rattle.schedule_laws.specs.Setting.{Setting, no_row, row_of, messages_of, entries_of}
 use Rattle.link_schedule.specs.Settled.{turns_in, journal_in, commits_in, accepts_in, IsWholeLane, IsDone, IsSettled}
 use Rattle.link_schedule.specs.World.{WorldState, IsShort, accepted_effects, IsWorld}
-use Rattle.link_schedule.proofs.Laws.{accepted_bound}
-use Rattle.link_schedule.proofs.Runs.{to_alone}
+use Rattle.schedule_laws.proofs.Laws.{accepted_bound}
+use Rattle.schedule_laws.proofs.Runs.{to_alone}
 
 -- ---- every message is taken
 

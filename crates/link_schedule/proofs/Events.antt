@@ -28,23 +28,19 @@ use Rattle.replica_worker.specs.declared.hand.Hand.TheVariants as hands
 use Rattle.session_row.specs.declared.commit.Commit.{Commit}
 use Rattle.session_row.specs.declared.commit.Commit.TheVariants as commit
 use Rattle.session_row.specs.Row.{RowState, Commits}
-use Rattle.link_schedule.specs.Answer.{look_answer, answer, turn, history, Lawful}
-use Rattle.link_schedule.specs.Counts.{Turn, Arrival, Held, hand, after_read, commits, acked, accepted, greatest_sent, reply_sent, journal}
-use Rattle.link_schedule.specs.Counts.Held.{Nothing, Taken, Ready}
-use Rattle.link_schedule.specs.Input.{message_of, input_of, IsHand}
-use Rattle.link_schedule.specs.Lists.{AddsMark, Each}
-use Rattle.link_schedule.specs.Promise.{Holds, HasSameCounts}
-use Rattle.link_schedule.specs.Setting.{Setting, row_of, messages_of, entries_to, entries_of}
+use Rattle.schedule_laws.specs.Answer.{look_answer, answer, turn, history, Lawful}
+use Rattle.schedule_laws.specs.Counts.{Turn, Arrival, Held, hand, after_read, commits, acked, accepted, greatest_sent, reply_sent, journal}
+use Rattle.schedule_laws.specs.Counts.Held.{Nothing, Taken, Ready}
+use Rattle.schedule_laws.specs.Input.{message_of, input_of, IsHand}
+use Rattle.schedule_laws.specs.Lists.{AddsMark, Each}
+use Rattle.schedule_laws.specs.Promise.{Holds, HasSameCounts}
+use Rattle.schedule_laws.specs.Setting.{Setting, row_of, messages_of, entries_to, entries_of}
 use Rattle.link_schedule.specs.Told.{commit_answer}
 use Rattle.link_schedule.specs.World.{Parts, settled_numbers, row_after, hand_of, accepted_effects, IsWindowOf, AreGatewayCalls, AreSubscriberCalls, AreSent, ArePushed, ArePartsOf}
-use Rattle.link_schedule.proofs.Items.{Each-set, Each-keep}
-use Rattle.link_schedule.proofs.Laws.{version_is, hand_ok, reply_is}
-use Rattle.link_schedule.proofs.Runs.{to_push}
-use Rattle.link_schedule.proofs.Comparisons.{here, not_here, nor_here, le_true, le_false, lt_true, lt_false}
-
--- one more event is one more turn
-pub history_more : (s : Setting) (es : List Event) (e : Event) → history s (es ++ e ∷ []) ≡ turn s (history s es) e
-history_more s es e = fold-append (turn s) [] es (e ∷ [])
+use Rattle.schedule_laws.proofs.Items.{Each-set, Each-keep}
+use Rattle.schedule_laws.proofs.Laws.{version_is, hand_ok, reply_is}
+use Rattle.schedule_laws.proofs.Runs.{to_push}
+use Rattle.schedule_laws.proofs.Comparisons.{here, not_here, nor_here, le_true, le_false, lt_true, lt_false}
 
 -- ---- events that change no part
 
@@ -169,15 +165,6 @@ acknowledges s H p e n was now at then more within m =
           (record { line = rw (then, here e.0, most) (acked_line was.line (messages_of s e.0) (acked e.0 H) n i.line); greatest = rw then i.greatest; downs = rw then i.downs })
           (λ j w ne g. let none = not_here e.0 j ne in window_same s H K j w (rw none refl) refl refl g);
     }
-
-pub reply_void : (s : Setting) (H : List Turn) (e : DeviceId) (n : ℕ) → Lawful s H → 1 ≤ n → taken_count (journal s e.0 H) < n → told.VoidLink ≡ answer s H (Reply e n)
-reply_void s H e n L low high = let f : reply_sent e.0 n H ≡ false = reply_is s e.0 n H L low ∙ le_false n (taken_count (journal s e.0 H)) high in rw f refl
-
-pub reply_old : (s : Setting) (H : List Turn) (e : DeviceId) (n : ℕ) → Lawful s H → 1 ≤ n → n ≤ taken_count (journal s e.0 H) → n ≤ acked e.0 H → told.Old n ≡ answer s H (Reply e n)
-reply_old s H e n L low high old = let f : reply_sent e.0 n H ≡ true = reply_is s e.0 n H L low ∙ le_true n (taken_count (journal s e.0 H)) high in rw (f, lt_false (acked e.0 H) n old) refl
-
-pub reply_new : (s : Setting) (H : List Turn) (e : DeviceId) (n : ℕ) → Lawful s H → 1 ≤ n → n ≤ taken_count (journal s e.0 H) → acked e.0 H < n → told.Acked n ≡ answer s H (Reply e n)
-reply_new s H e n L low high new = let f : reply_sent e.0 n H ≡ true = reply_is s e.0 n H L low ∙ le_true n (taken_count (journal s e.0 H)) high in rw (f, lt_true (acked e.0 H) n new) refl
 
 -- ---- a replica reads
 

@@ -11,14 +11,15 @@ use Rattle.device_types.specs.Event.{IsCallLane}
 use Rattle.device_types.specs.Numbers.{IsWithin}
 use Rattle.device_types.specs.PeerAnswer.{answer_of}
 use Rattle.peer_calls.specs.Calls.{calls_of}
-use Rattle.link_schedule.specs.Answer.{Lawful}
-use Rattle.link_schedule.specs.Counts.{Turn, accepted}
-use Rattle.link_schedule.specs.Setting.{Setting, row_of}
-use Rattle.link_schedule.specs.World.{Parts, IsSetting, accepted_effects, accepted_calls, answer_given, if_so, ArePartsOf}
-use Rattle.link_schedule.proofs.Comparisons.{le_true, le_false}
+use Rattle.schedule_laws.specs.Answer.{Lawful}
+use Rattle.schedule_laws.specs.Counts.{Turn, accepted}
+use Rattle.schedule_laws.specs.Setting.{Setting, row_of}
+use Rattle.link_schedule.specs.World.{Parts, IsSetting, accepted_effects, accepted_calls, answer_given, ArePartsOf}
+use Rattle.schedule_laws.specs.Packets.{if_so}
+use Rattle.schedule_laws.proofs.Comparisons.{le_true, le_false}
 use Rattle.link_schedule.proofs.Calls.{gateway_count, effects_few}
 use Rattle.link_schedule.proofs.Lanes.{accepted_length}
-use Rattle.link_schedule.proofs.Laws.{accepted_bound}
+use Rattle.schedule_laws.proofs.Laws.{accepted_bound}
 
 -- the call was accepted, and this is the answer to the calls up to it
 pub was_given : {C : Type 0} (f : C → Effect) (row : SubscriberRow) (calls : List C) (k : ℕ) (answer : Answer) → k ≤ length calls → answer ≡ answer_of row (map f (take k calls)) → Some answer ≡ answer_given row (map f calls) k

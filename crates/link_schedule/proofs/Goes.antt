@@ -10,15 +10,15 @@ use Rattle.device_types.specs.declared.subscriber.DeviceId.{DeviceId}
 use Rattle.device_types.specs.Journal.{pushed_count, taken_count, effects_of}
 use Rattle.device_types.specs.Numbers.{IsWithin}
 use Rattle.device_types.proofs.Courses.{few_entries}
-use Rattle.link_schedule.specs.Answer.{turn, history, Lawful}
-use Rattle.link_schedule.specs.Counts.{Turn, acked, journal}
-use Rattle.link_schedule.specs.Setting.{Setting, row_of, messages_of, message_count, entries_to, entries_of}
+use Rattle.schedule_laws.specs.Answer.{turn, history, Lawful}
+use Rattle.schedule_laws.specs.Counts.{Turn, acked, journal}
+use Rattle.schedule_laws.specs.Setting.{Setting, row_of, messages_of, message_count, entries_to, entries_of}
 use Rattle.link_schedule.specs.Settled.{turns_in, journal_in, commits_in, acked_in, accepts_in, GoesOn, IsWholeLane, IsDone, spent_in, Pays, PaysFor, cost, cost_to}
 use Rattle.link_schedule.specs.World.{WorldState, IsWorld, Answers}
-use Rattle.link_schedule.proofs.Events.{history_more}
-use Rattle.link_schedule.proofs.Laws.{version_is, accepted_bound}
-use Rattle.link_schedule.proofs.Runs.{Begins-refl, Begins-trans, Begins-length, effects_begin, to_alone}
-use Rattle.link_schedule.proofs.Steps.{whole_stays, commits_behind, accepted_behind, reply_acknowledged}
+use Rattle.schedule_laws.proofs.EachAnswer.{history_more}
+use Rattle.schedule_laws.proofs.Laws.{version_is, accepted_bound}
+use Rattle.schedule_laws.proofs.Runs.{Begins-refl, Begins-trans, Begins-length, effects_begin, to_alone}
+use Rattle.schedule_laws.proofs.Steps.{whole_stays, commits_behind, accepted_behind, reply_acknowledged}
 
 -- ---- one event more
 

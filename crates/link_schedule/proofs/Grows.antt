@@ -3,15 +3,15 @@ use Rattle.std.proofs.Common.{List, [], ◌∷◌, reverse, sym, ◌∙◌}
 use Rattle.std.specs.List.{fold}
 use Rattle.std.proofs.lemmas.Grind.{reverse_onto}
 use Rattle.device_types.specs.declared.event.Event.{Event}
-use Rattle.link_schedule.specs.Answer.{answer, turn}
-use Rattle.link_schedule.specs.Counts.{Turn}
-use Rattle.link_schedule.specs.Lists.{Begins}
-use Rattle.link_schedule.specs.Setting.{Setting}
+use Rattle.schedule_laws.specs.Answer.{answer, turn}
+use Rattle.schedule_laws.specs.Counts.{Turn}
+use Rattle.schedule_laws.specs.Lists.{Begins}
+use Rattle.schedule_laws.specs.Setting.{Setting}
 use Rattle.link_schedule.specs.Settled.{turns_in, GoesOn}
 use Rattle.link_schedule.specs.World.{WorldState}
 use Rattle.link_schedule.proofs.Goes.{turns_later}
-use Rattle.link_schedule.proofs.Runs.{Begins-refl, Begins-trans}
-use Rattle.link_schedule.proofs.Steps.{history_behind}
+use Rattle.schedule_laws.proofs.Runs.{Begins-refl, Begins-trans}
+use Rattle.schedule_laws.proofs.Steps.{history_behind}
 
 turns_begin : (s : Setting) (es : List Event) (H : List Turn) → Begins (reverse H) (reverse (fold (turn s) H es))
 turns_begin s [] H = Begins-refl (reverse H)

@@ -20,15 +20,15 @@ use Rattle.device_types.specs.Look.{same_lane}
 use Rattle.device_types.specs.Numbers.{IsWithin}
 use Rattle.effect_outbox.specs.Outbox.{number_on, with_number}
 use Rattle.session_row.specs.Row.{RowState}
-use Rattle.link_schedule.specs.Answer.{answer, Lawful}
-use Rattle.link_schedule.specs.Counts.{Turn, accepted, settled, message_sent, effect_pushed, effect_received, journal, commits}
-use Rattle.link_schedule.specs.Setting.{Setting, row_of, messages_of, entries_of}
+use Rattle.schedule_laws.specs.Answer.{answer, Lawful}
+use Rattle.schedule_laws.specs.Counts.{Turn, accepted, settled, message_sent, effect_pushed, effect_received, journal, commits}
+use Rattle.schedule_laws.specs.Setting.{Setting, row_of, messages_of, entries_of}
 use Rattle.link_schedule.specs.World.{LaneMarks, MarksOn, Parts, settled_numbers, row_after, accepted_effects, IsWindowOf, AreGatewayCalls, AreSubscriberCalls, ArePushed, ArePartsOf}
 use Rattle.link_schedule.proofs.Events.{window_same}
-use Rattle.link_schedule.proofs.Items.{Each-set, Each-keep}
-use Rattle.link_schedule.proofs.Laws.{accepted_bound, received_is}
-use Rattle.link_schedule.proofs.Runs.{Begins-length, effects_begin, to_alone}
-use Rattle.link_schedule.proofs.Comparisons.{here, not_here, le_true, le_false, lt_true, lane_here}
+use Rattle.schedule_laws.proofs.Items.{Each-set, Each-keep}
+use Rattle.schedule_laws.proofs.Laws.{accepted_bound, received_is}
+use Rattle.schedule_laws.proofs.Runs.{Begins-length, effects_begin, to_alone}
+use Rattle.schedule_laws.proofs.Comparisons.{here, not_here, le_true, le_false, lt_true, lane_here}
 
 -- ---- an effect is put on its link
 
@@ -36,17 +36,6 @@ pub settled_is : (d : ℕ) (l : Lane) (H : List Turn) → number_on (settled_num
 settled_is d Down H = refl
 settled_is d Gateway H = refl
 settled_is d Subscriber H = refl
-
-pub push_told : (s : Setting) (H : List Turn) (e : DeviceId) (l : Lane) (k : ℕ) → settled e.0 l H < k → k ≤ pushed_count l (journal s e.0 H) → told.Pushed ≡ answer s H (Push e l k)
-push_told s H e l k a b = rw (lt_true (settled e.0 l H) k a, le_true k (pushed_count l (journal s e.0 H)) b) refl
-
-pub push_void : (s : Setting) (H : List Turn) (e : DeviceId) (l : Lane) (k : ℕ) → (settled e.0 l H < k → k ≤ pushed_count l (journal s e.0 H) → ⊥) → told.VoidOutbox ≡ answer s H (Push e l k)
-push_void s H e l k never = at (nat_lt (settled e.0 l H) k) (nat_le k (pushed_count l (journal s e.0 H))) refl refl
-  where
-    at : (x y : Bool) → nat_lt (settled e.0 l H) k ≡ x → nat_le k (pushed_count l (journal s e.0 H)) ≡ y → told.VoidOutbox ≡ cond (x && y) told.Pushed told.VoidOutbox
-    at false y f g = refl
-    at true false f g = refl
-    at true true f g = absurd (never (grind (arith, common_steps, f)) (grind (arith, common_steps, g)))
 
 pub pushes : (s : Setting) (H : List Turn) (p : Parts) (e : DeviceId) (l : Lane) (k : ℕ) (was now : LaneMarks) → was ≡ get_or p.pushed (e.0 - 1) was → MarksOn was now l k → IsWithin (length s.rows) e.0 → ArePartsOf s H p → ArePartsOf s ((Push e l k, told.Pushed) ∷ H) (record p { pushed = set p.pushed (e.0 - 1) now })
 pushes s H p e l k was now at marks within m =
@@ -65,22 +54,6 @@ pushes s H p e l k was now at marks within m =
     }
 
 -- ---- an effect arrives
-
-pub effect_void : (s : Setting) (H : List Turn) (e : DeviceId) (l : Lane) (k : ℕ) → effect_pushed e.0 l k H ≡ false → told.VoidLink ≡ answer s H (Effect e l k)
-effect_void s H e l k off = rw off refl
-
-pub effect_next : (s : Setting) (H : List Turn) (e : DeviceId) (l : Lane) (k : ℕ) → effect_pushed e.0 l k H ≡ true → k ≡ accepted e.0 l H + 1 → told.Accepted k ≡ answer s H (Effect e l k)
-effect_next s H e l k on is = rw (on, is, here (accepted e.0 l H + 1)) refl
-
-pub effect_repeat : (s : Setting) (H : List Turn) (e : DeviceId) (l : Lane) (k : ℕ) → effect_pushed e.0 l k H ≡ true → k ≤ accepted e.0 l H → told.Repeat k ≡ answer s H (Effect e l k)
-effect_repeat s H e l k on low =
-    let apart : k ≡ accepted e.0 l H + 1 → ⊥ = λ (is : k ≡ accepted e.0 l H + 1). omega arith in
-    rw (on, not_here (accepted e.0 l H + 1) k apart, le_true k (accepted e.0 l H) low) refl
-
-pub effect_ahead : (s : Setting) (H : List Turn) (e : DeviceId) (l : Lane) (k : ℕ) → effect_pushed e.0 l k H ≡ true → accepted e.0 l H + 1 < k → told.Ahead (accepted e.0 l H) ≡ answer s H (Effect e l k)
-effect_ahead s H e l k on high =
-    let apart : k ≡ accepted e.0 l H + 1 → ⊥ = λ (is : k ≡ accepted e.0 l H + 1). omega arith in
-    rw (on, not_here (accepted e.0 l H + 1) k apart, le_false k (accepted e.0 l H) (omega arith)) refl
 
 -- what was accepted is as long as it is to be
 pub accepted_length : (s : Setting) (H : List Turn) (d : ℕ) (l : Lane) → Lawful s H → length (accepted_effects s l H d) ≡ accepted d l H
@@ -166,22 +139,7 @@ accepts_subscriber s H p e k v call was now at then is got within m =
 
 -- ---- a message or an answer arrives
 
-pub take_told : (s : Setting) (H : List Turn) (r : ℕ) (e : DeviceId) (n : ℕ) → r ≤ s.replicas → answer s H (Take r e n) ≡ cond (message_sent e.0 n H) told.Taken told.VoidLink
-take_told s H r e n low = rw (le_true r s.replicas low) refl
-
-pub answer_told : (s : Setting) (H : List Turn) (r : ℕ) (e : DeviceId) (l : Lane) (k : ℕ) → Lawful s H → r ≤ s.replicas → 1 ≤ k → answer s H (Answer r e l k) ≡ cond (nat_le k (accepted e.0 l H)) told.Taken told.VoidLink
-answer_told s H r e l k L low one = rw (le_true r s.replicas low, received_is s e.0 l k H L one) refl
-
 -- ---- an acknowledgement arrives
-
-pub settle_void : (s : Setting) (H : List Turn) (e : DeviceId) (l : Lane) (k : ℕ) → Lawful s H → 1 ≤ k → accepted e.0 l H < k → told.VoidLink ≡ answer s H (Settle e l k)
-settle_void s H e l k L low high = let off : effect_received e.0 l k H ≡ false = received_is s e.0 l k H L low ∙ le_false k (accepted e.0 l H) high in rw off refl
-
-pub settle_old : (s : Setting) (H : List Turn) (e : DeviceId) (l : Lane) (k : ℕ) → Lawful s H → 1 ≤ k → k ≤ accepted e.0 l H → k ≤ settled e.0 l H → told.Old k ≡ answer s H (Settle e l k)
-settle_old s H e l k L low high old = let on : effect_received e.0 l k H ≡ true = received_is s e.0 l k H L low ∙ le_true k (accepted e.0 l H) high in rw (on, le_true k (settled e.0 l H) old) refl
-
-pub settle_new : (s : Setting) (H : List Turn) (e : DeviceId) (l : Lane) (k : ℕ) → Lawful s H → 1 ≤ k → k ≤ accepted e.0 l H → settled e.0 l H < k → told.Settled k ≡ answer s H (Settle e l k)
-settle_new s H e l k L low high new = let on : effect_received e.0 l k H ≡ true = received_is s e.0 l k H L low ∙ le_true k (accepted e.0 l H) high in rw (on, le_false k (settled e.0 l H) new) refl
 
 settled_row : (s : Setting) (H : List Turn) (e : DeviceId) (l : Lane) (k : ℕ) → ◌≡◌ {A = RowState} (record { journal = journal s e.0 H; settled = with_number (settled_numbers e.0 H) l k }) (row_after s ((Settle e l k, told.Settled k) ∷ H) e.0)
 settled_row s H e Down k = rw (here e.0) refl

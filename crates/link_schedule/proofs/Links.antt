@@ -14,17 +14,18 @@ use Rattle.device_types.specs.PeerAnswer.{answer_of}
 use Rattle.device_types.proofs.Journals.{get_before}
 use Rattle.effect_outbox.specs.Outbox.{number_on, unsettled_at}
 use Rattle.session_row.specs.Row.{RowState}
-use Rattle.link_schedule.specs.Answer.{Lawful}
-use Rattle.link_schedule.specs.Counts.{Turn, accepted, settled, message_sent, reply_sent, effect_pushed, effect_received, journal, commits}
-use Rattle.link_schedule.specs.Input.{no_message, message_of}
-use Rattle.link_schedule.specs.Lists.{Begins, has}
-use Rattle.link_schedule.specs.Setting.{Setting, row_of, messages_of, entries_of}
-use Rattle.link_schedule.specs.World.{marks_on, Parts, settled_numbers, row_after, accepted_effects, IsWindowOf, ArePartsOf, if_so, message_packet, reply_packet, effect_packet, answer_packet, row_in, window_in, sent_in, pushed_in, accepted_in, message_found, reply_found, effect_at, effect_found, answer_found, AreLinksOf}
+use Rattle.schedule_laws.specs.Answer.{Lawful}
+use Rattle.schedule_laws.specs.Counts.{Turn, accepted, settled, message_sent, reply_sent, effect_pushed, effect_received, journal, commits}
+use Rattle.schedule_laws.specs.Input.{no_message, message_of}
+use Rattle.schedule_laws.specs.Lists.{Begins, has}
+use Rattle.schedule_laws.specs.Setting.{Setting, row_of, messages_of, entries_of}
+use Rattle.link_schedule.specs.World.{marks_on, Parts, settled_numbers, row_after, accepted_effects, IsWindowOf, ArePartsOf, row_in, window_in, sent_in, pushed_in, accepted_in, message_found, reply_found, effect_at, effect_found, answer_found, AreLinksOf}
+use Rattle.schedule_laws.specs.Packets.{if_so, message_packet, reply_packet, effect_packet, answer_packet}
 use Rattle.link_schedule.proofs.Lanes.{accepted_length, settled_is}
-use Rattle.link_schedule.proofs.Laws.{sent_bound, pushed_bound, received_is, reply_is, settled_bound}
-use Rattle.link_schedule.proofs.Promises.{reply_alone}
-use Rattle.link_schedule.proofs.Runs.{effects_begin, to_alone}
-use Rattle.link_schedule.proofs.Comparisons.{le_true, le_false, lt_true, le_of}
+use Rattle.schedule_laws.proofs.Laws.{sent_bound, pushed_bound, received_is, reply_is, settled_bound}
+use Rattle.schedule_laws.proofs.Promises.{reply_alone}
+use Rattle.schedule_laws.proofs.Runs.{effects_begin, to_alone}
+use Rattle.schedule_laws.proofs.Comparisons.{le_true, le_false, lt_true, le_of}
 
 -- ---- lists
 

@@ -4,14 +4,14 @@ use Rattle.device_types.specs.declared.event.Event.{Event}
 use Rattle.device_types.specs.declared.event.EventAnswer.{EventAnswer}
 use Rattle.device_types.specs.declared.event.EventAnswer.TheVariants as told
 use Rattle.replica_worker.specs.declared.hand.Hand.{Hand}
-use Rattle.link_schedule.specs.Answer.{on_replica, answer, history, IsEvent}
-use Rattle.link_schedule.specs.Counts.{hand}
-use Rattle.link_schedule.specs.Promise.{is_void}
-use Rattle.link_schedule.specs.Setting.{Setting}
+use Rattle.schedule_laws.specs.Answer.{on_replica, answer, history, IsEvent}
+use Rattle.schedule_laws.specs.Counts.{hand}
+use Rattle.schedule_laws.specs.Promise.{is_void}
+use Rattle.schedule_laws.specs.Setting.{Setting}
 use Rattle.link_schedule.specs.World.{Parts, WorldState, ArePartsOf, IsWorld, Answers}
-use Rattle.link_schedule.proofs.Comparisons.{le_false}
+use Rattle.schedule_laws.proofs.Comparisons.{le_false}
 use Rattle.link_schedule.proofs.Events.{stays}
-use Rattle.link_schedule.proofs.Promises.{is_quiet, quiet_stays, void_stays}
+use Rattle.schedule_laws.proofs.Promises.{is_quiet, quiet_stays, void_stays}
 use Rattle.link_schedule.proofs.Worlds.{goes_on, answered}
 
 -- what it is, whatever the list that has the event at its end
@@ -37,10 +37,6 @@ pub notes_hand : (w : WorldState) (e : Event) (a : EventAnswer) (r : ℕ) (now h
 notes_hand w e a r now held es same more is i given parts =
     notes w e a (record w.parts { hands = set w.parts.hands (r - 1) now }) es more is i given
     (subst (λ (h : Hand). ArePartsOf w.setting ((e, a) ∷ history w.setting w.events) (record w.parts { hands = set w.parts.hands (r - 1) h })) (sym same) parts)
-
--- there is no such replica
-pub no_replica : (s : Setting) (r : ℕ) (a : EventAnswer) → s.replicas < r → told.VoidReplica ≡ on_replica s r a
-no_replica s r a high = rw (le_false r s.replicas high) refl
 
 -- an event whose answer changes nothing: the counts and the hands are as before
 pub notes_quiet : (w : WorldState) (e : Event) (a : EventAnswer) (es : List Event) → es ≡ w.events ++ e ∷ [] → IsWorld w → IsEvent w.setting e → a ≡ answer w.setting (history w.setting w.events) e → is_quiet a ≡ true → ((r : ℕ) → hand r ((e, a) ∷ history w.setting w.events) ≡ hand r (history w.setting w.events)) → IsWorld (record { setting = w.setting; events = es; parts = w.parts })

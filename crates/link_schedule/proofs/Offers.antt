@@ -15,16 +15,17 @@ use Rattle.device_types.specs.Journal.{effects_of}
 use Rattle.device_types.specs.Numbers.{IsWithin}
 use Rattle.peer_calls.specs.declared.arrival.Arrival.TheVariants.{Next, Repeat, Ahead}
 use Rattle.peer_calls.specs.Calls.{calls_of, with_call, arrival_of, offer_of, after_offer}
-use Rattle.link_schedule.specs.Answer.{answer, Lawful}
-use Rattle.link_schedule.specs.Counts.{Turn, accepted, effect_pushed}
-use Rattle.link_schedule.specs.Setting.{Setting, entries_of}
+use Rattle.schedule_laws.specs.Answer.{answer, Lawful}
+use Rattle.schedule_laws.specs.Counts.{Turn, accepted, effect_pushed}
+use Rattle.schedule_laws.specs.Setting.{Setting, entries_of}
 use Rattle.link_schedule.specs.Told.{offer_answer}
 use Rattle.link_schedule.specs.World.{Parts, ArePartsOf}
 use Rattle.link_schedule.proofs.Calls.{gateway_count, subscriber_count}
 use Rattle.link_schedule.proofs.Events.{stays}
-use Rattle.link_schedule.proofs.Lanes.{effect_next, effect_repeat, effect_ahead, accepts_gateway, accepts_subscriber}
-use Rattle.link_schedule.proofs.Promises.{quiet_stays}
-use Rattle.link_schedule.proofs.Comparisons.{here, le_of, gt_of, same_number}
+use Rattle.link_schedule.proofs.Lanes.{accepts_gateway, accepts_subscriber}
+use Rattle.schedule_laws.proofs.EachAnswer.{effect_next, effect_repeat, effect_ahead}
+use Rattle.schedule_laws.proofs.Promises.{quiet_stays}
+use Rattle.schedule_laws.proofs.Comparisons.{here, le_of, gt_of, same_number}
 
 -- of any peer, whose calls are these: they are as before unless the call is the next one
 offers : {C : Type 0} (s : Setting) (H : List Turn) (e : DeviceId) (l : Lane) (k : ℕ) (call : C) (reply : List C → Answer) (lists : List (List C)) (parts : List (List C) → Parts) → effect_pushed e.0 l k H ≡ true → length (calls_of lists e.0) ≡ accepted e.0 l H → ArePartsOf s H (parts lists) → (k ≡ accepted e.0 l H + 1 → ArePartsOf s ((Effect e l k, told.Accepted k) ∷ H) (parts (with_call lists e.0 call))) → (offer_answer k (offer_of reply (calls_of lists e.0) k call) ≡ answer s H (Effect e l k)) × ArePartsOf s ((Effect e l k, offer_answer k (offer_of reply (calls_of lists e.0) k call)) ∷ H) (parts (after_offer lists e.0 k call))

@@ -26,19 +26,19 @@ use Rattle.session_row.specs.Row.{RowState, Commits, look_at as row_look}
 use Rattle.session_store.specs.Charter.{CharterState, alone_in}
 use Rattle.session_store.specs.Rows.{StoreState, IsDevice, WritesRow, opening_row, row_of as row_stored, journal_of}
 use Rattle.session_store.specs.Seen.{IsAsked, asked_of, look_to}
-use Rattle.link_schedule.specs.Answer.{look_answer, answer, Lawful}
-use Rattle.link_schedule.specs.Counts.{Turn, Arrival, Held, hand, commits, journal}
-use Rattle.link_schedule.specs.Counts.Arrival.{TheMessage, TheAnswer}
-use Rattle.link_schedule.specs.Counts.Held.{Nothing, Taken, Ready}
-use Rattle.link_schedule.specs.Input.{input_of, IsArrival}
-use Rattle.link_schedule.specs.Promise.{Holds}
-use Rattle.link_schedule.specs.Setting.{Setting, window, row_of, messages_of, entries_of}
+use Rattle.schedule_laws.specs.Answer.{look_answer, answer, Lawful}
+use Rattle.schedule_laws.specs.Counts.{Turn, Arrival, Held, hand, commits, journal}
+use Rattle.schedule_laws.specs.Counts.Arrival.{TheMessage, TheAnswer}
+use Rattle.schedule_laws.specs.Counts.Held.{Nothing, Taken, Ready}
+use Rattle.schedule_laws.specs.Input.{input_of, IsArrival}
+use Rattle.schedule_laws.specs.Promise.{Holds}
+use Rattle.schedule_laws.specs.Setting.{Setting, window, row_of, messages_of, entries_of}
 use Rattle.link_schedule.specs.Told.{commit_answer, device_held, version_in, seen_answer}
 use Rattle.link_schedule.specs.World.{Parts, IsSetting, hand_of, ArePartsOf}
 use Rattle.link_schedule.proofs.Calls.{read_told}
-use Rattle.link_schedule.proofs.Comparisons.{le_true}
+use Rattle.schedule_laws.proofs.Comparisons.{le_true}
 use Rattle.link_schedule.proofs.Events.{reads_ready, reads_other, entry_held, made_hand, writes}
-use Rattle.link_schedule.proofs.Laws.{version_is, sent_bound}
+use Rattle.schedule_laws.proofs.Laws.{version_is, sent_bound}
 use Rattle.link_schedule.proofs.Worlds.{IsWith, with_input, held_arrival, made_follows, row_there, line_there, line_of, number_in}
 
 -- ---- what a hand has

@@ -16,13 +16,13 @@ use Rattle.device_types.specs.Numbers.{IsWithin}
 use Rattle.session_row.specs.Row.{RowState}
 use Rattle.session_store.specs.Rows.{opening_row, journal_of}
 use Rattle.session_store.specs.Seen.{IsRepeat, repeated_reply}
-use Rattle.link_schedule.specs.Answer.{answer, Lawful}
-use Rattle.link_schedule.specs.Counts.{Turn, journal}
-use Rattle.link_schedule.specs.Setting.{Setting}
+use Rattle.schedule_laws.specs.Answer.{answer, Lawful}
+use Rattle.schedule_laws.specs.Counts.{Turn, journal}
+use Rattle.schedule_laws.specs.Setting.{Setting}
 use Rattle.link_schedule.specs.World.{Parts, ArePartsOf}
-use Rattle.link_schedule.proofs.Comparisons.{le_of, gt_of}
-use Rattle.link_schedule.proofs.Events.{reply_void, reply_old}
-use Rattle.link_schedule.proofs.Laws.{taken_bound}
+use Rattle.schedule_laws.proofs.Comparisons.{le_of, gt_of}
+use Rattle.schedule_laws.proofs.EachAnswer.{reply_void, reply_old}
+use Rattle.schedule_laws.proofs.Laws.{taken_bound}
 
 -- the look by its tests
 abbrev look_by : Bool → Bool → Bool → Option (Lane × ℕ) → ℕ → ℕ → Look

@@ -1,12 +1,12 @@
--- An exact floor of which the ends are those of the definition has a whole world.
-use Rattle.std.proofs.Common.{◌≡◌, Option, Some, None, sym, ap, ◌∙◌}
+-- A world of which the ends are those of the definition is whole.
+use Rattle.std.proofs.Common.{◌≡◌, Some, sym, ap, ◌∙◌}
+use Rattle.link_schedule.specs.Own.{IsWholeByEnds}
+use Rattle.schedule_laws.specs.Setting.{Setting}
+use Rattle.link_schedule.specs.World.{WorldState, IsWorld}
+use Rattle.link_schedule.proofs.Ends.{settled_by_finals}
 use Rattle.device_machine.specs.Ends.{finals_of}
-use Rattle.link_schedule.specs.Own.{setting_by, ends_by, IsWorldIn, IsSettledByEnds, IsWhole}
-use Rattle.link_schedule.specs.Setting.{Setting}
-use Rattle.link_schedule.specs.World.{WorldState}
 
-pub whole : (o : Option WorldState) (s : Setting) → setting_by o ≡ Some s → ends_by o ≡ finals_of s.rows s.book → IsWorldIn o → IsSettledByEnds o → IsWhole o
-whole None s open_with ends is settled = absurd (cc)
-whole (Some w) s open_with ends is settled =
+pub whole_by_ends : (w : WorldState) → IsWorld w → IsWholeByEnds (Some w)
+whole_by_ends w is s open_with ends =
     let same : w.setting ≡ s = cc in
-    (is, settled (ends ∙ ap (λ (x : Setting). finals_of x.rows x.book) (sym same)))
+    (is, settled_by_finals w is (ends ∙ ap (λ (x : Setting). finals_of x.rows x.book) (sym same)))

@@ -21,20 +21,21 @@ use Rattle.replica_worker.specs.declared.hand.Hand.TheVariants as hands
 use Rattle.session_row.specs.Row.{look_at as row_look}
 use Rattle.session_store.specs.Charter.{CharterState, IsCharter}
 use Rattle.session_store.specs.Rows.{opening_row}
-use Rattle.link_schedule.specs.Answer.{look_at, answer, turn, history, IsEvent, Lawful}
-use Rattle.link_schedule.specs.Counts.{Turn, Arrival, Held, hand, journal}
-use Rattle.link_schedule.specs.Counts.Arrival.{TheMessage, TheAnswer}
-use Rattle.link_schedule.specs.Counts.Held.{Nothing, Taken, Ready}
-use Rattle.link_schedule.specs.Input.{message_of, no_message, input_of, IsArrival, IsHand}
-use Rattle.link_schedule.specs.Lists.{has}
-use Rattle.link_schedule.specs.Promise.{setting, Holds}
-use Rattle.link_schedule.specs.Setting.{Setting, messages_of, entries_of, window, no_row, row_of}
+use Rattle.schedule_laws.specs.Answer.{look_at, answer, turn, history, IsEvent, Lawful}
+use Rattle.schedule_laws.specs.Counts.{Turn, Arrival, Held, hand, journal}
+use Rattle.schedule_laws.specs.Counts.Arrival.{TheMessage, TheAnswer}
+use Rattle.schedule_laws.specs.Counts.Held.{Nothing, Taken, Ready}
+use Rattle.schedule_laws.specs.Input.{message_of, no_message, input_of, IsArrival, IsHand}
+use Rattle.schedule_laws.specs.Lists.{has}
+use Rattle.schedule_laws.specs.Promise.{setting, Holds}
+use Rattle.schedule_laws.specs.Setting.{Setting, messages_of, entries_of, window, no_row, row_of}
 use Rattle.link_schedule.specs.World.{Parts, WorldState, fresh_window, IsSetting, row_after, hand_of, IsWindowOf, AreGatewayCalls, AreSubscriberCalls, AreSent, ArePushed, marks_on, ArePartsOf, AreLinksOf, IsWorld, Answers}
-use Rattle.link_schedule.proofs.Events.{history_more, entry_held}
-use Rattle.link_schedule.proofs.Items.{Each-same}
-use Rattle.link_schedule.proofs.Laws.{version_is, hand_ok, arrival_device, sent_bound}
+use Rattle.link_schedule.proofs.Events.{entry_held}
+use Rattle.schedule_laws.proofs.EachAnswer.{history_more}
+use Rattle.schedule_laws.proofs.Items.{Each-same}
+use Rattle.schedule_laws.proofs.Laws.{version_is, hand_ok, arrival_device, sent_bound}
 use Rattle.link_schedule.proofs.Links.{links}
-use Rattle.link_schedule.proofs.Promises.{arrival_of, step_is_next}
+use Rattle.schedule_laws.proofs.Promises.{arrival_of, step_is_next}
 
 -- ---- the beginning
 

@@ -4,9 +4,9 @@ use Rattle.device_types.specs.declared.event.Event.{Event}
 use Rattle.device_types.specs.declared.finals.DeviceEnd.{DeviceEnd}
 use Rattle.device_types.specs.Down.{IsDown}
 use Rattle.device_machine.specs.Ends.{finals_of}
-use Rattle.link_schedule.specs.Answer.{history, IsEvent}
-use Rattle.link_schedule.specs.Counts.{Turn}
-use Rattle.link_schedule.specs.Setting.{Setting}
+use Rattle.schedule_laws.specs.Answer.{history, IsEvent}
+use Rattle.schedule_laws.specs.Counts.{Turn}
+use Rattle.schedule_laws.specs.Setting.{Setting}
 
 -- the events of turns
 abbrev pub events_of : List Turn → List Event

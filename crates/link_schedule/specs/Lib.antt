@@ -1,12 +1,6 @@
-pub mod Answer
-pub mod Counts
 pub mod Finals
 pub mod Floor
-pub mod Input
-pub mod Lists
 pub mod Own
-pub mod Promise
-pub mod Setting
 pub mod Settled
 pub mod Told
 pub mod View

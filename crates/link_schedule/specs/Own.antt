@@ -7,11 +7,11 @@ use mathlib.Core.List.{reverse_aux}
 use Rattle.device_types.specs.declared.event.Event.{Event}
 use Rattle.device_types.specs.declared.finals.DeviceEnd.{DeviceEnd}
 use Rattle.device_machine.specs.Ends.{finals_of}
-use Rattle.link_schedule.specs.Answer.{turn, history}
-use Rattle.link_schedule.specs.Counts.{Turn}
+use Rattle.schedule_laws.specs.Answer.{turn, history}
+use Rattle.schedule_laws.specs.Counts.{Turn}
 use Rattle.link_schedule.specs.Finals.{finals_in}
 use Rattle.link_schedule.specs.Floor.{events_of, AreAnswered}
-use Rattle.link_schedule.specs.Setting.{Setting}
+use Rattle.schedule_laws.specs.Setting.{Setting}
 use Rattle.link_schedule.specs.Settled.{turns_in, IsSettled}
 use Rattle.link_schedule.specs.World.{WorldState, IsWorld}
 
@@ -33,15 +33,14 @@ abbrev pub IsWorldIn : Option WorldState → Type 0
 IsWorldIn None = Unit {0}
 IsWorldIn (Some w) = IsWorld w
 
--- where the ends are those of the definition, each journal is whole and each lane was accepted whole
-abbrev pub IsSettledByEnds : Option WorldState → Type 0
-IsSettledByEnds None = Unit {0}
-IsSettledByEnds (Some w) = finals_in w ≡ finals_of w.setting.rows w.setting.book → IsSettled w
-
 -- there is a world, each part of which is what its events make of it, each journal is whole, and each lane was accepted whole
 abbrev pub IsWhole : Option WorldState → Type 0
 IsWhole None = ⊥
 IsWhole (Some w) = IsWorld w × IsSettled w
+
+-- where it runs on a setting and its ends are those of the definition, it is whole
+abbrev pub IsWholeByEnds : Option WorldState → Type 0
+IsWholeByEnds o = (s : Setting) → setting_by o ≡ Some s → ends_by o ≡ finals_of s.rows s.book → IsWhole o
 
 -- ---- the turns of a world are its events with the answers of the definition
 

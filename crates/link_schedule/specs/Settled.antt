@@ -5,10 +5,10 @@ use Rattle.device_types.specs.declared.event.Lane.TheVariants.{Down, Gateway, Su
 use Rattle.device_types.specs.declared.step.Entry.{Entry}
 use Rattle.device_types.specs.Journal.{pushed_count}
 use Rattle.device_types.specs.Numbers.{IsWithin}
-use Rattle.link_schedule.specs.Answer.{history}
-use Rattle.link_schedule.specs.Counts.{Turn, commits, acked, accepted, journal}
-use Rattle.link_schedule.specs.Lists.{Begins}
-use Rattle.link_schedule.specs.Setting.{Setting, message_count, entries_of}
+use Rattle.schedule_laws.specs.Answer.{history}
+use Rattle.schedule_laws.specs.Counts.{Turn, commits, acked, accepted, journal}
+use Rattle.schedule_laws.specs.Lists.{Begins}
+use Rattle.schedule_laws.specs.Setting.{Setting, message_count, entries_of}
 use Rattle.link_schedule.specs.World.{WorldState}
 
 -- ---- how far it has come with device d

@@ -19,7 +19,7 @@ use Rattle.replica_worker.specs.declared.hand.Hand.TheVariants as hands
 use Rattle.session_row.specs.declared.commit.Commit.{Commit}
 use Rattle.session_row.specs.declared.commit.Commit.TheVariants as commit
 use Rattle.session_store.specs.Seen.{asked_of, look_to}
-use Rattle.link_schedule.specs.Answer.{look_answer}
+use Rattle.schedule_laws.specs.Answer.{look_answer}
 
 -- the row of that journal to an input
 abbrev pub seen_answer : List Entry → Input → EventAnswer

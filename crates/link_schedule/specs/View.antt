@@ -2,7 +2,7 @@
 use Rattle.std.specs.Prelude.{◌≡◌}
 use Rattle.std.specs.Arc.{arc_value}
 use Rattle.link_schedule.specs.declared.world.World.TheInside.{Inside}
-use Rattle.link_schedule.specs.Promise.{setting}
+use Rattle.schedule_laws.specs.Promise.{setting}
 use Rattle.link_schedule.specs.World.{WorldState, IsWorld}
 
 -- the rows and the lines are those of the charter

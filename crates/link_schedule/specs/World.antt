@@ -25,12 +25,13 @@ use Rattle.effect_outbox.specs.Outbox.{LaneNumbers, number_on, unsettled_at}
 use Rattle.replica_worker.specs.declared.hand.Hand.{Hand}
 use Rattle.replica_worker.specs.declared.hand.Hand.TheVariants as hands
 use Rattle.session_row.specs.Row.{RowState}
-use Rattle.link_schedule.specs.Answer.{answer, history, Lawful}
-use Rattle.link_schedule.specs.Counts.{Turn, Held, hand, acked, accepted, settled, greatest_sent, message_sent, reply_sent, effect_pushed, effect_received, journal}
-use Rattle.link_schedule.specs.Counts.Held.{Nothing, Taken, Ready}
-use Rattle.link_schedule.specs.Input.{message_of, input_of}
-use Rattle.link_schedule.specs.Lists.{Each, has}
-use Rattle.link_schedule.specs.Setting.{Setting, row_of, messages_of, entries_to, entries_of}
+use Rattle.schedule_laws.specs.Answer.{answer, history, Lawful}
+use Rattle.schedule_laws.specs.Counts.{Turn, Held, hand, acked, accepted, settled, greatest_sent, message_sent, reply_sent, effect_pushed, effect_received, journal}
+use Rattle.schedule_laws.specs.Counts.Held.{Nothing, Taken, Ready}
+use Rattle.schedule_laws.specs.Input.{message_of, input_of}
+use Rattle.schedule_laws.specs.Lists.{Each, has}
+use Rattle.schedule_laws.specs.Packets.{if_so, message_packet, reply_packet, effect_packet, answer_packet}
+use Rattle.schedule_laws.specs.Setting.{Setting, row_of, messages_of, entries_to, entries_of}
 
 -- ---- what a world is made of
 
@@ -136,23 +137,6 @@ pub record ArePartsOf (s : Setting) (turns : List Turn) (p : Parts) : Type 0 whe
   pub pushed : Each p.pushed (length s.rows) (ArePushed turns)
 
 -- ---- the packets on the links, with their contents
-
-abbrev pub if_so : {X : Type 0} → Bool → Option X → Option X
-if_so b o = if b then o else None
-
--- the turns say which there are; the contents are of the book and of the machine that never fails
-abbrev pub message_packet : Setting → List Turn → ℕ → ℕ → Option Message
-message_packet s turns d n = if_so (message_sent d n turns) (Some (message_of s d n))
-
-abbrev pub reply_packet : Setting → List Turn → ℕ → ℕ → Option Reply
-reply_packet s turns d n = if_so (reply_sent d n turns) (reply_of (entries_of s d) n)
-
-abbrev pub effect_packet : Setting → List Turn → ℕ → Lane → ℕ → Option Effect
-effect_packet s turns d l k = if_so (effect_pushed d l k turns) (slice_get (effects_of l (entries_of s d)) (k - 1))
-
--- the answer to a call; it comes with the acknowledgement
-abbrev pub answer_packet : Setting → List Turn → ℕ → Lane → ℕ → Option Answer
-answer_packet s turns d l k = if_so (effect_received d l k turns) (Some (answer_of (row_of s d) (take k (effects_of l (entries_of s d)))))
 
 -- the parts of device d
 abbrev pub row_in : Parts → ℕ → RowState

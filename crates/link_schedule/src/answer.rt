@@ -5,7 +5,7 @@ ghost use Rattle.device_types.specs.declared.event.Event.{Event};
 ghost use Rattle.device_types.specs.Event.{IsCallLane};
 ghost use Rattle.device_types.specs.Numbers.{IsWithin};
 ghost use Rattle.peer_calls.specs.Calls.{calls_of};
-ghost use Rattle.link_schedule.specs.Answer.{IsEvent};
+ghost use Rattle.schedule_laws.specs.Answer.{IsEvent};
 ghost use Rattle.link_schedule.specs.World.{answer_given, accepted_calls, Answers};
 
 use crate::world::{World, noted, row_at};

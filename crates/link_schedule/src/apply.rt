@@ -1,6 +1,6 @@
 //! Any event.
 ghost use Rattle.std.specs.Prelude.{◌≡◌, IfOk, OnErr};
-ghost use Rattle.link_schedule.specs.Answer.{IsEvent};
+ghost use Rattle.schedule_laws.specs.Answer.{IsEvent};
 ghost use Rattle.link_schedule.specs.World.{Answers, IsWorld};
 
 use crate::world::World;

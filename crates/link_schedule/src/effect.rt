@@ -5,8 +5,8 @@ ghost use Rattle.device_types.specs.declared.event.Lane.TheVariants as lanes;
 ghost use Rattle.device_types.specs.Numbers.{IsWithin};
 ghost use Rattle.peer_calls.specs.Calls.{calls_of};
 ghost use Rattle.session_store.specs.Rows.{row_of};
-ghost use Rattle.link_schedule.specs.Answer.{IsEvent, history};
-ghost use Rattle.link_schedule.specs.Counts.{effect_pushed};
+ghost use Rattle.schedule_laws.specs.Answer.{IsEvent, history};
+ghost use Rattle.schedule_laws.specs.Counts.{effect_pushed};
 ghost use Rattle.link_schedule.specs.Told.{down_answer, offer_answer};
 ghost use Rattle.link_schedule.specs.World.{effect_at, IsOnLane, Answers};
 

@@ -2,11 +2,11 @@
 ghost use Rattle.std.specs.Prelude.{◌≡◌, ◌++◌, ◌∷◌, [], List, Bool, true, length, All, Option, Some, IfOk, OnOk, OnErr};
 ghost use Rattle.device_types.specs.declared.finals.DeviceEnd.{DeviceEnd};
 ghost use Rattle.device_types.specs.Numbers.{IsWithin};
-ghost use Rattle.link_schedule.specs.Counts.{Turn};
+ghost use Rattle.schedule_laws.specs.Counts.{Turn};
 ghost use Rattle.link_schedule.specs.Floor.{AreAnswered, IsOpen, IsEventOn, AreEndsOn};
-ghost use Rattle.link_schedule.specs.Lists.{Begins};
-ghost use Rattle.link_schedule.specs.Promise.{setting as setting_of};
-ghost use Rattle.link_schedule.specs.Setting.{Setting};
+ghost use Rattle.schedule_laws.specs.Lists.{Begins};
+ghost use Rattle.schedule_laws.specs.Promise.{setting as setting_of};
+ghost use Rattle.schedule_laws.specs.Setting.{Setting};
 ghost use Rattle.link_schedule.specs.World.{IsShort};
 
 use device_types::{Book, Event, EventAnswer, Finals};

@@ -32,7 +32,7 @@ fn lengthen(flags: &mut Vec<bool>, count: usize) -> Result<(), AllocError>
 }
 
 impl Marks {
-    ghost use Rattle.link_schedule.specs.Lists.{has, AddsMark};
+    ghost use Rattle.schedule_laws.specs.Lists.{has, AddsMark};
 
     /// No number is marked. It takes no memory.
     pub(crate) fn new(alloc: Global) -> Marks
@@ -86,7 +86,7 @@ impl Model for LaneMarks {
 }
 
 impl LaneMarks {
-    ghost use Rattle.link_schedule.specs.Lists.{has};
+    ghost use Rattle.schedule_laws.specs.Lists.{has};
     ghost use Rattle.link_schedule.specs.World.{marks_on, MarksOn};
 
     /// No number is marked on any lane. It takes no memory.

@@ -3,7 +3,7 @@ ghost use Rattle.std.specs.Prelude.{◌≡◌, ◌≤◌, [], length, map, repli
 ghost use Rattle.device_types.specs.Line.{IsLine};
 ghost use Rattle.device_types.specs.Numbers.{IsWithin};
 ghost use Rattle.replica_worker.specs.declared.hand.Hand.TheVariants as hands;
-ghost use Rattle.link_schedule.specs.Promise.{setting};
+ghost use Rattle.schedule_laws.specs.Promise.{setting};
 ghost use Rattle.link_schedule.specs.World.{fresh_window, IsShort, IsWorld};
 
 use crate::marks::{LaneMarks, Marks};

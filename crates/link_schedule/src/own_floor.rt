@@ -1,6 +1,6 @@
 //! The exact floor.
 ghost use Rattle.std.specs.Prelude.{◌≡◌, None, true};
-ghost use Rattle.link_schedule.specs.Own.{setting_by, given_by, ends_by, answered_by, IsWorldIn, IsSettledByEnds};
+ghost use Rattle.link_schedule.specs.Own.{setting_by, given_by, ends_by, answered_by, IsWorldIn, IsWholeByEnds};
 
 use crate::floor::Floor;
 use crate::world::World;
@@ -23,11 +23,12 @@ impl OwnFloor {
         OwnFloor { world: None }
     }
 
-    /// Each part of the world, if there is one, is what its events make of it; and where its ends are those of the machine that
-    /// never fails, as behind a settling, each journal is whole and each lane was accepted whole. It takes no memory.
+    /// Each part of the world, if there is one, is what its events make of it. Where the floor was opened and its ends are those of
+    /// the machine that never fails, as behind a settling, there is a world, each journal is whole and each lane was accepted whole.
+    /// It takes no memory.
     pub fn recall(&self)
         ensures world { IsWorldIn self.now.world }
-        ensures settled { IsSettledByEnds self.now.world }
+        ensures whole { IsWholeByEnds self.now.world }
     {
         let Some(world) = &self.world else {
             return;

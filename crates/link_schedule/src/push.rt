@@ -4,7 +4,7 @@ ghost use Rattle.device_types.specs.declared.event.Event.TheVariants as happens;
 ghost use Rattle.device_types.specs.Journal.{pushed_count};
 ghost use Rattle.effect_outbox.specs.Outbox.{number_on};
 ghost use Rattle.session_store.specs.Rows.{IsDevice, row_of, journal_of};
-ghost use Rattle.link_schedule.specs.Answer.{IsEvent};
+ghost use Rattle.schedule_laws.specs.Answer.{IsEvent};
 ghost use Rattle.link_schedule.specs.World.{Answers};
 
 use crate::world::{World, noted};

@@ -2,7 +2,7 @@
 ghost use Rattle.std.specs.Prelude.{◌≡◌, length, IfOk, OnOk, OnErr, IsSomeAnd};
 ghost use Rattle.replica_worker.specs.Hands.{held_in, CanBeRead, hand_after};
 ghost use Rattle.session_store.specs.Rows.{journal_of};
-ghost use Rattle.link_schedule.specs.Answer.{look_answer, IsEvent};
+ghost use Rattle.schedule_laws.specs.Answer.{look_answer, IsEvent};
 ghost use Rattle.link_schedule.specs.Told.{version_in, device_held, seen_answer};
 ghost use Rattle.link_schedule.specs.World.{Answers};
 

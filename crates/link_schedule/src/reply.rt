@@ -1,7 +1,7 @@
 //! The reply to a message arrives at the agent.
 ghost use Rattle.std.specs.Prelude.{◌≡◌, IfOk, OnErr};
 ghost use Rattle.device_types.specs.declared.event.Event.{Event};
-ghost use Rattle.link_schedule.specs.Answer.{IsEvent};
+ghost use Rattle.schedule_laws.specs.Answer.{IsEvent};
 ghost use Rattle.link_schedule.specs.Told.{reply_answer};
 ghost use Rattle.link_schedule.specs.World.{Answers};
 

@@ -1,8 +1,8 @@
 //! The acknowledgement of an effect arrives.
 ghost use Rattle.std.specs.Prelude.{◌≡◌, length, IfOk, OnErr};
 ghost use Rattle.device_types.specs.Numbers.{IsWithin};
-ghost use Rattle.link_schedule.specs.Answer.{IsEvent, history};
-ghost use Rattle.link_schedule.specs.Counts.{accepted};
+ghost use Rattle.schedule_laws.specs.Answer.{IsEvent, history};
+ghost use Rattle.schedule_laws.specs.Counts.{accepted};
 ghost use Rattle.link_schedule.specs.Told.{settle_answer};
 ghost use Rattle.link_schedule.specs.World.{Answers};
 

@@ -2,7 +2,7 @@
 ghost use Rattle.std.specs.Prelude.{◌≡◌, ◌+◌, ◌<◌, ◌≤◌, ℕ, length, None, Some, IfOk, OnOk};
 ghost use Rattle.device_types.specs.Journal.{awaited_call, pushed_count, taken_count};
 ghost use Rattle.device_types.specs.Numbers.{IsWithin};
-ghost use Rattle.link_schedule.specs.Setting.{message_count};
+ghost use Rattle.schedule_laws.specs.Setting.{message_count};
 ghost use Rattle.link_schedule.specs.Settled.{journal_in, commits_in, acked_in, accepts_in, GoesOn, Advances, IsDone, IsSettled, Pays, PaysFor, cost_to};
 ghost use Rattle.link_schedule.specs.World.{IsWorld};
 

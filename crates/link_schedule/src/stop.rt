@@ -1,7 +1,7 @@
 //! A replica stops.
 ghost use Rattle.std.specs.Prelude.{◌≡◌, IfOk, OnErr};
 ghost use Rattle.device_types.specs.declared.event.Event.{Event};
-ghost use Rattle.link_schedule.specs.Answer.{IsEvent};
+ghost use Rattle.schedule_laws.specs.Answer.{IsEvent};
 ghost use Rattle.link_schedule.specs.World.{Answers};
 
 use crate::world::{World, noted};

@@ -1,8 +1,8 @@
 //! A message arrives at a replica.
 ghost use Rattle.std.specs.Prelude.{◌≡◌, ◌≤◌, ◌-◌, length, slice_index_or, IfOk, OnErr};
 ghost use Rattle.device_types.specs.declared.event.Event.{Event};
-ghost use Rattle.link_schedule.specs.Answer.{IsEvent};
-ghost use Rattle.link_schedule.specs.Input.{no_message};
+ghost use Rattle.schedule_laws.specs.Answer.{IsEvent};
+ghost use Rattle.schedule_laws.specs.Input.{no_message};
 ghost use Rattle.link_schedule.specs.World.{Answers};
 
 use crate::world::{Agent, World, noted};

@@ -1,14 +1,18 @@
 //! Schedules over the worlds of two devices, with what each event comes to, by hand.
-ghost use Rattle.std.specs.Prelude.{◌≡◌, ◌≤◌, true, length, All, IfOk};
+ghost use Rattle.std.specs.Prelude.{◌≡◌, ◌≤◌, true, length, All, IfOk, OnOk};
 ghost use Rattle.device_types.specs.Line.{IsLine};
 ghost use Rattle.device_types.specs.Message.{IsBody, IsMessage};
 ghost use Rattle.device_types.specs.Numbers.{IsWithin};
-ghost use Rattle.link_schedule.specs.Answer.{IsEvent};
+ghost use Rattle.schedule_laws.specs.Answer.{IsEvent};
+ghost use Rattle.link_schedule.specs.Floor.{IsOpen};
+ghost use Rattle.link_schedule.specs.Own.{setting_by};
 ghost use Rattle.link_schedule.specs.World.{IsShort};
 
-use crate::World;
+use crate::{Floor, OwnFloor, World};
 use case_form::read_case;
-use device_types::{Body, Book, DeviceId, Event, Lane, Message, Messages, Octets};
+use device_types::{
+    Body, Book, DeviceEnd, DeviceId, Event, Finals, Lane, Message, Messages, Octets,
+};
 use session_store::RowLaw;
 use std::alloc::{AllocError, Global};
 use std::test::Fail;
@@ -483,6 +487,133 @@ fn answers(alloc: Global, title: &str, lines: &str) -> Result<String, Fail> {
         return Err(Fail::from("not all events"));
     }
     Ok(told)
+}
+
+/// What became of a device: messages taken, steps, messages to it and its stage, and then its calls, a line each.
+fn tell_end(text: &mut String, end: &DeviceEnd) -> Result<(), Fail> {
+    let (messages, steps, downs) = (end.messages, end.steps, end.downs.items().len());
+    let stage = end.session.stage;
+    writeln!(text, "{messages} {steps} {downs} {stage:?}")?;
+    for call in end.gateway.items() {
+        writeln!(text, "{call:?}")?;
+    }
+    for call in end.subscriber.items() {
+        writeln!(text, "{call:?}")?;
+    }
+    Ok(())
+}
+
+/// What became of each.
+fn ends_text(alloc: Global, finals: &Finals) -> Result<String, Fail> {
+    let mut text = String::new(alloc);
+    for end in finals.items() {
+        tell_end(&mut text, end)?;
+    }
+    Ok(text)
+}
+
+/// How many events a world has taken once it has settled, and what became of its devices then.
+fn settled_world(alloc: Global, world: &mut World) -> Result<String, Fail> {
+    world.settle_all()?;
+    let count = world.events().len();
+    let ends = ends_text(alloc, &world.finals(alloc)?)?;
+    Ok(format!(in alloc; "{count} events\n{ends}")?)
+}
+
+/// What became of the devices of a floor that settles.
+fn settled_floor<F: Floor>(alloc: Global, floor: &mut F) -> Result<String, Fail>
+    requires { IsOpen (F.setting floor.old) }
+    ensures { IsOpen (F.setting floor.new) }
+{
+    floor.settle_all()?;
+    ends_text(alloc, &floor.finals(alloc)?)
+}
+
+/// The floor is opened on the two devices.
+fn open(alloc: Global, floor: &mut OwnFloor, table: &SubsTable, name: &str) -> Result<(), Fail>
+    ensures { OnOk result (IsOpen (setting_by floor.new.world)) }
+{
+    if table.len() != 2 {
+        return Err(Fail::from("not two rows"));
+    }
+    let book = book(alloc, name)?;
+    Ok(floor.open(alloc, table, &book, 1)?)
+}
+
+/// What the event comes to on the floor, put behind the text.
+fn give(floor: &mut OwnFloor, told: &mut String, event: Event) -> Result<(), Fail>
+    ensures { OnOk result (IsOpen (setting_by floor.new.world)) }
+{
+    let Some(world) = &floor.world else {
+        return Err(Fail::from("not open"));
+    };
+    if !may_happen(world, event) {
+        return Err(Fail::from("not an event of the world"));
+    }
+    let answer = floor.apply(event)?;
+    writeln!(told, "{answer:?}")?;
+    Ok(())
+}
+
+/// What becomes of the two devices where device 1 attaches: its six messages and the answers to all of its calls but the purge make
+/// eleven steps. It is challenged, secured, set up, released and challenged again; device 2 is rejected.
+const ATTACHED: &str = "\
+6 11 5 Authenticating
+Create
+Delete
+Vectors
+Location
+Purge
+Vectors
+1 1 1 Detached
+";
+
+/// The world settles behind two events. The first message of device 1 is sent, taken, read and written (4 events). Each of its nine
+/// next steps takes five: a reply is acknowledged and a message is sent, taken, read and written, or a call is pushed and accepted
+/// and its answer taken, read and written; the last one takes seven, since the purge goes before (52). Its five messages are pushed
+/// and accepted, and each of its lanes is settled (13). Device 2 takes four, two and one (7). A second settling finds each lane settled
+/// (3 and 1), and nothing else is another.
+#[test]
+fn world_settles(rt: HostRuntime) -> Result<(), Fail> {
+    let alloc = rt.alloc();
+    let text = case_text(alloc, "send 1 1 = Sent\ntake 2 1 1 = Taken\n")?;
+    let case = read_case(alloc, text.as_bytes())?;
+    let mut world = opened(alloc, &case.table, "attach", 2)?;
+    let told = happened(alloc, &mut world, &case.schedule)?;
+    assert_eq!(rt; told.as_str(), "Sent\nTaken\n");
+    let settled = settled_world(alloc, &mut world)?;
+    let wanted = format!(in alloc; "78 events\n{ATTACHED}")?;
+    assert_eq!(rt; settled.as_str(), wanted.as_str());
+    let again = settled_world(alloc, &mut world)?;
+    let wanted = format!(in alloc; "82 events\n{ATTACHED}")?;
+    assert_eq!(rt; again.as_str(), wanted.as_str());
+    Ok(())
+}
+
+/// A floor of its own is opened, given an event, settles twice, and is opened anew.
+#[test]
+fn floor_settles(rt: HostRuntime) -> Result<(), Fail> {
+    let alloc = rt.alloc();
+    let text = case_text(alloc, "")?;
+    let case = read_case(alloc, text.as_bytes())?;
+    let mut floor = OwnFloor::new();
+    let mut told = String::new(alloc);
+    open(alloc, &mut floor, &case.table, "services")?;
+    let event = Event::Send {
+        d: DeviceId(1),
+        n: 1,
+    };
+    give(&mut floor, &mut told, event)?;
+    assert_eq!(rt; told.as_str(), "Sent\n");
+    let settled = settled_floor(alloc, &mut floor)?;
+    assert_eq!(rt; settled.as_str(), "5 5 5 Detached\n1 1 1 Detached\n");
+    let again = settled_floor(alloc, &mut floor)?;
+    assert_eq!(rt; again.as_str(), settled.as_str());
+    floor.recall();
+    open(alloc, &mut floor, &case.table, "attach")?;
+    let anew = ends_text(alloc, &floor.finals(alloc)?)?;
+    assert_eq!(rt; anew.as_str(), "0 0 0 Detached\n0 0 0 Detached\n");
+    Ok(())
 }
 
 #[test]

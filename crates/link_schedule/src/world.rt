@@ -2,7 +2,7 @@
 ghost use Rattle.std.specs.Prelude.{◌≡◌, ◌≤◌, ◌-◌, ◌+◌, ◌++◌, [], ◌∷◌, length, slice_index_or, vec_len, vec_capacity};
 ghost use Rattle.std.specs.Arc.{arc_value};
 ghost use Rattle.device_types.specs.Numbers.{IsWithin};
-ghost use Rattle.link_schedule.specs.Setting.{no_row};
+ghost use Rattle.schedule_laws.specs.Setting.{no_row};
 ghost use Rattle.link_schedule.specs.World.{IsWorld};
 
 use crate::marks::{LaneMarks, Marks};

@@ -2,7 +2,7 @@
 ghost use Rattle.std.specs.Prelude.{◌≡◌, length, IfOk, OnOk, OnErr};
 ghost use Rattle.replica_worker.specs.Writes.{IsReady, MayWrite, WritesHeld};
 ghost use Rattle.session_store.specs.Rows.{journal_of, WritesRow};
-ghost use Rattle.link_schedule.specs.Answer.{IsEvent};
+ghost use Rattle.schedule_laws.specs.Answer.{IsEvent};
 ghost use Rattle.link_schedule.specs.Told.{commit_answer};
 ghost use Rattle.link_schedule.specs.World.{Answers};
 

@@ -4,7 +4,7 @@ use Rattle.device_types.specs.Event.{IsInForm}
 use Rattle.device_types.specs.declared.message.Message.{Message}
 use Rattle.entry_edge.specs.Trace.{history, refused_of}
 use Rattle.link_schedule.specs.Floor.{AreEndsOn}
-use Rattle.link_schedule.specs.Promise.{setting}
+use Rattle.schedule_laws.specs.Promise.{setting}
 use Rattle.report_text.specs.Final.{final_text}
 use Rattle.echo_run.specs.Replay.{setting_of, lines_from}
 use Rattle.echo_run.proofs.Floors.{is_run, exactly_told}

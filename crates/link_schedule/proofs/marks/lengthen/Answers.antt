@@ -1,6 +1,6 @@
 use Rattle.std.proofs.Common.{◌≡◌, take, arith}
 use Rattle.std.proofs.lemmas.List.{take_all}
-use Rattle.link_schedule.proofs.Flags.{all_down, get_or-append_down}
+use Rattle.schedule_laws.proofs.Flags.{all_down, get_or-append_down}
 use Rattle.link_schedule.proofs.marks.lengthen.Goals as goal
 
 pub returns-in_ok-resize-clause-same : goal.returns-in_ok-resize-clause-same

@@ -1,6 +1,6 @@
 use Rattle.std.proofs.Common.{◌-◌, List, Bool, true, set, subst, arith}
-use Rattle.link_schedule.specs.Lists.{AddsMark}
-use Rattle.link_schedule.proofs.Flags.{marks}
+use Rattle.schedule_laws.specs.Lists.{AddsMark}
+use Rattle.schedule_laws.proofs.Flags.{marks}
 use Rattle.link_schedule.proofs.marks.Marks.mark.Goals as goal
 
 pub returns-clause-ok : goal.returns-clause-ok

@@ -1,5 +1,5 @@
-use Rattle.link_schedule.proofs.Ends.{settled_by_finals}
+use Rattle.link_schedule.proofs.Whole.{whole_by_ends}
 use Rattle.link_schedule.proofs.own_floor.OwnFloor.recall.Goals as goal
 
-pub returns-clause-settled : goal.returns-clause-settled
-returns-clause-settled c = rw c.in-Some.is (λ same. settled_by_finals c.in-Some.world c.events.ensures.world same)
+pub returns-clause-whole : goal.returns-clause-whole
+returns-clause-whole c = rw c.in-Some.is (whole_by_ends c.in-Some.world c.events.ensures.world)

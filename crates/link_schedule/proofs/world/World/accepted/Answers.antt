@@ -1,8 +1,8 @@
 use Rattle.std.proofs.Common.{◌≡◌, [], length, sym, subst, ap, ◌∙◌}
 use Rattle.device_types.specs.Numbers.{IsWithin}
 use Rattle.peer_calls.specs.Calls.{calls_of}
-use Rattle.link_schedule.specs.Answer.{history}
-use Rattle.link_schedule.specs.Counts.{accepted}
+use Rattle.schedule_laws.specs.Answer.{history}
+use Rattle.schedule_laws.specs.Counts.{accepted}
 use Rattle.link_schedule.specs.View.{view_of}
 use Rattle.link_schedule.specs.World.{WorldState, IsWindowOf}
 use Rattle.link_schedule.proofs.Calls.{downs_count, gateway_count, subscriber_count}

@@ -1,9 +1,9 @@
 use Rattle.std.proofs.Common.{◌≡◌, arith, None}
 use Rattle.device_types.specs.Journal.{awaited_call}
-use Rattle.link_schedule.specs.Setting.{row_of, messages_of}
+use Rattle.schedule_laws.specs.Setting.{row_of, messages_of}
 use Rattle.link_schedule.specs.Settled.{journal_in, commits_in}
 use Rattle.link_schedule.proofs.Goes.{commits_few}
-use Rattle.link_schedule.proofs.Steps.{none_next, journal_whole}
+use Rattle.schedule_laws.proofs.Steps.{none_next, journal_whole}
 use Rattle.link_schedule.proofs.world.World.advance.Goals as goal
 
 pub returns-in-Some-clause-ok : goal.returns-in-Some-clause-ok

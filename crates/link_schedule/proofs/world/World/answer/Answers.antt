@@ -5,16 +5,17 @@ use Rattle.device_types.specs.declared.event.EventAnswer.TheVariants as told
 use Rattle.device_types.specs.declared.input.Input.TheVariants as inputs
 use Rattle.device_types.specs.PeerAnswer.{answer_of}
 use Rattle.replica_worker.specs.declared.hand.Hand.TheVariants as hands
-use Rattle.link_schedule.specs.Answer.{answer, history, IsEvent}
-use Rattle.link_schedule.specs.Counts.{accepted}
-use Rattle.link_schedule.specs.Setting.{row_of}
+use Rattle.schedule_laws.specs.Answer.{answer, history, IsEvent}
+use Rattle.schedule_laws.specs.Counts.{accepted}
+use Rattle.schedule_laws.specs.Setting.{row_of}
 use Rattle.link_schedule.specs.View.{view_of}
-use Rattle.link_schedule.specs.World.{WorldState, accepted_effects, if_so}
-use Rattle.link_schedule.proofs.Comparisons.{le_of}
+use Rattle.link_schedule.specs.World.{WorldState, accepted_effects}
+use Rattle.schedule_laws.specs.Packets.{if_so}
+use Rattle.schedule_laws.proofs.Comparisons.{le_of}
 use Rattle.link_schedule.proofs.Events.{takes_answer}
 use Rattle.link_schedule.proofs.Given.{given_is, some_given, none_given, calls_few}
-use Rattle.link_schedule.proofs.Lanes.{answer_told}
-use Rattle.link_schedule.proofs.Noted.{notes_void, notes_hand, no_replica}
+use Rattle.schedule_laws.proofs.EachAnswer.{answer_told, no_replica}
+use Rattle.link_schedule.proofs.Noted.{notes_void, notes_hand}
 use Rattle.link_schedule.proofs.world.World.answer.Goals as goal
 use Rattle.link_schedule.proofs.world.World.answer.Goals.{In_ok-answer}
 

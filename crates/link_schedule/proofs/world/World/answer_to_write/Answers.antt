@@ -1,9 +1,9 @@
 use Rattle.std.proofs.Common.{sym, ap, ◌∙◌, refl, arith, add-one}
 use Rattle.device_types.specs.declared.event.Event.TheVariants.{Answer, Read, Write}
-use Rattle.link_schedule.specs.Counts.{commits}
+use Rattle.schedule_laws.specs.Counts.{commits}
 use Rattle.link_schedule.specs.Settled.{turns_in, journal_in}
 use Rattle.link_schedule.proofs.Goes.{turned}
-use Rattle.link_schedule.proofs.Steps.{answer_committed, awaited_is_call}
+use Rattle.schedule_laws.proofs.Steps.{answer_committed, awaited_is_call}
 use Rattle.link_schedule.proofs.world.World.answer_to_write.Goals as goal
 
 pub answer-requires : goal.answer-requires

@@ -2,7 +2,7 @@ use Rattle.std.proofs.Common.{ap, arith}
 use Rattle.device_types.specs.Journal.{pushed_count}
 use Rattle.link_schedule.specs.Settled.{turns_in}
 use Rattle.link_schedule.proofs.Goes.{journal_same}
-use Rattle.link_schedule.proofs.Laws.{accepted_bound}
+use Rattle.schedule_laws.proofs.Laws.{accepted_bound}
 use Rattle.link_schedule.proofs.world.World.deliver.Goals as goal
 
 pub returns-clause-ok : goal.returns-clause-ok

@@ -1,9 +1,9 @@
 use Rattle.std.proofs.Common.{ap, ◌∙◌, refl, arith}
 use Rattle.device_types.specs.declared.event.Event.TheVariants.{Push, Effect}
-use Rattle.link_schedule.specs.Counts.{accepted}
+use Rattle.schedule_laws.specs.Counts.{accepted}
 use Rattle.link_schedule.specs.Settled.{turns_in}
 use Rattle.link_schedule.proofs.Goes.{turned, one_more, goes_one, goes_trans, pays_effect}
-use Rattle.link_schedule.proofs.Steps.{effect_delivered}
+use Rattle.schedule_laws.proofs.Steps.{effect_delivered}
 use Rattle.link_schedule.proofs.world.World.deliver_next.Goals as goal
 
 pub returns-clause-ok : goal.returns-clause-ok

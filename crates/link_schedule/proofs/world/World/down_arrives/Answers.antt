@@ -6,9 +6,9 @@ use Rattle.device_types.specs.declared.event.Lane.TheVariants.{Down}
 use Rattle.device_types.specs.Journal.{effects_of}
 use Rattle.agent_resend.specs.Window.{after_down}
 use Rattle.session_store.specs.Rows.{opening_row}
-use Rattle.link_schedule.specs.Answer.{IsEvent, history}
-use Rattle.link_schedule.specs.Counts.{effect_pushed}
-use Rattle.link_schedule.specs.Setting.{entries_of}
+use Rattle.schedule_laws.specs.Answer.{IsEvent, history}
+use Rattle.schedule_laws.specs.Counts.{effect_pushed}
+use Rattle.schedule_laws.specs.Setting.{entries_of}
 use Rattle.link_schedule.specs.Told.{down_answer}
 use Rattle.link_schedule.specs.View.{view_of}
 use Rattle.link_schedule.specs.World.{WorldState, IsWindowOf}

@@ -1,12 +1,12 @@
 use Rattle.std.proofs.Common.{◌≡◌, false, refl, sym, ◌∙◌, subst}
 use Rattle.device_types.specs.declared.event.Event.TheVariants.{Effect}
 use Rattle.device_types.specs.declared.event.EventAnswer.TheVariants as told
-use Rattle.link_schedule.specs.Answer.{IsEvent, history}
-use Rattle.link_schedule.specs.Counts.{effect_pushed}
+use Rattle.schedule_laws.specs.Answer.{IsEvent, history}
+use Rattle.schedule_laws.specs.Counts.{effect_pushed}
 use Rattle.link_schedule.specs.View.{view_of}
 use Rattle.link_schedule.specs.World.{WorldState}
 use Rattle.link_schedule.proofs.Contents.{marked}
-use Rattle.link_schedule.proofs.Lanes.{effect_void}
+use Rattle.schedule_laws.proofs.EachAnswer.{effect_void}
 use Rattle.link_schedule.proofs.Noted.{notes_void}
 use Rattle.link_schedule.proofs.world.World.effect.Goals as goal
 use Rattle.link_schedule.proofs.world.World.effect.Goals.{After-has}

@@ -8,15 +8,15 @@ use Rattle.device_types.specs.Journal.{effects_of}
 use Rattle.peer_calls.specs.Calls.{calls_of, offer_of, after_offer}
 use Rattle.peer_gateway.specs.Gateway.{gateway_answer_of}
 use Rattle.session_store.specs.Rows.{opening_row}
-use Rattle.link_schedule.specs.Answer.{IsEvent, history}
-use Rattle.link_schedule.specs.Counts.{effect_pushed}
-use Rattle.link_schedule.specs.Setting.{entries_of}
+use Rattle.schedule_laws.specs.Answer.{IsEvent, history}
+use Rattle.schedule_laws.specs.Counts.{effect_pushed}
+use Rattle.schedule_laws.specs.Setting.{entries_of}
 use Rattle.link_schedule.specs.Told.{offer_answer}
 use Rattle.link_schedule.specs.View.{view_of}
 use Rattle.link_schedule.specs.World.{WorldState, ArePartsOf}
 use Rattle.link_schedule.proofs.Calls.{effects_few}
 use Rattle.link_schedule.proofs.Contents.{content_is, content_on}
-use Rattle.link_schedule.proofs.Laws.{pushed_bound}
+use Rattle.schedule_laws.proofs.Laws.{pushed_bound}
 use Rattle.link_schedule.proofs.Noted.{notes, gives}
 use Rattle.link_schedule.proofs.Offers.{offers_gateway}
 use Rattle.link_schedule.proofs.world.World.gateway_call_arrives.Goals as goal

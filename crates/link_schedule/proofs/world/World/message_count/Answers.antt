@@ -1,7 +1,7 @@
 use Rattle.std.proofs.Common.{◌≡◌, length, sym, ap, ◌∙◌, subst}
 use Rattle.agent_order.specs.Order.{LineState}
 use Rattle.device_types.specs.Numbers.{IsWithin}
-use Rattle.link_schedule.specs.Setting.{message_count}
+use Rattle.schedule_laws.specs.Setting.{message_count}
 use Rattle.link_schedule.specs.Settled.{turns_in}
 use Rattle.link_schedule.specs.View.{view_of}
 use Rattle.link_schedule.specs.World.{WorldState, IsWindowOf}

@@ -2,7 +2,7 @@ use Rattle.std.proofs.Common.{◌≡◌, length, map, ap, ◌∙◌, subst}
 use Rattle.std.specs.Arc.{arc_value}
 use Rattle.session_store.specs.Charter.{CharterState, IsCharter}
 use Rattle.session_store.specs.Rows.{StoreState}
-use Rattle.link_schedule.specs.Promise.{setting}
+use Rattle.schedule_laws.specs.Promise.{setting}
 use Rattle.link_schedule.specs.World.{fresh_window, Parts}
 use Rattle.link_schedule.proofs.Worlds.{charter_setting, opens}
 use Rattle.link_schedule.proofs.world.World.new.Goals as goal

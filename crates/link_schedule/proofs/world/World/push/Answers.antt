@@ -2,7 +2,7 @@ use Rattle.std.proofs.Common.{sym, subst, refl}
 use Rattle.device_types.specs.declared.event.Event.TheVariants.{Push}
 use Rattle.device_types.specs.declared.event.EventAnswer.TheVariants as told
 use Rattle.session_store.specs.Rows.{opening_row}
-use Rattle.link_schedule.specs.Answer.{IsEvent, history}
+use Rattle.schedule_laws.specs.Answer.{IsEvent, history}
 use Rattle.link_schedule.specs.View.{view_of}
 use Rattle.link_schedule.specs.World.{WorldState}
 use Rattle.link_schedule.proofs.Calls.{in_row_told, in_row_void}

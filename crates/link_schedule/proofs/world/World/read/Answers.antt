@@ -2,8 +2,8 @@ use Rattle.std.proofs.Common.{◌≡◌, ◌-◌, ◌∷◌, set, sym, ap, ◌�
 use Rattle.device_types.specs.declared.event.Event.TheVariants.{Read}
 use Rattle.session_store.specs.Rows.{StoreState}
 use Rattle.device_types.specs.Numbers.{IsWithin}
-use Rattle.link_schedule.specs.Answer.{history}
-use Rattle.link_schedule.specs.Counts.{hand}
+use Rattle.schedule_laws.specs.Answer.{history}
+use Rattle.schedule_laws.specs.Counts.{hand}
 use Rattle.link_schedule.specs.Told.{device_held}
 use Rattle.link_schedule.specs.View.{view_of}
 use Rattle.link_schedule.specs.World.{hand_of, ArePartsOf}

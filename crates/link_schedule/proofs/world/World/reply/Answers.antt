@@ -10,8 +10,8 @@ use Rattle.agent_resend.specs.Window.{reply_taken, after_reply}
 use Rattle.session_store.specs.declared.asked.Seen.{Seen}
 use Rattle.session_store.specs.Rows.{journal_of}
 use Rattle.session_store.specs.Seen.{IsRepeat}
-use Rattle.link_schedule.specs.Answer.{answer, history, IsEvent}
-use Rattle.link_schedule.specs.Counts.{journal}
+use Rattle.schedule_laws.specs.Answer.{answer, history, IsEvent}
+use Rattle.schedule_laws.specs.Counts.{journal}
 use Rattle.link_schedule.specs.Told.{reply_answer}
 use Rattle.link_schedule.specs.View.{view_of}
 use Rattle.link_schedule.specs.World.{WorldState}

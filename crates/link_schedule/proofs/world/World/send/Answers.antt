@@ -1,7 +1,7 @@
 use Rattle.std.proofs.Common.{◌≡◌, cond, refl, sym, ap, ◌∙◌, subst}
 use Rattle.device_types.specs.declared.event.Event.TheVariants.{Send}
 use Rattle.device_types.specs.declared.event.EventAnswer.TheVariants as told
-use Rattle.link_schedule.specs.Answer.{answer, history, IsEvent}
+use Rattle.schedule_laws.specs.Answer.{answer, history, IsEvent}
 use Rattle.link_schedule.specs.View.{view_of}
 use Rattle.link_schedule.specs.World.{WorldState, IsWindowOf}
 use Rattle.link_schedule.proofs.Events.{sends, send_told}

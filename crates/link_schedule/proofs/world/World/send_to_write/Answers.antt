@@ -1,9 +1,9 @@
 use Rattle.std.proofs.Common.{sym, ap, ◌∙◌, refl, add-one}
 use Rattle.device_types.specs.declared.event.Event.TheVariants.{Send, Take, Read, Write}
-use Rattle.link_schedule.specs.Counts.{commits}
+use Rattle.schedule_laws.specs.Counts.{commits}
 use Rattle.link_schedule.specs.Settled.{turns_in}
 use Rattle.link_schedule.proofs.Goes.{turned}
-use Rattle.link_schedule.proofs.Steps.{message_committed}
+use Rattle.schedule_laws.proofs.Steps.{message_committed}
 use Rattle.link_schedule.proofs.world.World.send_to_write.Goals as goal
 
 pub returns-clause-ok : goal.returns-clause-ok

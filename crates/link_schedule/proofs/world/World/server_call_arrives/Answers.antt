@@ -8,9 +8,9 @@ use Rattle.device_types.specs.Journal.{effects_of}
 use Rattle.peer_calls.specs.Calls.{calls_of, offer_of, after_offer}
 use Rattle.peer_subscriber.specs.Server.{subscriber_answer_of}
 use Rattle.session_store.specs.Rows.{opening_row}
-use Rattle.link_schedule.specs.Answer.{IsEvent, history}
-use Rattle.link_schedule.specs.Counts.{effect_pushed}
-use Rattle.link_schedule.specs.Setting.{entries_of}
+use Rattle.schedule_laws.specs.Answer.{IsEvent, history}
+use Rattle.schedule_laws.specs.Counts.{effect_pushed}
+use Rattle.schedule_laws.specs.Setting.{entries_of}
 use Rattle.link_schedule.specs.Told.{offer_answer}
 use Rattle.link_schedule.specs.View.{view_of}
 use Rattle.link_schedule.specs.World.{WorldState, ArePartsOf}

@@ -4,14 +4,14 @@ use Rattle.device_types.specs.declared.event.EventAnswer.TheVariants as told
 use Rattle.device_types.specs.Journal.{pushed_count}
 use Rattle.session_row.specs.Row.{RowState}
 use Rattle.session_store.specs.Rows.{StoreState, opening_row}
-use Rattle.link_schedule.specs.Answer.{IsEvent, history}
-use Rattle.link_schedule.specs.Counts.{accepted}
+use Rattle.schedule_laws.specs.Answer.{IsEvent, history}
+use Rattle.schedule_laws.specs.Counts.{accepted}
 use Rattle.link_schedule.specs.Told.{settle_answer}
 use Rattle.link_schedule.specs.View.{view_of}
 use Rattle.link_schedule.specs.World.{WorldState}
 use Rattle.link_schedule.proofs.Calls.{settles_stored}
-use Rattle.link_schedule.proofs.Lanes.{settle_void}
-use Rattle.link_schedule.proofs.Laws.{accepted_bound}
+use Rattle.schedule_laws.proofs.EachAnswer.{settle_void}
+use Rattle.schedule_laws.proofs.Laws.{accepted_bound}
 use Rattle.link_schedule.proofs.Noted.{notes, notes_void, gives}
 use Rattle.link_schedule.proofs.world.World.settle.Goals as goal
 

@@ -1,6 +1,6 @@
 use Rattle.std.proofs.Common.{◌≡◌, arith}
 use Rattle.device_types.specs.declared.event.Lane.TheVariants.{Down, Gateway, Subscriber}
-use Rattle.link_schedule.specs.Setting.{entries_of}
+use Rattle.schedule_laws.specs.Setting.{entries_of}
 use Rattle.link_schedule.specs.Settled.{journal_in, IsDone}
 use Rattle.link_schedule.proofs.Goes.{journal_stays, lane_whole, whole_lanes, done_stays, pays_trans, spent_grows}
 use Rattle.link_schedule.proofs.world.World.settle_device.Goals as goal

@@ -1,5 +1,5 @@
 use Rattle.std.proofs.Common.{◌*◌, ◌-◌}
-use Rattle.link_schedule.specs.Setting.{message_count}
+use Rattle.schedule_laws.specs.Setting.{message_count}
 use Rattle.link_schedule.specs.Settled.{GoesOn, commits_in, Pays}
 use Rattle.link_schedule.proofs.world.World.settle_device.Given as goal
 

@@ -3,16 +3,16 @@ use Rattle.device_types.specs.declared.event.Event.TheVariants.{Take}
 use Rattle.device_types.specs.declared.event.EventAnswer.TheVariants as told
 use Rattle.device_types.specs.declared.input.Input.TheVariants as inputs
 use Rattle.replica_worker.specs.declared.hand.Hand.TheVariants as hands
-use Rattle.link_schedule.specs.Answer.{answer, history, IsEvent}
-use Rattle.link_schedule.specs.Counts.{message_sent}
-use Rattle.link_schedule.specs.Input.{message_of, no_message}
-use Rattle.link_schedule.specs.Lists.{has}
+use Rattle.schedule_laws.specs.Answer.{answer, history, IsEvent}
+use Rattle.schedule_laws.specs.Counts.{message_sent}
+use Rattle.schedule_laws.specs.Input.{message_of, no_message}
+use Rattle.schedule_laws.specs.Lists.{has}
 use Rattle.link_schedule.specs.View.{view_of}
 use Rattle.link_schedule.specs.World.{WorldState, IsWindowOf}
 use Rattle.link_schedule.proofs.Events.{takes}
-use Rattle.link_schedule.proofs.Lanes.{take_told}
-use Rattle.link_schedule.proofs.Laws.{sent_bound}
-use Rattle.link_schedule.proofs.Noted.{notes_void, notes_hand, no_replica}
+use Rattle.schedule_laws.proofs.EachAnswer.{take_told, no_replica}
+use Rattle.schedule_laws.proofs.Laws.{sent_bound}
+use Rattle.link_schedule.proofs.Noted.{notes_void, notes_hand}
 use Rattle.link_schedule.proofs.world.World.take.Goals as goal
 use Rattle.link_schedule.proofs.world.World.take.Goals.{After-has, After-index-2}
 

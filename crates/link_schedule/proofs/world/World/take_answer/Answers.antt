@@ -2,7 +2,7 @@ use Rattle.std.proofs.Common.{ap, arith}
 use Rattle.device_types.specs.Journal.{pushed_count}
 use Rattle.link_schedule.specs.Settled.{turns_in}
 use Rattle.link_schedule.proofs.Goes.{journal_same, pays_trans, pays_entry}
-use Rattle.link_schedule.proofs.Steps.{awaited_is_last}
+use Rattle.schedule_laws.proofs.Steps.{awaited_is_last}
 use Rattle.link_schedule.proofs.world.World.take_answer.Goals as goal
 
 pub answer_to_write-requires-clause-accepted : goal.answer_to_write-requires-clause-accepted

@@ -2,8 +2,8 @@ use Rattle.std.proofs.Common.{◌≡◌, ◌-◌, ◌∷◌, set, refl, sym, ◌
 use Rattle.device_types.specs.declared.event.Event.TheVariants.{Write}
 use Rattle.device_types.specs.declared.event.EventAnswer.TheVariants as told
 use Rattle.replica_worker.specs.declared.hand.Hand.{Hand}
-use Rattle.link_schedule.specs.Answer.{history}
-use Rattle.link_schedule.specs.Counts.{hand}
+use Rattle.schedule_laws.specs.Answer.{history}
+use Rattle.schedule_laws.specs.Counts.{hand}
 use Rattle.link_schedule.specs.Told.{commit_answer}
 use Rattle.link_schedule.specs.View.{view_of}
 use Rattle.link_schedule.specs.World.{hand_of, ArePartsOf}

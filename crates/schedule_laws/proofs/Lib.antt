@@ -1,0 +1,9 @@
+pub mod Comparisons
+pub mod EachAnswer
+pub mod Flags
+pub mod Items
+pub mod Laws
+pub mod Promises
+pub mod Runs
+pub mod Steps
+pub mod Worked

@@ -1,0 +1,11 @@
+use Rattle.schedule_laws.specs.Answer.{history}
+use Rattle.schedule_laws.specs.Promise.{setting}
+use Rattle.schedule_laws.proofs.Promises.{lawful, never_ahead}
+use Rattle.schedule_laws.proofs.every_schedule.answers_are_of_made_calls.Goals as goal
+
+pub returns : goal.returns
+returns c =
+    let s = setting c.args._rows.now c.args._book.now c.args._replicas in
+    let L = lawful s c.args._events.now c.requires in
+    let H = history s c.args._events.now in
+    λ r d l k m i. never_ahead s H r d l k m L i
