@@ -15,11 +15,10 @@ use Rattle.schedule_laws.specs.Answer.{history}
 use Rattle.schedule_laws.specs.Counts.{Turn}
 use Rattle.link_schedule.specs.Floor.{events_of, AreAnswered, EndsOn, AreEndsOn}
 use Rattle.schedule_laws.specs.Lists.{Begins}
-use Rattle.link_schedule.specs.Own.{setting_by, given_by, ends_by, IsWorldIn, IsSettledByEnds, IsWhole}
+use Rattle.link_schedule.specs.Own.{setting_by, given_by, ends_by, IsWhole, IsWholeByEnds}
 use Rattle.schedule_laws.specs.Promise.{setting}
 use Rattle.schedule_laws.specs.Setting.{Setting}
 use Rattle.link_schedule.specs.World.{WorldState}
-use Rattle.link_schedule.proofs.Whole.{whole}
 use Rattle.case_form.specs.Case.{rows_of, trace_of}
 use Rattle.case_form.specs.Lines.{lines_of}
 use Rattle.entry_edge.specs.Trace as admission
@@ -70,12 +69,12 @@ exactly_told rows H schedule replicas first ends text given are same is =
 -- ---- a world of its own
 
 -- the world on which a schedule was run, and of which the ends were told, is whole
-pub whole_world : (words : List (String Global)) (command : Command) (octets : List ℕ) (o : Option WorldState) (text : List ℕ) → command_of words ≡ Some command → (IsWithoutFloor command → ⊥) → Tells words octets true (setting_by o) (given_by o) (ends_by o) text → IsWorldIn o → IsSettledByEnds o → IsWhole o
+pub whole_world : (words : List (String Global)) (command : Command) (octets : List ℕ) (o : Option WorldState) (text : List ℕ) → command_of words ≡ Some command → (IsWithoutFloor command → ⊥) → Tells words octets true (setting_by o) (given_by o) (ends_by o) text → IsWholeByEnds o → IsWhole o
 unfolding Ran
-whole_world words Plain octets o text is runs told world settled = absurd (runs tt)
-whole_world words (Replay replicas) octets o text is runs told world settled =
+whole_world words Plain octets o text is runs told whole = absurd (runs tt)
+whole_world words (Replay replicas) octets o text is runs told whole =
     let same : told.command ≡ Replay replicas = cc in
     let ran = subst (λ (c : Command). Ran c octets true (setting_by o) (given_by o) (ends_by o)) same told.ran in
     let rows = rows_of (lines_of octets) in
-    whole o (setting_of rows (admission.history rows (trace_of (lines_of octets))) replicas) ran.of_case (ran.exact_ends refl) world settled
-whole_world words Show octets o text is runs told world settled = absurd (runs tt)
+    whole (setting_of rows (admission.history rows (trace_of (lines_of octets))) replicas) ran.of_case (ran.exact_ends refl)
+whole_world words Show octets o text is runs told whole = absurd (runs tt)

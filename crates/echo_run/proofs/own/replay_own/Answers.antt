@@ -6,9 +6,8 @@ use Rattle.echo_run.proofs.own.replay_own.Goals as goal
 pub returns-clause-world : goal.returns-clause-world
 returns-clause-world g c = λ command is runs ended.
     let o = c.replay_top-status.new.floor.world in
-    let world = c.recall.ensures.world in
-    let settled = c.recall.ensures.settled in
+    let whole = c.recall.ensures.whole in
     ⊎_elim
-    (λ e. let done = c.replay_top-status.ensures.done e in whole_world c.args.words.now command done.0 o done.1 is runs done.3 world settled)
-    (λ e. let front = c.replay_top-status.ensures.front e in whole_world c.args.words.now command front.0 o _ is runs front.4 world settled)
+    (λ e. let done = c.replay_top-status.ensures.done e in whole_world c.args.words.now command done.0 o done.1 is runs done.3 whole)
+    (λ e. let front = c.replay_top-status.ensures.front e in whole_world c.args.words.now command front.0 o _ is runs front.4 whole)
     ended
