@@ -16,6 +16,7 @@ const OFFERS: &str = "\
 1 2 modify Accepted(Modified)
 1 2 modify Repeat(Modified)
 1 4 delete Ahead(2)
+1 5 release Ahead(2)
 1 3 release Accepted(Freed)
 1 3 release Repeat(Freed)
 1 4 delete Accepted(Deleted)

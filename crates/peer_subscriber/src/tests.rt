@@ -11,6 +11,7 @@ use std::test::Fail;
 /// token 2, the response 3 and the key 4.
 const OFFERS: &str = "\
 1 2 location Ahead(0)
+2 9 vectors Ahead(0)
 1 1 vectors Accepted(Vectors(ListOf { items: [1] }, ListOf { items: [2] }, ListOf { items: [3] }, ListOf { items: [4] }))
 1 1 vectors Repeat(Vectors(ListOf { items: [1] }, ListOf { items: [2] }, ListOf { items: [3] }, ListOf { items: [4] }))
 2 1 purge Accepted(Purged)
