@@ -1,4 +1,5 @@
-//! Made cases: one by hand, and others as an independent program has them.
+//! Made cases: the first whole, with its messages as the standards have them, and others by their counts and a hash, as an independent program
+//! has them.
 
 use crate::make_case;
 use case_form::read_case;

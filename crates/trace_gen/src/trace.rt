@@ -4,12 +4,20 @@ ghost use Rattle.std.specs.Prelude.{◌≡◌, ◌*◌, ◌+◌, ◌-◌, ◌≤
 ghost use Rattle.std.specs.List.{flat_map};
 ghost use Rattle.trace_gen.specs.Draws.{next_state, state_after, value};
 ghost use Rattle.trace_gen.specs.Scripts.{scripts_of};
-ghost use Rattle.trace_gen.specs.Trace.{sent_in, made_trace};
+ghost use Rattle.trace_gen.specs.Trace.{device_at, sent_in, made_trace};
 
 use crate::draws::Draws;
 use crate::script::{Script, Sent, scripts_of, sendings_of};
 use echo_base::OutOfMemory;
 use std::alloc::Global;
+
+/// The device of a visit, counted from 0: each round goes over the devices in order.
+fn device_at(devices: u32, visit: u32) -> u32
+    requires some { 1 ≤ devices }
+    ensures { result ≡ device_at devices visit }
+{
+    visit % devices + 1
+}
 
 /// The scripts of a visit: the attach, or those of a draw.
 fn scripts_at(draws: &mut Draws, is_first: bool) -> &'static [Script]
@@ -59,7 +67,7 @@ pub fn made_trace(
     let mut sent = Vec::new(alloc);
     for visit in 0..devices * (rounds + 1) {
         let scripts = scripts_at(draws, visit < devices);
-        put_scripts(&mut sent, visit % devices + 1, scripts)?;
+        put_scripts(&mut sent, device_at(devices, visit), scripts)?;
     }
     Ok(sent)
 }
