@@ -5,7 +5,7 @@ use Rattle.echo_base.specs.declared.refusal.Refusal.{Refusal}
 use Rattle.echo_base.specs.declared.refusal.Bad.{Bad}
 use Rattle.echo_base.specs.declared.refusal.Bad.TheVariants.{Refused, OutOfMemory}
 use Rattle.aper_fields.specs.Reading.{whole_at}
-use Rattle.aper_fields.proofs.Formats.{bind, ok_of, err_of, ok_err, err_is}
+use Rattle.aper_fields.proofs.Formats.{bind, ok_of, ok_err, err_is}
 use Rattle.aper_fields.proofs.Containers.{whole_found}
 use Rattle.s1ap_ies.specs.declared.tables.IeRow.{IeRow}
 use Rattle.s1ap_ies.specs.declared.tables.MessageKind.{MessageKind}
@@ -20,9 +20,9 @@ use Rattle.s1ap_messages.specs.Answer.{IsAnswer}
 use Rattle.s1ap_messages.specs.Memory.{takes_memory, IsFound, IsRead}
 use Rattle.s1ap_messages.specs.Values.{FieldValue}
 use Rattle.s1ap_messages.proofs.Frame.{pdu_kept_at, pdu_exactly}
-use Rattle.s1ap_messages.proofs.Kept.{slots_of, with_slots, whole_is}
+use Rattle.s1ap_messages.proofs.Kept.{with_slots, whole_is}
 use Rattle.s1ap_messages.proofs.Makes.{Makes, makes, whole_values}
-use Rattle.s1ap_messages.proofs.Exact.{whole_typed, found_message, only_message, refused_message, refused_uplink, uplink_found}
+use Rattle.s1ap_messages.proofs.Exact.{whole_typed, found_message, refused_message, refused_uplink, uplink_found}
 
 abbrev made_of : Pdu → Result Pdu ℕ
 made_of p = Ok p

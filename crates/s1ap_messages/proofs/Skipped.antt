@@ -1,5 +1,5 @@
 -- Passing over a list of E-RABs is reading it, without its items.
-use Rattle.std.proofs.Common.{◌≡◌, ℕ, zero, suc, true, List, [], ◌∷◌, ◌++◌, Result, Ok, Err, IsOk, IsErrAnd, refl, sym, ap, ◌∙◌}
+use Rattle.std.proofs.Common.{◌≡◌, ℕ, zero, suc, List, [], ◌∷◌, ◌++◌, Result, Ok, Err, IsOk, IsErrAnd, refl, sym, ap, ◌∙◌}
 use Rattle.echo_base.specs.declared.refusal.Refusal.{Refusal}
 use Rattle.aper_fields.specs.Reading.{Input, Read, Gives, number_at, close_at, whole_at}
 use Rattle.aper_fields.proofs.Formats.{bind, ok_of, ok_err, err_is}

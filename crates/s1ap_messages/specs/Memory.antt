@@ -1,5 +1,5 @@
 -- Messages that take memory where they are read, and what a reader of messages gave.
-use Rattle.std.specs.Prelude.{◌≡◌, ℕ, Bool, true, false, Option, Some, None, Result, Ok, Err, IsOkAnd}
+use Rattle.std.specs.Prelude.{◌≡◌, ℕ, Bool, true, false, Option, Some, Result, Ok, Err, IsOkAnd}
 use Rattle.std.specs.List.{list_any}
 use Rattle.echo_base.specs.declared.refusal.Refusal.{Refusal}
 use Rattle.echo_base.specs.declared.refusal.Bad.{Bad}

@@ -158,11 +158,7 @@ fn ue_capability_info_indication(alloc: Global, slots: &mut Slots) -> Result<Pdu
 
 /// The message of that kind with the values in the slots, none of which is missing, its octets and lists in memory of their own.
 #[tactic(auto, unfolding(crate::specs::Built::message_from))]
-pub fn message(
-    alloc: Global,
-    kind: MessageKind,
-    slots: &mut Slots,
-) -> Result<Pdu, OutOfMemory>
+pub fn message(alloc: Global, kind: MessageKind, slots: &mut Slots) -> Result<Pdu, OutOfMemory>
     requires { IsOk (message_from kind slots.old) }
     ensures { IsMade (message_from kind slots.old) result }
 {

@@ -63,11 +63,7 @@ fn read_ie<'a>(
 
 /// Reads so many IEs.
 #[tactic(auto, unfolding(crate::specs::Reading::fields_at))]
-fn read_fields<'a>(
-    r: &mut BitReader<'a>,
-    rows: &[IeRow],
-    count: u64,
-) -> Result<Slots<'a>, Refusal>
+fn read_fields<'a>(r: &mut BitReader<'a>, rows: &[IeRow], count: u64) -> Result<Slots<'a>, Refusal>
     requires { length rows.now ≤ 6 }
     ensures { Gives result r.old r.new (fields_at rows.now count empty r.old) }
 {

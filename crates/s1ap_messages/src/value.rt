@@ -73,8 +73,11 @@ impl<'a> FoundOctets<'a> {
 }
 
 /// A value as it was found.
-pub type FoundValue<'a> =
-    IeValue<FoundOctets<'a>, FoundErabs<'a, ErabToSetup>, FoundErabs<'a, ErabDone>>;
+pub type FoundValue<'a> = IeValue<
+    FoundOctets<'a>,
+    FoundErabs<'a, ErabToSetup>,
+    FoundErabs<'a, ErabDone>,
+>;
 
 /// A value as it is written.
 pub type LentValue<'a> = IeValue<&'a Octets, &'a ErabsToSetup, &'a ErabsDone>;
