@@ -118,7 +118,7 @@ fn read_parts<'a>(r: &mut BitReader<'a>) -> Result<(MessageKind, Slots<'a>), Ref
 
 /// Reads a header and IEs that are all of the octets.
 #[tactic(auto, unfolding(aper_fields::specs::Reading::whole_at))]
-fn read_whole<'a>(bytes: &'a [u8]) -> Result<(MessageKind, Slots<'a>), Refusal>
+fn read_whole(bytes: &[u8]) -> Result<(MessageKind, Slots<'_>), Refusal>
     ensures { result ≡ whole_at pdu_at (start bytes.now) }
 {
     let start = BitReader::new(bytes, 0);
@@ -130,7 +130,7 @@ fn read_whole<'a>(bytes: &'a [u8]) -> Result<(MessageKind, Slots<'a>), Refusal>
 
 /// Finds the message that is all of the octets: its kind, and all values that it needs. It takes no memory.
 #[tactic(auto, using(crate::proofs::Found::wrong_parts, crate::proofs::Found::found_whole, crate::proofs::Found::found_lacking))]
-fn find_message<'a>(bytes: &'a [u8]) -> Result<(MessageKind, Slots<'a>), Refusal>
+fn find_message(bytes: &[u8]) -> Result<(MessageKind, Slots<'_>), Refusal>
     ensures { IsFound (message_at bytes.now) result }
 {
     let (kind, slots) = read_whole(bytes)?;
