@@ -7,8 +7,6 @@ mod ends;
 mod options;
 mod own;
 mod replay;
-#[cfg(test)]
-mod tests;
 mod top;
 
 pub use own::replay_own;

@@ -1,7 +1,7 @@
 //! Runs of the top call. The octets are worked out from TS 36.413 and ITU-T X.691, not taken from the program.
 
-use crate::replay_own;
 use echo_base::{Give, MemSink, MemSource, Status, SureSource};
+use echo_run::replay_own;
 use link_schedule::OwnFloor;
 use std::alloc::{AllocError, Global};
 use std::test::Fail;

@@ -1,0 +1,5 @@
+//! Tests of the core as a whole: what no clause says, seen over all crates together. There is nothing else here.
+#![tactic(auto)]
+
+#[cfg(test)]
+mod top_calls;
