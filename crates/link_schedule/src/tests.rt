@@ -1,11 +1,10 @@
 //! Schedules over the worlds of two devices, with what each event comes to, by hand.
-ghost use Rattle.std.specs.Prelude.{◌≡◌, ◌≤◌, true, length, All, IfOk, OnOk};
+ghost use Rattle.std.specs.Prelude.{◌≡◌, ◌≤◌, true, length, All, IfOk};
 ghost use Rattle.device_types.specs.Line.{IsLine};
 ghost use Rattle.device_types.specs.Message.{IsBody, IsMessage};
 ghost use Rattle.device_types.specs.Numbers.{IsWithin};
 ghost use Rattle.schedule_laws.specs.Answer.{IsEvent};
 ghost use Rattle.link_schedule.specs.Floor.{IsOpen};
-ghost use Rattle.link_schedule.specs.Own.{setting_by};
 ghost use Rattle.link_schedule.specs.World.{IsShort};
 
 use crate::{Floor, OwnFloor, World};
@@ -503,47 +502,98 @@ fn tell_end(text: &mut String, end: &DeviceEnd) -> Result<(), Fail> {
     Ok(())
 }
 
-/// What became of each.
-fn ends_text(alloc: Global, finals: &Finals) -> Result<String, Fail> {
-    let mut text = String::new(alloc);
+/// What became of each, put behind the text.
+fn tell_ends(text: &mut String, finals: &Finals) -> Result<(), Fail> {
     for end in finals.items() {
-        tell_end(&mut text, end)?;
+        tell_end(text, end)?;
     }
-    Ok(text)
+    Ok(())
 }
 
-/// How many events a world has taken once it has settled, and what became of its devices then.
-fn settled_world(alloc: Global, world: &mut World) -> Result<String, Fail> {
+/// The world settles: how many events it has taken then, and what became of its devices, put behind the text.
+fn settle(alloc: Global, world: &mut World, told: &mut String) -> Result<(), Fail> {
     world.settle_all()?;
     let count = world.events().len();
-    let ends = ends_text(alloc, &world.finals(alloc)?)?;
-    Ok(format!(in alloc; "{count} events\n{ends}")?)
+    writeln!(told, "{count} events")?;
+    let finals = world.finals(alloc)?;
+    tell_ends(told, &finals)
 }
 
-/// What became of the devices of a floor that settles.
-fn settled_floor<F: Floor>(alloc: Global, floor: &mut F) -> Result<String, Fail>
-    requires { IsOpen (F.setting floor.old) }
-    ensures { IsOpen (F.setting floor.new) }
-{
-    floor.settle_all()?;
-    ends_text(alloc, &floor.finals(alloc)?)
+/// What becomes of the two devices where device 1 attaches and its world settles behind two events. Its six messages and the answers
+/// to all of its calls but the purge make eleven steps: it is challenged, secured, set up, released and challenged again. Device 2 is
+/// rejected.
+///
+/// The first message of device 1 is sent, taken, read and written (4 events). Each of its nine next steps takes five: a reply is
+/// acknowledged and a message is sent, taken, read and written, or a call is pushed and accepted and its answer taken, read and
+/// written. The last one takes seven, since the purge goes before. Its five messages are pushed and accepted (10), and each of its
+/// lanes is settled (3). Device 2 takes four, two and one. A second settling finds each lane settled (3 and 1), and changes nothing.
+const ATTACHED: &str = "\
+Sent
+Taken
+78 events
+6 11 5 Authenticating
+Create
+Delete
+Vectors
+Location
+Purge
+Vectors
+1 1 1 Detached
+82 events
+6 11 5 Authenticating
+Create
+Delete
+Vectors
+Location
+Purge
+Vectors
+1 1 1 Detached
+";
+
+/// The events happen to the world, and then it settles twice.
+fn happen_and_settle(
+    alloc: Global,
+    world: &mut World,
+    events: &[Event],
+    told: &mut String,
+) -> Result<(), Fail> {
+    for event in events {
+        happen(world, told, *event)?;
+    }
+    settle(alloc, world, told)?;
+    settle(alloc, world, told)
+}
+
+/// What a schedule comes to in the world where device 1 attaches, and then what its settling does.
+fn settled(alloc: Global, table: &SubsTable, events: &[Event]) -> Result<String, Fail> {
+    let mut told = String::new(alloc);
+    let mut world = opened(alloc, table, "attach", 2)?;
+    happen_and_settle(alloc, &mut world, events, &mut told)?;
+    Ok(told)
+}
+
+#[test]
+fn world_settles(rt: HostRuntime) -> Result<(), Fail> {
+    let alloc = rt.alloc();
+    let text = case_text(alloc, "send 1 1 = Sent\ntake 2 1 1 = Taken\n")?;
+    let case = read_case(alloc, text.as_bytes())?;
+    let told = settled(alloc, &case.table, &case.schedule)?;
+    assert_eq!(rt; told.as_str(), ATTACHED);
+    Ok(())
 }
 
 /// The floor is opened on the two devices.
-fn open(alloc: Global, floor: &mut OwnFloor, table: &SubsTable, name: &str) -> Result<(), Fail>
-    ensures { OnOk result (IsOpen (setting_by floor.new.world)) }
-{
+fn open(alloc: Global, floor: &mut OwnFloor, table: &SubsTable, name: &str) -> Result<(), Fail> {
     if table.len() != 2 {
         return Err(Fail::from("not two rows"));
     }
     let book = book(alloc, name)?;
-    Ok(floor.open(alloc, table, &book, 1)?)
+    floor.open(alloc, table, &book, 1)?;
+    Ok(())
 }
 
 /// What the event comes to on the floor, put behind the text.
-fn give(floor: &mut OwnFloor, told: &mut String, event: Event) -> Result<(), Fail>
-    ensures { OnOk result (IsOpen (setting_by floor.new.world)) }
-{
+fn give(floor: &mut OwnFloor, told: &mut String, event: Event) -> Result<(), Fail> {
     let Some(world) = &floor.world else {
         return Err(Fail::from("not open"));
     };
@@ -555,42 +605,61 @@ fn give(floor: &mut OwnFloor, told: &mut String, event: Event) -> Result<(), Fai
     Ok(())
 }
 
-/// What becomes of the two devices where device 1 attaches: its six messages and the answers to all of its calls but the purge make
-/// eleven steps. It is challenged, secured, set up, released and challenged again; device 2 is rejected.
-const ATTACHED: &str = "\
-6 11 5 Authenticating
-Create
-Delete
-Vectors
-Location
-Purge
-Vectors
-1 1 1 Detached
-";
+/// What became of the devices of a floor, put behind the text.
+fn tell_floor<F: Floor>(alloc: Global, floor: &F, told: &mut String) -> Result<(), Fail>
+    requires { IsOpen (F.setting floor.now) }
+{
+    let finals = floor.finals(alloc)?;
+    tell_ends(told, &finals)
+}
 
-/// The world settles behind two events. The first message of device 1 is sent, taken, read and written (4 events). Each of its nine
-/// next steps takes five: a reply is acknowledged and a message is sent, taken, read and written, or a call is pushed and accepted
-/// and its answer taken, read and written; the last one takes seven, since the purge goes before (52). Its five messages are pushed
-/// and accepted, and each of its lanes is settled (13). Device 2 takes four, two and one (7). A second settling finds each lane settled
-/// (3 and 1), and nothing else is another.
-#[test]
-fn world_settles(rt: HostRuntime) -> Result<(), Fail> {
-    let alloc = rt.alloc();
-    let text = case_text(alloc, "send 1 1 = Sent\ntake 2 1 1 = Taken\n")?;
-    let case = read_case(alloc, text.as_bytes())?;
-    let mut world = opened(alloc, &case.table, "attach", 2)?;
-    let told = happened(alloc, &mut world, &case.schedule)?;
-    assert_eq!(rt; told.as_str(), "Sent\nTaken\n");
-    let settled = settled_world(alloc, &mut world)?;
-    let wanted = format!(in alloc; "78 events\n{ATTACHED}")?;
-    assert_eq!(rt; settled.as_str(), wanted.as_str());
-    let again = settled_world(alloc, &mut world)?;
-    let wanted = format!(in alloc; "82 events\n{ATTACHED}")?;
-    assert_eq!(rt; again.as_str(), wanted.as_str());
+/// The floor settles, where it is open.
+fn settle_floor(floor: &mut OwnFloor) -> Result<(), Fail> {
+    if floor.world.is_none() {
+        return Err(Fail::from("not open"));
+    }
+    floor.settle_all()?;
+    floor.recall();
     Ok(())
 }
 
-/// A floor of its own is opened, given an event, settles twice, and is opened anew.
+/// What became of the devices of the floor, where it is open.
+fn tell_own(alloc: Global, floor: &OwnFloor, told: &mut String) -> Result<(), Fail> {
+    if floor.world.is_none() {
+        return Err(Fail::from("not open"));
+    }
+    tell_floor(alloc, floor, told)
+}
+
+/// A floor is opened, is given an event, settles twice, and is opened anew.
+fn run(
+    alloc: Global,
+    floor: &mut OwnFloor,
+    table: &SubsTable,
+    told: &mut String,
+) -> Result<(), Fail> {
+    let d = DeviceId(1);
+    open(alloc, floor, table, "services")?;
+    give(floor, told, Event::Send { d, n: 1 })?;
+    settle_floor(floor)?;
+    tell_own(alloc, floor, told)?;
+    settle_floor(floor)?;
+    tell_own(alloc, floor, told)?;
+    open(alloc, floor, table, "attach")?;
+    tell_own(alloc, floor, told)
+}
+
+/// Five requests for service are rejected, and one; a floor that is opened anew has done nothing.
+const REJECTED: &str = "\
+Sent
+5 5 5 Detached
+1 1 1 Detached
+5 5 5 Detached
+1 1 1 Detached
+0 0 0 Detached
+0 0 0 Detached
+";
+
 #[test]
 fn floor_settles(rt: HostRuntime) -> Result<(), Fail> {
     let alloc = rt.alloc();
@@ -598,21 +667,8 @@ fn floor_settles(rt: HostRuntime) -> Result<(), Fail> {
     let case = read_case(alloc, text.as_bytes())?;
     let mut floor = OwnFloor::new();
     let mut told = String::new(alloc);
-    open(alloc, &mut floor, &case.table, "services")?;
-    let event = Event::Send {
-        d: DeviceId(1),
-        n: 1,
-    };
-    give(&mut floor, &mut told, event)?;
-    assert_eq!(rt; told.as_str(), "Sent\n");
-    let settled = settled_floor(alloc, &mut floor)?;
-    assert_eq!(rt; settled.as_str(), "5 5 5 Detached\n1 1 1 Detached\n");
-    let again = settled_floor(alloc, &mut floor)?;
-    assert_eq!(rt; again.as_str(), settled.as_str());
-    floor.recall();
-    open(alloc, &mut floor, &case.table, "attach")?;
-    let anew = ends_text(alloc, &floor.finals(alloc)?)?;
-    assert_eq!(rt; anew.as_str(), "0 0 0 Detached\n0 0 0 Detached\n");
+    run(alloc, &mut floor, &case.table, &mut told)?;
+    assert_eq!(rt; told.as_str(), REJECTED);
     Ok(())
 }
 
