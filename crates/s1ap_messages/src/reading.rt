@@ -15,6 +15,7 @@ use crate::build::message;
 use crate::header::read_header;
 use crate::pdu::{Pdu, is_downlink};
 use crate::slots::Slots;
+use crate::usual::read_usual;
 use crate::value::{OwnedValue, read_value};
 use aper_fields::{BitReader, Ranged, close, read_open};
 use echo_base::{Bad, Reason, Refusal};
@@ -115,9 +116,9 @@ fn read_parts(alloc: Global, r: &mut BitReader) -> Result<(MessageKind, Slots), 
     Ok((kind, slots))
 }
 
-/// Reads a message that is all of the octets.
+/// Reads a message that is all of the octets, piece by piece.
 #[tactic(auto, unfolding(crate::specs::Built::message_at, aper_fields::specs::Reading::whole_at))]
-fn read_message(alloc: Global, bytes: &[u8]) -> Result<Pdu, Bad>
+pub(crate) fn read_pieces(alloc: Global, bytes: &[u8]) -> Result<Pdu, Bad>
     ensures { IsAnswer (message_at bytes.now) result }
 {
     let start = BitReader::new(bytes, 0);
@@ -131,6 +132,16 @@ fn read_message(alloc: Global, bytes: &[u8]) -> Result<Pdu, Bad>
             place: bytes.len() as u64,
         })),
     }
+}
+
+/// Reads a message that is all of the octets: one in its usual form at once, and any other piece by piece.
+fn read_message(alloc: Global, bytes: &[u8]) -> Result<Pdu, Bad>
+    ensures { IsAnswer (message_at bytes.now) result }
+{
+    if let Some(pdu) = read_usual(alloc, bytes) {
+        return Ok(pdu);
+    }
+    read_pieces(alloc, bytes)
 }
 
 /// Reads a message that an MME receives.

@@ -16,6 +16,7 @@ mod refused;
 mod refused_ies;
 mod spellings;
 mod uplink;
+mod usual;
 mod worked;
 
 /// An E-RAB that is to be set up, with its NAS-PDU lent.
