@@ -1,11 +1,11 @@
 -- Octets and the runs of bits that they are: pieces.
-use Rattle.std.proofs.Common.{◌≡◌, ℕ, suc, ◌+◌, ◌-◌, ◌*◌, ◌/◌, ◌%◌, ◌^◌, ◌<◌, ◌≤◌, Bool, true, false, ltb, eqb, List, [], ◌∷◌, ◌++◌, length, refl, sym, ap, ◌∙◌, inl, inr, append_assoc, arith}
+use Rattle.std.proofs.Common.{◌≡◌, ℕ, ◌+◌, ◌-◌, ◌*◌, ◌/◌, ◌%◌, ◌^◌, ◌<◌, ◌≤◌, Bool, true, false, eqb, List, ◌∷◌, ◌++◌, length, refl, sym, ap, ◌∙◌, inl, inr, append_assoc, arith}
 use Rattle.std.proofs.lemmas.Bool.{cases_lt, lt-ltb, le-ltb, ne_eqb}
 use Rattle.std.proofs.lemmas.List.{append-nil, length-append}
 use Rattle.std.proofs.lemmas.Nat.{pow_pos, shr_high}
 use Rattle.aper_fields.specs.Bits.{bits, bits_of, zeros, gap, filled}
 use Rattle.aper_fields.specs.Run.{Run, ◌▸◌, length_run, length_octets, open_run, content_of, fixed_bits_run, number_run}
-use Rattle.aper_fields.proofs.BitLaws.{bits-add, bits-low, bits-zero, length-bits, length-bits_of, bits_of-append}
+use Rattle.aper_fields.proofs.BitLaws.{bits-add, bits-low, bits-zero, length-bits_of, bits_of-append}
 use Rattle.aper_fields.proofs.Periodic.{IsPeriodic}
 use Rattle.s1ap_ies.specs.Run.{item_run}
 use Rattle.s1ap_messages.specs.Usual.{count_octets, counted, four_octets, ie_octets}

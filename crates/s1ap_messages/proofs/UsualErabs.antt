@@ -1,7 +1,7 @@
 -- The octets of lists of E-RABs.
-use Rattle.std.proofs.Common.{◌≡◌, ℕ, ◌+◌, ◌-◌, ◌*◌, ◌^◌, ◌<◌, ◌≤◌, Bool, cond, List, [], ◌∷◌, ◌++◌, length, Option, Some, None, is_some, IfSome, refl, sym, ap, ◌∙◌, append_assoc, arith}
+use Rattle.std.proofs.Common.{◌≡◌, ℕ, ◌+◌, ◌-◌, ◌*◌, ◌^◌, ◌<◌, ◌≤◌, Bool, cond, List, [], ◌∷◌, ◌++◌, length, Option, Some, None, is_some, IfSome, refl, ap, ◌∙◌, append_assoc, arith}
 use Rattle.std.specs.List.{AllByRecursion}
-use Rattle.std.proofs.lemmas.List.{append-nil, length-append}
+use Rattle.std.proofs.lemmas.List.{length-append}
 use Rattle.aper_fields.specs.Bits.{bits, bits_of, zeros}
 use Rattle.aper_fields.specs.Run.{Run, fixed_bits_run, number_run}
 use Rattle.aper_fields.specs.Spelling.{IsOctets}
@@ -67,7 +67,7 @@ setup_is v right =
     let p = present_is v.nas in
     let n : nas_run v.nas 112 ≡ bits_of (nas_octets v.nas) = nas_are v.nas right.5 14 in
     contains_octets (erab_to_setup_run v 0) (setup_octets v) (omega arith)
-      (rw (setup_parts v, i, q, n, ← p.0, bits_of-append (four_octets v.address) (four_octets v.teid ++ nas_octets v.nas), bits_of-append (four_octets v.teid) (nas_octets v.nas), four_is v.address, four_is v.teid, ← setup_first (cond (is_some v.nas) 1 0) v.id p.1 right.0, ← setup_arp v.arp right.2) (simp append_assoc))
+    (rw (setup_parts v, i, q, n, ← p.0, bits_of-append (four_octets v.address) (four_octets v.teid ++ nas_octets v.nas), bits_of-append (four_octets v.teid) (nas_octets v.nas), four_is v.address, four_is v.teid, ← setup_first (cond (is_some v.nas) 1 0) v.id p.1 right.0, ← setup_arp v.arp right.2) (simp append_assoc))
 
 nas_few : (nas : Option (List ℕ)) → IfSome nas IsNas → length (nas_octets nas) ≤ 2050
 unfolding nas_octets counted

@@ -1,5 +1,5 @@
 -- What is written for a message, octet by octet.
-use Rattle.std.proofs.Common.{◌≡◌, ℕ, zero, suc, ◌+◌, ◌-◌, ◌*◌, ◌^◌, ◌<◌, ◌≤◌, Bool, true, ltb, eqb, List, [], ◌∷◌, ◌++◌, length, get_or, take, drop, Option, Some, None, IfSome, is_some, Ok, refl, sym, ap, ◌∙◌, subst, inl, inr, append_assoc, arith}
+use Rattle.std.proofs.Common.{◌≡◌, ℕ, zero, suc, ◌+◌, ◌-◌, ◌*◌, ◌<◌, ◌≤◌, Bool, true, ltb, eqb, List, [], ◌∷◌, ◌++◌, length, get_or, take, drop, Option, Some, None, IfSome, is_some, Ok, refl, sym, ap, ◌∙◌, subst, inl, inr, append_assoc, arith}
 use Rattle.std.specs.List.{All, AllByRecursion, list_all}
 use Rattle.std.proofs.lemmas.Bool.{cases_Bool, ltb-true, eqb-true, and_parts}
 use Rattle.std.proofs.lemmas.List.{length-append}
@@ -27,7 +27,7 @@ use Rattle.s1ap_messages.proofs.Exact.{only_message}
 use Rattle.s1ap_messages.proofs.UsualBits.{AreOctets, octets_then, two_bits, low_octet, filled_is, Contains, contains_octets, open_octets, item_is, ie_few}
 use Rattle.s1ap_messages.proofs.UsualNumbers.{mme_is, enb_is, rates_are, ids_are}
 use Rattle.s1ap_messages.proofs.UsualValues.{counted_some, text_is, key_is, tai_is, cgi_is, stmsi_is, caps_are, rrc_is, cause_is}
-use Rattle.s1ap_messages.proofs.UsualErabs.{dones_are, setups_are, octets_behind, counted_behind, item_behind, setups_behind}
+use Rattle.s1ap_messages.proofs.UsualErabs.{dones_are, setups_are, counted_behind, item_behind, setups_behind}
 
 -- ---- values
 

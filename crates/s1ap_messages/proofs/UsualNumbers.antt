@@ -1,6 +1,6 @@
 -- The octets of numbers behind the count of their octets.
-use Rattle.std.proofs.Common.{◌≡◌, ℕ, ◌+◌, ◌-◌, ◌*◌, ◌/◌, ◌%◌, ◌^◌, ◌<◌, ◌≤◌, Bool, ltb, List, [], ◌∷◌, ◌++◌, length, refl, sym, ap, ◌∙◌, inl, inr, append_assoc, arith}
-use Rattle.std.proofs.lemmas.Bool.{cases_Bool, cases_lt, lt-ltb, le-ltb}
+use Rattle.std.proofs.Common.{◌≡◌, ℕ, ◌+◌, ◌-◌, ◌*◌, ◌/◌, ◌^◌, ◌<◌, ◌≤◌, List, ◌++◌, length, refl, sym, ap, ◌∙◌, inl, inr, append_assoc, arith}
+use Rattle.std.proofs.lemmas.Bool.{cases_lt, lt-ltb, le-ltb}
 use Rattle.std.proofs.lemmas.List.{append-nil, length-append}
 use Rattle.aper_fields.specs.Bits.{bits, bits_of, zeros, gap}
 use Rattle.aper_fields.specs.Reading.{width}
@@ -13,7 +13,7 @@ use Rattle.s1ap_ies.specs.declared.ue_ids.UeIds.{UeIds}
 use Rattle.s1ap_ies.specs.declared.ue_ids.UeIds.TheVariants.{Pair, Mme}
 use Rattle.s1ap_ies.specs.Run.{IsBitRates, IsUeIds, preamble_run, choice_run, bit_rates_run, ue_ids_run}
 use Rattle.s1ap_messages.specs.Usual.{least_octets, number_octets, rates_octets, ids_octets}
-use Rattle.s1ap_messages.proofs.UsualBits.{AreOctets, octets_then, octets_at_start, octet, two, three, four, five, framed, Contains, contains_octets}
+use Rattle.s1ap_messages.proofs.UsualBits.{octets_then, octets_at_start, octet, two, three, four, five, framed, Contains, contains_octets}
 
 -- ---- the least octets of a number
 
@@ -149,7 +149,7 @@ rates_are v right =
     let down : Run = number_run 0 10000000000 v.dl in
     let up : Run = number_run 0 10000000000 v.ul in
     contains_octets _ _ (omega (arith, length-append (number_octets 0 8 v.dl) (number_octets 0 32 v.ul), number_some 0 8 v.dl))
-      (two_numbers preamble_run down up (number_octets 0 8 v.dl) (number_octets 0 32 v.ul) (then_periodic preamble_run down preamble_periodic (number_periodic 0 10000000000 v.dl)) (number_periodic 0 10000000000 v.ul) (down_octets v.dl right.0) (rate_octets v.ul right.1))
+    (two_numbers preamble_run down up (number_octets 0 8 v.dl) (number_octets 0 32 v.ul) (then_periodic preamble_run down preamble_periodic (number_periodic 0 10000000000 v.dl)) (number_periodic 0 10000000000 v.ul) (down_octets v.dl right.0) (rate_octets v.ul right.1))
 
 -- ---- identities
 
@@ -188,5 +188,5 @@ ids_are (Pair mme enb) right =
     let first : Run = number_run 0 4294967295 mme in
     let second : Run = number_run 0 16777215 enb in
     contains_octets _ _ (omega (arith, length-append (number_octets 0 4 mme) (number_octets 0 64 enb), number_some 0 4 mme))
-      (grouped (choice_run 1 0) preamble_run (first ▸ second) 0 ∙ two_numbers (choice_run 1 0 ▸ preamble_run) first second (number_octets 0 4 mme) (number_octets 0 64 enb) (then_periodic (choice_run 1 0 ▸ preamble_run) first (then_periodic (choice_run 1 0) preamble_run (choice_periodic 1 0) preamble_periodic) (number_periodic 0 4294967295 mme)) (number_periodic 0 16777215 enb) (pair_octets mme right.0) (enb_octets enb right.1))
+    (grouped (choice_run 1 0) preamble_run (first ▸ second) 0 ∙ two_numbers (choice_run 1 0 ▸ preamble_run) first second (number_octets 0 4 mme) (number_octets 0 64 enb) (then_periodic (choice_run 1 0 ▸ preamble_run) first (then_periodic (choice_run 1 0) preamble_run (choice_periodic 1 0) preamble_periodic) (number_periodic 0 4294967295 mme)) (number_periodic 0 16777215 enb) (pair_octets mme right.0) (enb_octets enb right.1))
 ids_are (Mme mme) right = contains_octets _ _ (number_some 64 16 mme) (single_octets mme right)

@@ -13,7 +13,7 @@ use Rattle.s1ap_ies.specs.declared.stmsi.Stmsi.{Stmsi}
 use Rattle.s1ap_ies.specs.declared.sec_caps.SecCaps.{SecCaps}
 use Rattle.s1ap_ies.specs.declared.cause.Cause.{Cause}
 use Rattle.s1ap_ies.specs.Run.{IsStmsi, IsSecCaps, IsCause, tai_run, cgi_run, stmsi_run, sec_caps_run, cause_run}
-use Rattle.s1ap_messages.specs.Usual.{count_octets, counted, four_octets, tai_octets, cgi_octets, stmsi_octets, caps_octets, rrc_octets, cause_octets}
+use Rattle.s1ap_messages.specs.Usual.{count_octets, counted, tai_octets, cgi_octets, stmsi_octets, caps_octets, rrc_octets, cause_octets}
 use Rattle.s1ap_messages.proofs.UsualBits.{octet, two, three, four, five, four_is, join, shifted, framed, counted_is, Contains, contains_octets}
 
 -- ---- strings

@@ -1,6 +1,6 @@
 //! Messages in their usual form: read and written octet by octet. Any other form goes piece by piece.
 
-ghost use Rattle.std.specs.Prelude.{◌≡◌, ◌<◌, ◌∷◌, [], IfOk, IfSome, length};
+ghost use Rattle.std.specs.Prelude.{◌≡◌, ◌<◌, ◌∷◌, IfOk, IfSome, length};
 ghost use Rattle.s1ap_messages.specs.Run.{written, IsRight};
 ghost use Rattle.s1ap_messages.specs.Usual.{counted, usual_octets, IsUsual};
 
@@ -56,6 +56,7 @@ pub fn write_usual(alloc: Global, p: &Pdu) -> Result<Option<Octets>, AllocError>
     let Some(octets) = finish(out)? else {
         return Ok(None);
     };
+    // Its clause says that each is below 256.
     octets.octets();
     Ok(Some(octets))
 }

@@ -1,9 +1,9 @@
 //! Lists of one E-RAB, read from their octets.
 
-ghost use Rattle.std.specs.Prelude.{◌≡◌, ◌^◌, ◌<◌, ◌≤◌, ◌∷◌, [], ◌++◌, IfSome, is_some, length};
+ghost use Rattle.std.specs.Prelude.{◌≡◌, ◌≤◌, ◌∷◌, [], ◌++◌, IfSome, is_some};
 ghost use Rattle.s1ap_ies.specs.Run.{IsErabDone, IsErabToSetup, IsNas};
 ghost use Rattle.s1ap_messages.specs.Run.{AreSome};
-ghost use Rattle.s1ap_messages.specs.Usual.{counted, four_octets, nas_octets, done_octets, setup_octets, erabs_octets, items_octets, ie_octets};
+ghost use Rattle.s1ap_messages.specs.Usual.{nas_octets, done_octets, setup_octets, erabs_octets, ie_octets};
 
 use crate::pdu::{ErabsDone, ErabsToSetup};
 use crate::usual::octets::{counted, ie, one};
@@ -90,6 +90,7 @@ fn nas(alloc: Global, octets: &[u8], present: bool) -> Option<Option<Octets>>
 
 /// An E-RAB that is to be set up, where all of the octets are it.
 #[tactic(auto, unfolding(crate::specs::Usual::setup_octets))]
+#[rattlefmt::skip]
 fn setup(alloc: Global, octets: &[u8]) -> Option<ErabToSetup>
     ensures octets { IfSome result (λ erab. octets.now ≡ setup_octets erab) }
     ensures right { IfSome result (λ erab. IsErabToSetup erab) }

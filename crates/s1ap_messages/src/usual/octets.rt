@@ -1,6 +1,6 @@
 //! Octets, read from left to right.
 
-ghost use Rattle.std.specs.Prelude.{◌≡◌, ◌+◌, ◌*◌, ◌^◌, ◌<◌, ◌≤◌, ◌∷◌, [], ◌++◌, IfSome, length};
+ghost use Rattle.std.specs.Prelude.{◌≡◌, ◌+◌, ◌*◌, ◌<◌, ◌≤◌, ◌∷◌, [], ◌++◌, IfSome, length};
 ghost use Rattle.s1ap_messages.specs.Usual.{count_octets, counted, least_octets, number_octets, ie_octets};
 
 /// The first octet, and what stands behind it.
@@ -83,6 +83,7 @@ pub fn ie(octets: &[u8], id: u8, criticality: u8) -> Option<(&[u8], &[u8])>
     Some((content, rest))
 }
 
+/// The number that one octet is.
 #[tactic(auto, using(crate::proofs::UsualRead::least_one))]
 fn of_one(a: u8) -> u64
     ensures { least_octets result ≡ a ∷ [] }
@@ -90,6 +91,7 @@ fn of_one(a: u8) -> u64
     u64::from(a)
 }
 
+/// The number that two octets are, the first of them not 0.
 #[tactic(auto, using(crate::proofs::UsualRead::least_two))]
 fn of_two(a: u8, b: u8) -> u64
     requires { 0 < a }
@@ -98,6 +100,7 @@ fn of_two(a: u8, b: u8) -> u64
     u64::from(a) * 256 + u64::from(b)
 }
 
+/// The number that three octets are, the first of them not 0.
 #[tactic(auto, using(crate::proofs::UsualRead::least_three))]
 fn of_three(a: u8, b: u8, c: u8) -> u64
     requires { 0 < a }
@@ -106,6 +109,7 @@ fn of_three(a: u8, b: u8, c: u8) -> u64
     u64::from(a) * 65536 + u64::from(b) * 256 + u64::from(c)
 }
 
+/// The number that four octets are, the first of them not 0.
 #[tactic(auto, using(crate::proofs::UsualRead::least_four))]
 fn of_four(a: u8, b: u8, c: u8, d: u8) -> u64
     requires { 0 < a }
@@ -114,6 +118,7 @@ fn of_four(a: u8, b: u8, c: u8, d: u8) -> u64
     u64::from(a) * 16777216 + u64::from(b) * 65536 + u64::from(c) * 256 + u64::from(d)
 }
 
+/// The number that five octets are, the first of them not 0.
 #[tactic(auto, using(crate::proofs::UsualRead::least_five))]
 fn of_five(a: u8, b: u8, c: u8, d: u8, e: u8) -> u64
     requires { 0 < a }

@@ -2,7 +2,7 @@
 
 ghost use Rattle.std.specs.Prelude.{◌≡◌, ◌+◌, ◌<◌, ◌≤◌, ◌∷◌, [], ◌++◌, OnOk, IfSome, is_some, if◌then◌else◌, length};
 ghost use Rattle.s1ap_ies.specs.Run.{IsErabDone, IsErabToSetup, IsNas};
-ghost use Rattle.s1ap_messages.specs.Usual.{count_octets, counted, four_octets, done_octets, nas_octets, setup_octets, erabs_octets, ie_octets};
+ghost use Rattle.s1ap_messages.specs.Usual.{done_octets, nas_octets, setup_octets, erabs_octets, ie_octets};
 
 use crate::usual::put::{count_len, counted_len, put_counted, put_ie};
 use crate::usual::put_values::four;
@@ -12,21 +12,20 @@ use std::alloc::AllocError;
 
 /// Puts a list of one E-RAB that was set up.
 #[tactic(auto, unfolding(crate::specs::Usual::ie_octets, crate::specs::Usual::counted, crate::specs::Usual::count_octets, crate::specs::Usual::erabs_octets, crate::specs::Usual::items_octets, crate::specs::Usual::done_octets, crate::specs::Usual::four_octets))]
+#[rattlefmt::skip]
 pub fn put_done(out: &mut Vec<u8>, erab: &ErabDone) -> Result<(), AllocError>
     requires { IsErabDone erab.now }
     ensures { OnOk result (out.new.items ≡ out.old.items ++ ie_octets 51 1 (erabs_octets 50 1 done_octets (erab.now ∷ []))) }
 {
     let [a, b, c, d] = four(erab.address);
     let [t, u, v, w] = four(erab.teid);
-    out.extend_from_slice(&[
-        0, 51, 64, 15, 0, 0, 50, 64, 10, 2 * erab.id, 31, a, b, c, d, t, u, v, w,
-    ])
+    out.extend_from_slice(&[0, 51, 64, 15, 0, 0, 50, 64, 10, 2 * erab.id, 31, a, b, c, d, t, u, v, w])
 }
 
 /// How many octets the NAS-PDU of an E-RAB is.
 #[inline(always)]
 #[tactic(auto, unfolding(crate::specs::Usual::nas_octets))]
-fn nas_len(nas: &Option<Octets>) -> usize
+pub fn nas_len(nas: &Option<Octets>) -> usize
     requires { IfSome nas.now IsNas }
     ensures len { result ≡ length (nas_octets nas.now) }
     ensures few { result ≤ 2050 }

@@ -1,6 +1,6 @@
 //! Messages, written as octets before the length of their body is known.
 
-ghost use Rattle.std.specs.Prelude.{◌≡◌, ◌^◌, ◌<◌, ◌≤◌, true, ◌∷◌, [], IfOk, IfSome, length};
+ghost use Rattle.std.specs.Prelude.{◌≡◌, ◌≤◌, true, ◌∷◌, [], IfOk, IfSome, length};
 ghost use Rattle.aper_fields.specs.Spelling.{IsEnumValue};
 ghost use Rattle.s1ap_ies.specs.Run.{IsTai, IsCgi, IsBitRates, IsCause, IsErabDone, IsErabToSetup};
 ghost use Rattle.s1ap_messages.specs.declared.pdu.Pdu.TheVariants.{InitialUeMessage, UplinkNasTransport, DownlinkNasTransport, InitialContextSetupRequest, InitialContextSetupResponse, InitialContextSetupFailure, UeContextReleaseRequest, UeContextReleaseCommand, UeContextReleaseComplete, UeCapabilityInfoIndication};
@@ -9,7 +9,7 @@ ghost use Rattle.s1ap_messages.specs.Usual.{unfinished_octets};
 
 use crate::pdu::Pdu;
 use crate::usual::put::begin;
-use crate::usual::put_bearers::{put_done, put_setup};
+use crate::usual::put_bearers::{nas_len, put_done, put_setup};
 use crate::usual::put_values::{
     initial_count, put_caps, put_cause, put_cgi, put_id, put_ids, put_key, put_last_stmsi,
     put_rates, put_rrc, put_tai, put_text,
@@ -18,6 +18,7 @@ use aper_fields::EnumValue;
 use s1ap_ies::{BitRates, Cause, Cgi, ErabDone, ErabToSetup, SecCaps, Stmsi, Tai, UeIds};
 use std::alloc::{AllocError, Global};
 
+/// The octets of an INITIAL UE MESSAGE, without the length of its body.
 #[tactic(auto, unfolding(crate::specs::Usual::unfinished_octets), using(crate::proofs::UsualWrite::six_parts))]
 fn initial_ue_message(
     alloc: Global,
@@ -44,6 +45,7 @@ fn initial_ue_message(
     Ok(out)
 }
 
+/// The octets of an UPLINK NAS TRANSPORT, without the length of its body.
 #[tactic(auto, unfolding(crate::specs::Usual::unfinished_octets), using(crate::proofs::UsualWrite::five_ies))]
 fn uplink_nas_transport(
     alloc: Global,
@@ -67,6 +69,7 @@ fn uplink_nas_transport(
     Ok(out)
 }
 
+/// The octets of a DOWNLINK NAS TRANSPORT, without the length of its body.
 #[tactic(auto, unfolding(crate::specs::Usual::unfinished_octets), using(crate::proofs::UsualWrite::three_ies))]
 fn downlink_nas_transport(
     alloc: Global,
@@ -84,6 +87,7 @@ fn downlink_nas_transport(
     Ok(out)
 }
 
+/// The octets of an INITIAL CONTEXT SETUP REQUEST with one E-RAB, without the length of its body.
 #[tactic(auto, unfolding(crate::specs::Usual::unfinished_octets), using(crate::proofs::UsualWrite::six_ies))]
 fn initial_context_setup_request(
     alloc: Global,
@@ -99,7 +103,7 @@ fn initial_context_setup_request(
     requires key { length key.now ≡ 32 }
     ensures { IfOk result (λ out. out.items ≡ unfinished_octets (InitialContextSetupRequest mme enb rates.now (erab.now ∷ []) caps.now key.now)) }
 {
-    let mut out = begin(alloc, 0, 9, 0, 6, 208)?;
+    let mut out = begin(alloc, 0, 9, 0, 6, 128 + nas_len(&erab.nas))?;
     put_id(&mut out, 0, 0, mme)?;
     put_id(&mut out, 8, 0, enb)?;
     put_rates(&mut out, rates)?;
@@ -109,6 +113,7 @@ fn initial_context_setup_request(
     Ok(out)
 }
 
+/// The octets of an INITIAL CONTEXT SETUP RESPONSE with one E-RAB, without the length of its body.
 #[tactic(auto, unfolding(crate::specs::Usual::unfinished_octets), using(crate::proofs::UsualWrite::three_ies))]
 fn initial_context_setup_response(
     alloc: Global,
@@ -126,6 +131,7 @@ fn initial_context_setup_response(
     Ok(out)
 }
 
+/// The octets of an INITIAL CONTEXT SETUP FAILURE, without the length of its body.
 #[tactic(auto, unfolding(crate::specs::Usual::unfinished_octets), using(crate::proofs::UsualWrite::three_ies))]
 fn initial_context_setup_failure(
     alloc: Global,
@@ -143,6 +149,7 @@ fn initial_context_setup_failure(
     Ok(out)
 }
 
+/// The octets of a UE CONTEXT RELEASE REQUEST, without the length of its body.
 #[tactic(auto, unfolding(crate::specs::Usual::unfinished_octets), using(crate::proofs::UsualWrite::three_ies))]
 fn ue_context_release_request(
     alloc: Global,
@@ -160,6 +167,7 @@ fn ue_context_release_request(
     Ok(out)
 }
 
+/// The octets of a UE CONTEXT RELEASE COMMAND, without the length of its body.
 #[tactic(auto, unfolding(crate::specs::Usual::unfinished_octets), using(crate::proofs::UsualWrite::two_ies))]
 fn ue_context_release_command(
     alloc: Global,
@@ -175,12 +183,9 @@ fn ue_context_release_command(
     Ok(out)
 }
 
+/// The octets of a UE CONTEXT RELEASE COMPLETE, without the length of its body.
 #[tactic(auto, unfolding(crate::specs::Usual::unfinished_octets), using(crate::proofs::UsualWrite::two_ies))]
-fn ue_context_release_complete(
-    alloc: Global,
-    mme: u32,
-    enb: u32,
-) -> Result<Vec<u8>, AllocError>
+fn ue_context_release_complete(alloc: Global, mme: u32, enb: u32) -> Result<Vec<u8>, AllocError>
     ensures { IfOk result (λ out. out.items ≡ unfinished_octets (UeContextReleaseComplete mme enb)) }
 {
     let mut out = begin(alloc, 32, 23, 0, 2, 32)?;
@@ -189,6 +194,7 @@ fn ue_context_release_complete(
     Ok(out)
 }
 
+/// The octets of a UE CAPABILITY INFO INDICATION, without the length of its body.
 #[tactic(auto, unfolding(crate::specs::Usual::unfinished_octets), using(crate::proofs::UsualWrite::three_ies))]
 fn ue_capability_info_indication(
     alloc: Global,
@@ -219,9 +225,7 @@ pub fn unfinished(alloc: Global, p: &Pdu) -> Result<Option<Vec<u8>>, AllocError>
         Pdu::UplinkNasTransport { mme, enb, nas, cgi, tai } => {
             Ok(Some(uplink_nas_transport(alloc, *mme, *enb, nas.items(), cgi, tai)?))
         }
-        Pdu::DownlinkNasTransport { mme, enb, nas } => {
-            Ok(Some(downlink_nas_transport(alloc, *mme, *enb, nas.items())?))
-        }
+        Pdu::DownlinkNasTransport { mme, enb, nas } => Ok(Some(downlink_nas_transport(alloc, *mme, *enb, nas.items())?)),
         Pdu::InitialContextSetupRequest { mme, enb, rates, bearers, caps, key } => {
             let [erab] = bearers.items() else {
                 return Ok(None);
@@ -234,18 +238,10 @@ pub fn unfinished(alloc: Global, p: &Pdu) -> Result<Option<Vec<u8>>, AllocError>
             };
             Ok(Some(initial_context_setup_response(alloc, *mme, *enb, erab)?))
         }
-        Pdu::InitialContextSetupFailure { mme, enb, cause } => {
-            Ok(Some(initial_context_setup_failure(alloc, *mme, *enb, cause)?))
-        }
-        Pdu::UeContextReleaseRequest { mme, enb, cause } => {
-            Ok(Some(ue_context_release_request(alloc, *mme, *enb, cause)?))
-        }
-        Pdu::UeContextReleaseCommand { ids, cause } => {
-            Ok(Some(ue_context_release_command(alloc, ids, cause)?))
-        }
-        Pdu::UeContextReleaseComplete { mme, enb } => {
-            Ok(Some(ue_context_release_complete(alloc, *mme, *enb)?))
-        }
+        Pdu::InitialContextSetupFailure { mme, enb, cause } => Ok(Some(initial_context_setup_failure(alloc, *mme, *enb, cause)?)),
+        Pdu::UeContextReleaseRequest { mme, enb, cause } => Ok(Some(ue_context_release_request(alloc, *mme, *enb, cause)?)),
+        Pdu::UeContextReleaseCommand { ids, cause } => Ok(Some(ue_context_release_command(alloc, ids, cause)?)),
+        Pdu::UeContextReleaseComplete { mme, enb } => Ok(Some(ue_context_release_complete(alloc, *mme, *enb)?)),
         Pdu::UeCapabilityInfoIndication { mme, enb, radio } => {
             if radio.items().len() > 16000 {
                 return Ok(None);

@@ -14,6 +14,7 @@ use aper_fields::EnumValue;
 use s1ap_ies::{BitRates, Cause, Cgi, SecCaps, Stmsi, Tai, UeIds};
 use std::alloc::AllocError;
 
+/// Puts an IE that is an identity, given in 64 bits.
 #[inline(always)]
 fn put_wide_id(out: &mut Vec<u8>, id: u8, criticality: u8, n: u64) -> Result<(), AllocError>
     requires criticality { criticality ≤ 2 }
@@ -212,6 +213,7 @@ pub fn put_cause(out: &mut Vec<u8>, cause: &Cause) -> Result<(), AllocError>
     out.extend_from_slice(&[0, 2, 64, 1, 16 * cause.group + i])
 }
 
+/// Puts both identities of a device.
 fn put_pair(out: &mut Vec<u8>, mme: u64, enb: u64) -> Result<(), AllocError>
     requires mme { mme < 2 ^ 32 }
     requires enb { enb < 2 ^ 32 }
@@ -223,6 +225,7 @@ fn put_pair(out: &mut Vec<u8>, mme: u64, enb: u64) -> Result<(), AllocError>
     Ok(())
 }
 
+/// Puts the MME UE S1AP ID of a device alone.
 fn put_single(out: &mut Vec<u8>, mme: u64) -> Result<(), AllocError>
     requires { mme < 2 ^ 32 }
     ensures { OnOk result (out.new.items ≡ out.old.items ++ ie_octets 99 0 (ids_octets (Mme mme))) }

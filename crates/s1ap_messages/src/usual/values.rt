@@ -71,6 +71,7 @@ pub fn nas(octets: &[u8]) -> Option<(&[u8], &[u8])>
     Some((nas, rest))
 }
 
+/// The TAI that five octets behind an octet of zeros are.
 #[tactic(auto, using(crate::proofs::UsualRead::tai_read))]
 fn tai_of(a: u8, b: u8, c: u8, d: u8, e: u8) -> Tai
     ensures octets { tai_octets result ≡ 0 ∷ a ∷ b ∷ c ∷ d ∷ e ∷ [] }
@@ -96,6 +97,7 @@ pub fn tai(octets: &[u8], criticality: u8) -> Option<(Tai, &[u8])>
     Some((tai_of(*a, *b, *c, *d, *e), rest))
 }
 
+/// The CGI that seven octets behind an octet of zeros are.
 #[tactic(auto, using(crate::proofs::UsualRead::cgi_read))]
 fn cgi_of(a: u8, b: u8, c: u8, d: u8, e: u8, f: u8, g: u8) -> Cgi
     requires { g % 16 ≡ 0 }
@@ -154,6 +156,7 @@ pub fn four(a: u8, b: u8, c: u8, d: u8) -> u32
     u32::from(a) * 16777216 + u32::from(b) * 65536 + u32::from(c) * 256 + u32::from(d)
 }
 
+/// The S-TMSI with an MME code that stands two bits behind the start of two octets.
 #[inline(always)]
 #[tactic(auto, unfolding(crate::specs::Usual::stmsi_octets))]
 fn stmsi_of(h: u8, m: u8, tmsi: u32) -> Stmsi
@@ -216,6 +219,7 @@ pub fn rates(octets: &[u8]) -> Option<(BitRates, &[u8])>
     Some((BitRates { dl, ul }, rest))
 }
 
+/// The security capabilities that five octets are.
 #[inline(always)]
 #[tactic(auto, using(crate::proofs::UsualRead::caps_read))]
 fn caps_of(a: u8, b: u8, c: u8, d: u8, e: u8) -> SecCaps
