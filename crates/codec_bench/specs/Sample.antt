@@ -1,5 +1,6 @@
 -- What a line of the mix is.
-use Rattle.std.specs.Prelude.{◌≡◌, ℕ, Bool, nat_eq, pointwise, List, [], ◌∷◌, ◌++◌, Ok, IsErr}
+use Rattle.std.specs.Prelude.{◌≡◌, ℕ, Bool, nat_eq, List, [], ◌∷◌, ◌++◌, Ok, IsErr}
+use Rattle.std.specs.Cmp.Lexicographic.{pointwise}
 use Rattle.hex.specs.Hex.{decode_of}
 use Rattle.s1ap_messages.specs.Grammar.{Spells, Refused}
 use Rattle.s1ap_messages.specs.Run.{IsRight, written}

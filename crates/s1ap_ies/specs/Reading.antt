@@ -1,5 +1,5 @@
 -- Reading the values of IEs from left to right, piece by piece.
-use Rattle.std.specs.Prelude.{ℕ, zero, suc, ◌==◌, nat_le, nat_lt, Bool, true, List, Option, Some, None, Ok, if◌then◌else◌}
+use Rattle.std.specs.Prelude.{ℕ, zero, suc, ◌==◌, nat_le, nat_lt, Bool, true, List, Option, Some, None, Ok, Err, if◌then◌else◌}
 use Rattle.echo_base.specs.declared.reason.Reason.{Reason}
 use Rattle.echo_base.specs.declared.reason.Reason.TheVariants as reasons
 use Rattle.aper_fields.specs.Reading as pieces
@@ -29,6 +29,15 @@ f >>= g = λ i. pieces.◌>>=◌ (f i) (λ x. g x.0 x.1)
 -- the value, of no bits
 abbrev pub done : {A : Type 0} → A → Reader A
 done v = λ i. Ok (v, i)
+
+-- what is read with its value left out
+abbrev pub passed : {A : Type 0} → Read A → Read (Unit {0})
+passed (Ok x) = Ok (tt, x.1)
+passed (Err e) = Err e
+
+-- a value that is passed over: read as ever, and not kept
+abbrev pub skipping : {A : Type 0} → Reader A → Reader (Unit {0})
+skipping f = λ i. passed (f i)
 
 -- a value that has to pass a test, and is refused where it begins
 abbrev pub passing_at : {A : Type 0} → (A → Bool) → Reason → Reader A → Reader A

@@ -4,7 +4,7 @@ ghost use Rattle.std.specs.Prelude.{◌≡◌, IfOk, IfSome, OnOk, OnErr, option
 ghost use Rattle.aper_fields.specs.Reading.{Gives, GivesBy};
 ghost use Rattle.aper_fields.specs.Run.{then_written, ◌▸◌, fixed_bits_run};
 ghost use Rattle.s1ap_ies.specs.Memory.{GivesIn, ReadsIn, item_of};
-ghost use Rattle.s1ap_ies.specs.Reading.{nas_at, erab_to_setup_at};
+ghost use Rattle.s1ap_ies.specs.Reading.{skipping, nas_at, erab_to_setup_at};
 ghost use Rattle.s1ap_ies.specs.Grammar.{erab_to_setup_in};
 ghost use Rattle.s1ap_ies.specs.Kept.{Keeps};
 ghost use Rattle.s1ap_ies.specs.Run.{IsNas, IsErabToSetup, present_run, qos_run, address_run, nas_run, erab_to_setup_run};
@@ -178,6 +178,14 @@ impl ErabToSetup {
         ensures exact { ReadsIn erab_to_setup_in result r.old r.new }
     {
         read_fields(alloc, r)
+    }
+
+    /// Passes over the value, which is refused as `read` refuses it. It takes no memory.
+    pub fn skip(r: &mut BitReader) -> Result<(), Refusal>
+        ensures { Gives result r.old r.new (skipping erab_to_setup_at r.old) }
+    {
+        read_parts(r)?;
+        Ok(())
     }
 
     /// Writes the value, without iE-Extensions. Where memory runs out, nothing is written.

@@ -14,11 +14,12 @@ use Rattle.s1ap_messages.specs.declared.pdu.Pdu.{Pdu}
 use Rattle.s1ap_messages.specs.Messages.{kind_of, values_of, is_downlink}
 use Rattle.s1ap_messages.specs.Grammar as grammar
 use Rattle.s1ap_messages.specs.Grammar.{Ie, pdu_in, ies_in, start, AreIes, fields_of, Spells, SpellsUplink, RefusedUplink, missing}
+use Rattle.s1ap_messages.specs.Reading.{lacking}
 use Rattle.s1ap_messages.specs.Built.{message_from, at_end, message_at, received, uplink_at}
 use Rattle.s1ap_messages.specs.Answer.{Answers, IsAnswer}
 use Rattle.s1ap_messages.proofs.Frame.{pdu_kept_at, pdu_exactly}
 use Rattle.s1ap_messages.proofs.Kept.{slots_of, with_slots, whole_is, bind_assoc}
-use Rattle.s1ap_messages.proofs.Makes.{AreTyped, in_order_typed, Makes, makes, filled_up, made_back, whole_values, lacking, missing_is}
+use Rattle.s1ap_messages.proofs.Makes.{AreTyped, in_order_typed, Makes, makes, filled_up, made_back, whole_values, missing_is}
 
 -- the values of IEs that stand are of their ids
 spelled_typed : (at : ℕ) (x : MessageKind × List Ie) (run : List _) → pdu_in.Spells at x run → AreTyped x.1
@@ -28,7 +29,7 @@ spelled_typed at x run s =
     let same : x ≡ (s.0, s.5.0) = s.5.5.0 in
     subst (λ (y : MessageKind × List Ie). AreTyped y.1) (sym same) (in_order_typed s.0 _ _ s.5.0 _ body.5.5.1)
 
-whole_typed : (octets : List ℕ) (kind : MessageKind) (ies : List Ie) → AreIes octets kind ies → AreTyped ies
+pub whole_typed : (octets : List ℕ) (kind : MessageKind) (ies : List Ie) → AreIes octets kind ies → AreTyped ies
 whole_typed octets kind ies h = spelled_typed 0 (kind, ies) h.0 h.1
 
 -- what reading makes of IEs that were kept
@@ -128,7 +129,7 @@ received_err : (p : Pdu) (e : Refusal) (b : Bool) → is_downlink (kind_of p) �
 received_err p e true is h = (is, sym (err_is _ e h))
 received_err p e false is h = absurd (ok_err _ _ h)
 
-uplink_found : (octets : List ℕ) (p : Pdu) (r : Result Pdu Refusal) → message_at octets ≡ r → bind r (λ q. received q (is_downlink (kind_of q))) ≡ Ok p → SpellsUplink octets p
+pub uplink_found : (octets : List ℕ) (p : Pdu) (r : Result Pdu Refusal) → message_at octets ≡ r → bind r (λ q. received q (is_downlink (kind_of q))) ≡ Ok p → SpellsUplink octets p
 uplink_found octets p (Err d) read e = absurd (ok_err _ _ (sym e))
 uplink_found octets p (Ok q) read e =
     let is = received_ok q p (is_downlink (kind_of q)) refl e in

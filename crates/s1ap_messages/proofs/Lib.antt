@@ -10,6 +10,8 @@ pub mod Typed
 pub mod Kept
 pub mod Makes
 pub mod Exact
+pub mod Skipped
+pub mod Found
 pub mod Opens
 pub mod Runs
 pub mod Spelled

@@ -22,6 +22,7 @@ use Rattle.s1ap_messages.specs.Many.{InOrder}
 use Rattle.s1ap_messages.specs.Values.{FieldValue}
 use Rattle.s1ap_messages.specs.Messages.{kind_of, values_of}
 use Rattle.s1ap_messages.specs.Grammar.{Ie, Named, Other, found, ie_in, fields_of, missing}
+use Rattle.s1ap_messages.specs.Reading.{lacking}
 use Rattle.s1ap_messages.specs.Built.{message_from}
 use Rattle.s1ap_messages.proofs.Typed.{id_of}
 use Rattle.s1ap_messages.proofs.Kept.{IsNew, spelled_new, slots_of}
@@ -137,12 +138,6 @@ is_rrc (Some (value.Rrc rrc)) typed = inr (rrc, refl)
 is_rrc (Some _) typed = absurd (omega arith)
 
 -- ---- messages
-
--- the first needed row without a value
-unfoldable pub lacking : List IeRow → List Slot → Option ℕ
-lacking [] values = None
-lacking (row ∷ rows) [] = None
-lacking (row ∷ rows) (v ∷ values) = cond (row.needed && is_none v) (Some row.id) (lacking rows values)
 
 -- what is made of values: a message of that kind that has them, or the id of the first that is lacking
 abbrev pub Makes : MessageKind → List Slot → Result Pdu ℕ → Type 0

@@ -179,10 +179,14 @@ usual_has_octets p octets fits e =
     fields_behind (rows_of (kind_of p)) (values_of p) (values-length p) body.1.1.1
 
 -- what the reading gives of octets in the usual form of a message
-pub usual_read : (p : Pdu) (octets : List ℕ) → IsBytes octets → octets ≡ usual_octets p → IsUsual p → message_at octets ≡ Ok p
+usual_read : (p : Pdu) (octets : List ℕ) → IsBytes octets → octets ≡ usual_octets p → IsUsual p → message_at octets ≡ Ok p
 usual_read p octets fits e usual =
     let spelled : Spells (written p) p = written_spelled p (usual_right p usual) (usual_has_octets p octets fits e) in
     only_message octets p (subst (λ o. Spells o p) (sym (usual_is_written p octets fits e usual)) spelled)
+
+pub usual_reads : (r : Option Pdu) (octets : List ℕ) → IsBytes octets → IfSome r (λ p. (octets ≡ usual_octets p) × IsUsual p) → IfSome r (λ p. message_at octets ≡ Ok p)
+usual_reads None octets fits found = tt
+usual_reads (Some p) octets fits found = usual_read p octets fits found.0 found.1
 
 bytes_of_all : (octets : List ℕ) → All (λ (x : ℕ). x < 256) octets → IsBytes octets
 bytes_of_all [] all i = omega arith

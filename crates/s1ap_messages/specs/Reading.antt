@@ -1,5 +1,5 @@
 -- Reading a message from left to right, with a slot for each row of its table.
-use Rattle.std.specs.Prelude.{ℕ, zero, suc, ◌==◌, Bool, true, false, List, [], ◌∷◌, position, slice_set, slice_index_or, Option, Some, None, is_some, Result, Ok, Err, if◌then◌else◌}
+use Rattle.std.specs.Prelude.{ℕ, zero, suc, ◌==◌, ◌&&◌, Bool, true, false, List, [], ◌∷◌, position, slice_set, slice_index_or, Option, Some, None, is_some, is_none, Result, Ok, Err, if◌then◌else◌}
 use Rattle.echo_base.specs.declared.reason.Reason.{Reason}
 use Rattle.echo_base.specs.declared.reason.Reason.TheVariants as reasons
 use Rattle.aper_fields.specs.Reading as pieces
@@ -7,7 +7,7 @@ use Rattle.aper_fields.specs.Reading.{Input, Read, fixed_bits_at, number_at, oct
 use Rattle.s1ap_ies.specs.declared.tables.IeRow.{IeRow}
 use Rattle.s1ap_ies.specs.declared.tables.MessageKind.{MessageKind}
 use Rattle.s1ap_ies.specs.Tables.{rows_of}
-use Rattle.s1ap_ies.specs.Reading.{Reader, ◌>>=◌, done, passing_at, zero_bit_at, criticality_at, choice_at, tai_at, cgi_at, stmsi_at, bit_rates_at, sec_caps_at, cause_at, ue_ids_at, erab_done_at, erab_to_setup_at, item_at}
+use Rattle.s1ap_ies.specs.Reading.{Reader, ◌>>=◌, done, skipping, passing_at, zero_bit_at, criticality_at, choice_at, tai_at, cgi_at, stmsi_at, bit_rates_at, sec_caps_at, cause_at, ue_ids_at, erab_done_at, erab_to_setup_at, item_at}
 use Rattle.s1ap_messages.specs.declared.value.IeValue.TheVariants as value
 use Rattle.s1ap_messages.specs.Many.{many_at, inside_at, looked_up_at}
 use Rattle.s1ap_messages.specs.Values.{FieldValue}
@@ -24,6 +24,19 @@ erab_at id read = item_at id >>= λ content. inside_at content read
 
 unfoldable pub erabs_at : {A : Type 0} → ℕ → Reader A → Reader (List A)
 erabs_at id read = number_at 1 255 >>= λ count. many_at (λ before. erab_at id read) count []
+
+-- a list whose items are passed over
+unfoldable pub skipped_at : Reader (Unit {0}) → ℕ → Reader (Unit {0})
+skipped_at f zero = done tt
+skipped_at f (suc n) = f >>= λ _. skipped_at f n
+
+unfoldable pub erabs_skipped_at : {A : Type 0} → ℕ → Reader A → Reader (Unit {0})
+erabs_skipped_at id read = number_at 1 255 >>= λ count. skipped_at (erab_at id (skipping read)) count
+
+-- the items of a list that was read
+abbrev pub listed : {A : Type 0} → Read (List A) → List A
+listed (Ok x) = x.0
+listed (Err e) = []
 
 unfoldable pub value_at : ℕ → Reader FieldValue
 value_at id = λ i.
@@ -93,6 +106,12 @@ noted slots (Some x) = slice_set slots x.0 (Some x.1)
 unfoldable pub fields_at : List IeRow → ℕ → Slots → Reader Slots
 fields_at rows zero slots = done slots
 fields_at rows (suc n) slots = ie_at rows slots >>= λ ie. fields_at rows n (noted slots ie)
+
+-- the first needed row without a value
+unfoldable pub lacking : List IeRow → Slots → Option ℕ
+lacking [] values = None
+lacking (row ∷ rows) [] = None
+lacking (row ∷ rows) (v ∷ values) = if row.needed && is_none v then Some row.id else lacking rows values
 
 unfoldable pub ies_at : MessageKind → Reader Slots
 ies_at kind = do

@@ -1,34 +1,39 @@
-//! Messages of the values that were read.
+//! Messages of the values that were read. Here alone reading takes memory.
 
-ghost use Rattle.std.specs.Prelude.{◌≡◌};
+ghost use Rattle.std.specs.Prelude.{◌≡◌, IsOk, Ok};
 ghost use Rattle.s1ap_messages.specs.Built.{initial_ue_message_from, uplink_nas_transport_from, downlink_nas_transport_from, initial_context_setup_request_from, initial_context_setup_response_from, initial_context_setup_failure_from, ue_context_release_request_from, ue_context_release_command_from, ue_context_release_complete_from, ue_capability_info_indication_from, message_from};
+ghost use Rattle.s1ap_messages.specs.Memory.{IsMade};
 
 use crate::pdu::Pdu;
 use crate::slots::Slots;
 use crate::value::IeValue;
+use echo_base::OutOfMemory;
 use s1ap_ies::MessageKind;
+use std::alloc::Global;
 
-/// Takes a value out of its slot; where it is not there, its id is missing.
+/// Takes a value that is there out of its slot.
 macro_rules! take {
-    ($slots:ident, $place:literal, $variant:ident($name:ident), $id:literal) => {
+    ($slots:ident, $place:literal, $variant:ident($name:ident)) => {
         let Some(IeValue::$variant($name)) = $slots.take($place) else {
-            return Err($id);
+            unreachable!()
         };
     };
 }
 
-fn initial_ue_message(slots: &mut Slots) -> Result<Pdu, u16>
-    ensures { result ≡ initial_ue_message_from slots.old }
+fn initial_ue_message(alloc: Global, slots: &mut Slots) -> Result<Pdu, OutOfMemory>
+    requires { IsOk (initial_ue_message_from slots.old) }
+    ensures { IsMade (initial_ue_message_from slots.old) result }
 {
-    take!(slots, 0, Enb(enb), 8);
-    take!(slots, 1, Nas(nas), 26);
-    take!(slots, 2, Tai(tai), 67);
-    take!(slots, 3, Cgi(cgi), 100);
-    take!(slots, 4, Rrc(rrc), 134);
+    take!(slots, 0, Enb(enb));
+    take!(slots, 1, Nas(nas));
+    take!(slots, 2, Tai(tai));
+    take!(slots, 3, Cgi(cgi));
+    take!(slots, 4, Rrc(rrc));
     let stmsi = match slots.take(5) {
         Some(IeValue::Stmsi(stmsi)) => Some(stmsi),
         _ => None,
     };
+    let nas = nas.own(alloc)?;
     Ok(Pdu::InitialUeMessage {
         enb,
         nas,
@@ -39,14 +44,16 @@ fn initial_ue_message(slots: &mut Slots) -> Result<Pdu, u16>
     })
 }
 
-fn uplink_nas_transport(slots: &mut Slots) -> Result<Pdu, u16>
-    ensures { result ≡ uplink_nas_transport_from slots.old }
+fn uplink_nas_transport(alloc: Global, slots: &mut Slots) -> Result<Pdu, OutOfMemory>
+    requires { IsOk (uplink_nas_transport_from slots.old) }
+    ensures { IsMade (uplink_nas_transport_from slots.old) result }
 {
-    take!(slots, 0, Mme(mme), 0);
-    take!(slots, 1, Enb(enb), 8);
-    take!(slots, 2, Nas(nas), 26);
-    take!(slots, 3, Cgi(cgi), 100);
-    take!(slots, 4, Tai(tai), 67);
+    take!(slots, 0, Mme(mme));
+    take!(slots, 1, Enb(enb));
+    take!(slots, 2, Nas(nas));
+    take!(slots, 3, Cgi(cgi));
+    take!(slots, 4, Tai(tai));
+    let nas = nas.own(alloc)?;
     Ok(Pdu::UplinkNasTransport {
         mme,
         enb,
@@ -56,24 +63,29 @@ fn uplink_nas_transport(slots: &mut Slots) -> Result<Pdu, u16>
     })
 }
 
-fn downlink_nas_transport(slots: &mut Slots) -> Result<Pdu, u16>
-    ensures { result ≡ downlink_nas_transport_from slots.old }
+fn downlink_nas_transport(alloc: Global, slots: &mut Slots) -> Result<Pdu, OutOfMemory>
+    requires { IsOk (downlink_nas_transport_from slots.old) }
+    ensures { IsMade (downlink_nas_transport_from slots.old) result }
 {
-    take!(slots, 0, Mme(mme), 0);
-    take!(slots, 1, Enb(enb), 8);
-    take!(slots, 2, Nas(nas), 26);
+    take!(slots, 0, Mme(mme));
+    take!(slots, 1, Enb(enb));
+    take!(slots, 2, Nas(nas));
+    let nas = nas.own(alloc)?;
     Ok(Pdu::DownlinkNasTransport { mme, enb, nas })
 }
 
-fn initial_context_setup_request(slots: &mut Slots) -> Result<Pdu, u16>
-    ensures { result ≡ initial_context_setup_request_from slots.old }
+fn initial_context_setup_request(alloc: Global, slots: &mut Slots) -> Result<Pdu, OutOfMemory>
+    requires { IsOk (initial_context_setup_request_from slots.old) }
+    ensures { IsMade (initial_context_setup_request_from slots.old) result }
 {
-    take!(slots, 0, Mme(mme), 0);
-    take!(slots, 1, Enb(enb), 8);
-    take!(slots, 2, Rates(rates), 66);
-    take!(slots, 3, Bearers(bearers), 24);
-    take!(slots, 4, Caps(caps), 107);
-    take!(slots, 5, Key(key), 73);
+    take!(slots, 0, Mme(mme));
+    take!(slots, 1, Enb(enb));
+    take!(slots, 2, Rates(rates));
+    take!(slots, 3, Bearers(bearers));
+    take!(slots, 4, Caps(caps));
+    take!(slots, 5, Key(key));
+    let bearers = bearers.own(alloc)?;
+    let key = key.own(alloc)?;
     Ok(Pdu::InitialContextSetupRequest {
         mme,
         enb,
@@ -84,73 +96,82 @@ fn initial_context_setup_request(slots: &mut Slots) -> Result<Pdu, u16>
     })
 }
 
-fn initial_context_setup_response(slots: &mut Slots) -> Result<Pdu, u16>
-    ensures { result ≡ initial_context_setup_response_from slots.old }
+fn initial_context_setup_response(alloc: Global, slots: &mut Slots) -> Result<Pdu, OutOfMemory>
+    requires { IsOk (initial_context_setup_response_from slots.old) }
+    ensures { IsMade (initial_context_setup_response_from slots.old) result }
 {
-    take!(slots, 0, Mme(mme), 0);
-    take!(slots, 1, Enb(enb), 8);
-    take!(slots, 2, Done(done), 51);
+    take!(slots, 0, Mme(mme));
+    take!(slots, 1, Enb(enb));
+    take!(slots, 2, Done(done));
+    let done = done.own(alloc)?;
     Ok(Pdu::InitialContextSetupResponse { mme, enb, done })
 }
 
-fn initial_context_setup_failure(slots: &mut Slots) -> Result<Pdu, u16>
-    ensures { result ≡ initial_context_setup_failure_from slots.old }
+fn initial_context_setup_failure(slots: &mut Slots) -> Pdu
+    requires { IsOk (initial_context_setup_failure_from slots.old) }
+    ensures { initial_context_setup_failure_from slots.old ≡ Ok result }
 {
-    take!(slots, 0, Mme(mme), 0);
-    take!(slots, 1, Enb(enb), 8);
-    take!(slots, 2, Cause(cause), 2);
-    Ok(Pdu::InitialContextSetupFailure { mme, enb, cause })
+    take!(slots, 0, Mme(mme));
+    take!(slots, 1, Enb(enb));
+    take!(slots, 2, Cause(cause));
+    Pdu::InitialContextSetupFailure { mme, enb, cause }
 }
 
-fn ue_context_release_request(slots: &mut Slots) -> Result<Pdu, u16>
-    ensures { result ≡ ue_context_release_request_from slots.old }
+fn ue_context_release_request(slots: &mut Slots) -> Pdu
+    requires { IsOk (ue_context_release_request_from slots.old) }
+    ensures { ue_context_release_request_from slots.old ≡ Ok result }
 {
-    take!(slots, 0, Mme(mme), 0);
-    take!(slots, 1, Enb(enb), 8);
-    take!(slots, 2, Cause(cause), 2);
-    Ok(Pdu::UeContextReleaseRequest { mme, enb, cause })
+    take!(slots, 0, Mme(mme));
+    take!(slots, 1, Enb(enb));
+    take!(slots, 2, Cause(cause));
+    Pdu::UeContextReleaseRequest { mme, enb, cause }
 }
 
-fn ue_context_release_command(slots: &mut Slots) -> Result<Pdu, u16>
-    ensures { result ≡ ue_context_release_command_from slots.old }
+fn ue_context_release_command(slots: &mut Slots) -> Pdu
+    requires { IsOk (ue_context_release_command_from slots.old) }
+    ensures { ue_context_release_command_from slots.old ≡ Ok result }
 {
-    take!(slots, 0, Ids(ids), 99);
-    take!(slots, 1, Cause(cause), 2);
-    Ok(Pdu::UeContextReleaseCommand { ids, cause })
+    take!(slots, 0, Ids(ids));
+    take!(slots, 1, Cause(cause));
+    Pdu::UeContextReleaseCommand { ids, cause }
 }
 
-fn ue_context_release_complete(slots: &mut Slots) -> Result<Pdu, u16>
-    ensures { result ≡ ue_context_release_complete_from slots.old }
+fn ue_context_release_complete(slots: &mut Slots) -> Pdu
+    requires { IsOk (ue_context_release_complete_from slots.old) }
+    ensures { ue_context_release_complete_from slots.old ≡ Ok result }
 {
-    take!(slots, 0, Mme(mme), 0);
-    take!(slots, 1, Enb(enb), 8);
-    Ok(Pdu::UeContextReleaseComplete { mme, enb })
+    take!(slots, 0, Mme(mme));
+    take!(slots, 1, Enb(enb));
+    Pdu::UeContextReleaseComplete { mme, enb }
 }
 
-fn ue_capability_info_indication(slots: &mut Slots) -> Result<Pdu, u16>
-    ensures { result ≡ ue_capability_info_indication_from slots.old }
+fn ue_capability_info_indication(alloc: Global, slots: &mut Slots) -> Result<Pdu, OutOfMemory>
+    requires { IsOk (ue_capability_info_indication_from slots.old) }
+    ensures { IsMade (ue_capability_info_indication_from slots.old) result }
 {
-    take!(slots, 0, Mme(mme), 0);
-    take!(slots, 1, Enb(enb), 8);
-    take!(slots, 2, Radio(radio), 74);
+    take!(slots, 0, Mme(mme));
+    take!(slots, 1, Enb(enb));
+    take!(slots, 2, Radio(radio));
+    let radio = radio.own(alloc)?;
     Ok(Pdu::UeCapabilityInfoIndication { mme, enb, radio })
 }
 
-/// The message of that kind with the values in the slots, or the id of the first IE that it needs and that is missing.
+/// The message of that kind with the values in the slots, none of which is missing, its octets and lists in memory of their own.
 #[tactic(auto, unfolding(crate::specs::Built::message_from))]
-pub fn message(kind: MessageKind, slots: &mut Slots) -> Result<Pdu, u16>
-    ensures { result ≡ message_from kind slots.old }
+pub fn message(alloc: Global, kind: MessageKind, slots: &mut Slots) -> Result<Pdu, OutOfMemory>
+    requires { IsOk (message_from kind slots.old) }
+    ensures { IsMade (message_from kind slots.old) result }
 {
     match kind {
-        MessageKind::InitialUeMessage => initial_ue_message(slots),
-        MessageKind::UplinkNasTransport => uplink_nas_transport(slots),
-        MessageKind::DownlinkNasTransport => downlink_nas_transport(slots),
-        MessageKind::InitialContextSetupRequest => initial_context_setup_request(slots),
-        MessageKind::InitialContextSetupResponse => initial_context_setup_response(slots),
-        MessageKind::InitialContextSetupFailure => initial_context_setup_failure(slots),
-        MessageKind::UeContextReleaseRequest => ue_context_release_request(slots),
-        MessageKind::UeContextReleaseCommand => ue_context_release_command(slots),
-        MessageKind::UeContextReleaseComplete => ue_context_release_complete(slots),
-        MessageKind::UeCapabilityInfoIndication => ue_capability_info_indication(slots),
+        MessageKind::InitialUeMessage => initial_ue_message(alloc, slots),
+        MessageKind::UplinkNasTransport => uplink_nas_transport(alloc, slots),
+        MessageKind::DownlinkNasTransport => downlink_nas_transport(alloc, slots),
+        MessageKind::InitialContextSetupRequest => initial_context_setup_request(alloc, slots),
+        MessageKind::InitialContextSetupResponse => initial_context_setup_response(alloc, slots),
+        MessageKind::InitialContextSetupFailure => Ok(initial_context_setup_failure(slots)),
+        MessageKind::UeContextReleaseRequest => Ok(ue_context_release_request(slots)),
+        MessageKind::UeContextReleaseCommand => Ok(ue_context_release_command(slots)),
+        MessageKind::UeContextReleaseComplete => Ok(ue_context_release_complete(slots)),
+        MessageKind::UeCapabilityInfoIndication => ue_capability_info_indication(alloc, slots),
     }
 }

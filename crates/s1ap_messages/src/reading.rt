@@ -1,22 +1,24 @@
 //! Reading messages.
 
-ghost use Rattle.std.specs.Prelude.{◌≡◌, ◌≤◌, ◌<◌, IfOk, IfSome, Ok, Err, length, take};
-ghost use Rattle.s1ap_ies.specs.Memory.{GivesIn};
+ghost use Rattle.std.specs.Prelude.{◌≡◌, ◌≤◌, ◌<◌, true, IfOk, IfSome, Ok, Err, length, take};
+ghost use Rattle.aper_fields.specs.Reading.{Gives, whole_at};
 ghost use Rattle.s1ap_ies.specs.Tables.{rows_of};
 ghost use Rattle.s1ap_messages.specs.Reading.{empty, place_of, ie_at, fields_at, ies_at, pdu_at};
 ghost use Rattle.echo_base.specs.declared.refusal.Refusal.{Refusal};
+ghost use Rattle.echo_base.specs.declared.refusal.Bad.TheVariants as bad;
 ghost use Rattle.s1ap_messages.specs.declared.pdu.Pdu.{Pdu};
-ghost use Rattle.s1ap_messages.specs.Grammar.{Spells, Refused, SpellsUplink, RefusedUplink};
+ghost use Rattle.s1ap_messages.specs.Grammar.{start, Spells, Refused, SpellsUplink, RefusedUplink};
 ghost use Rattle.s1ap_messages.specs.Run.{IsRight};
 ghost use Rattle.s1ap_messages.specs.Built.{message_at, uplink_at};
 ghost use Rattle.s1ap_messages.specs.Answer.{Answers, IsAnswer};
+ghost use Rattle.s1ap_messages.specs.Memory.{takes_memory, IsFound, IsRead};
 
 use crate::build::message;
 use crate::header::read_header;
 use crate::pdu::{Pdu, is_downlink};
 use crate::slots::Slots;
 use crate::usual::read_usual;
-use crate::value::{OwnedValue, read_value};
+use crate::value::{FoundValue, find_value};
 use aper_fields::{BitReader, Ranged, close, read_open};
 use echo_base::{Bad, Reason, Refusal};
 use s1ap_ies::{IeRow, IeTable, MessageKind, ies_of, read_criticality, read_zero_bit};
@@ -32,21 +34,20 @@ fn place_of(rows: &[IeRow], id: u16) -> Option<usize>
 
 /// Reads an IE behind others, and what its table names with its place.
 #[tactic(auto, unfolding(crate::specs::Reading::ie_at, aper_fields::specs::Reading::whole_at))]
-fn read_ie(
-    alloc: Global,
-    r: &mut BitReader,
+fn read_ie<'a>(
+    r: &mut BitReader<'a>,
     rows: &[IeRow],
     slots: &Slots,
-) -> Result<Option<(usize, OwnedValue)>, Bad>
+) -> Result<Option<(usize, FoundValue<'a>)>, Refusal>
     requires { length rows.now ≤ 6 }
-    ensures read { GivesIn result r.old r.new (ie_at rows.now slots.now r.old) }
+    ensures read { Gives result r.old r.new (ie_at rows.now slots.now r.old) }
     ensures within { IfOk result (λ found. IfSome found (λ f. f.0 < 6)) }
 {
     let mut ahead = r.ahead();
     let id = Ranged::<0, 65535>::read(&mut ahead)? as u16;
     let place = place_of(rows, id);
     if slots.is_filled(place) {
-        return Err(Bad::Refused(r.refusal(Reason::RepeatedIe(id))));
+        return Err(r.refusal(Reason::RepeatedIe(id)));
     }
     read_criticality(&mut ahead)?;
     let mut content = read_open(&mut ahead)?;
@@ -55,7 +56,7 @@ fn read_ie(
         return Ok(None);
     };
     let start = content.ahead();
-    let value = read_value(alloc, &mut content, id)?;
+    let value = find_value(&mut content, id)?;
     close(&start, &content)?;
     *r = ahead;
     Ok(Some((place, value)))
@@ -63,15 +64,15 @@ fn read_ie(
 
 /// Reads so many IEs.
 #[tactic(auto, unfolding(crate::specs::Reading::fields_at))]
-fn read_fields(alloc: Global, r: &mut BitReader, rows: &[IeRow], count: u64) -> Result<Slots, Bad>
+fn read_fields<'a>(r: &mut BitReader<'a>, rows: &[IeRow], count: u64) -> Result<Slots<'a>, Refusal>
     requires { length rows.now ≤ 6 }
-    ensures { GivesIn result r.old r.new (fields_at rows.now count empty r.old) }
+    ensures { Gives result r.old r.new (fields_at rows.now count empty r.old) }
 {
     let mut ahead = r.ahead();
     let mut slots = Slots::new();
     let mut left = count;
     while left > 0 {
-        let found = read_ie(alloc, &mut ahead, rows, &slots)?;
+        let found = read_ie(&mut ahead, rows, &slots)?;
         slots.note(found);
         left -= 1;
     }
@@ -89,54 +90,72 @@ pub(crate) fn rows(table: &IeTable) -> &[IeRow]
 
 /// Reads the SEQUENCE of IEs of that kind of message.
 #[tactic(auto, unfolding(crate::specs::Reading::ies_at))]
-fn read_ies(alloc: Global, r: &mut BitReader, kind: MessageKind) -> Result<Slots, Bad>
-    ensures { GivesIn result r.old r.new (ies_at kind r.old) }
+fn read_ies<'a>(r: &mut BitReader<'a>, kind: MessageKind) -> Result<Slots<'a>, Refusal>
+    ensures { Gives result r.old r.new (ies_at kind r.old) }
 {
     let mut ahead = r.ahead();
     read_zero_bit(&mut ahead, Reason::SequenceExtension)?;
     let count = Ranged::<0, 65535>::read(&mut ahead)?;
     let table = ies_of(kind);
-    let slots = read_fields(alloc, &mut ahead, rows(&table), count)?;
+    let slots = read_fields(&mut ahead, rows(&table), count)?;
     *r = ahead;
     Ok(slots)
 }
 
 /// Reads the header, and the open type that contains the IEs.
 #[tactic(auto, unfolding(crate::specs::Reading::pdu_at, aper_fields::specs::Reading::whole_at, aper_fields::specs::Reading::contained_at))]
-fn read_parts(alloc: Global, r: &mut BitReader) -> Result<(MessageKind, Slots), Bad>
-    ensures { GivesIn result r.old r.new (pdu_at r.old) }
+fn read_parts<'a>(r: &mut BitReader<'a>) -> Result<(MessageKind, Slots<'a>), Refusal>
+    ensures { Gives result r.old r.new (pdu_at r.old) }
 {
     let mut ahead = r.ahead();
     let kind = read_header(&mut ahead)?;
     let mut content = read_open(&mut ahead)?;
     let start = content.ahead();
-    let slots = read_ies(alloc, &mut content, kind)?;
+    let slots = read_ies(&mut content, kind)?;
     close(&start, &content)?;
     *r = ahead;
     Ok((kind, slots))
 }
 
-/// Reads a message that is all of the octets, piece by piece.
-#[tactic(auto, unfolding(crate::specs::Built::message_at, aper_fields::specs::Reading::whole_at))]
-pub(crate) fn read_pieces(alloc: Global, bytes: &[u8]) -> Result<Pdu, Bad>
-    ensures { IsAnswer (message_at bytes.now) result }
+/// Reads a header and IEs that are all of the octets.
+#[tactic(auto, unfolding(aper_fields::specs::Reading::whole_at))]
+fn read_whole(bytes: &[u8]) -> Result<(MessageKind, Slots<'_>), Refusal>
+    ensures { result ≡ whole_at pdu_at (start bytes.now) }
 {
     let start = BitReader::new(bytes, 0);
     let mut r = start.ahead();
-    let (kind, mut slots) = read_parts(alloc, &mut r)?;
+    let parts = read_parts(&mut r)?;
     close(&start, &r)?;
-    match message(kind, &mut slots) {
-        Ok(pdu) => Ok(pdu),
-        Err(id) => Err(Bad::Refused(Refusal {
+    Ok(parts)
+}
+
+/// Finds the message that is all of the octets: its kind, and all values that it needs. It takes no memory.
+#[tactic(auto, using(crate::proofs::Found::wrong_parts, crate::proofs::Found::found_whole, crate::proofs::Found::found_lacking))]
+fn find_message(bytes: &[u8]) -> Result<(MessageKind, Slots<'_>), Refusal>
+    ensures { IsFound (message_at bytes.now) result }
+{
+    let (kind, slots) = read_whole(bytes)?;
+    if let Some(id) = slots.lacking(rows(&ies_of(kind))) {
+        return Err(Refusal {
             reason: Reason::MissingIe(id),
             place: bytes.len() as u64,
-        })),
+        });
     }
+    Ok((kind, slots))
+}
+
+/// Reads a message that is all of the octets, piece by piece.
+#[tactic(auto, using(crate::proofs::Found::found_ok, crate::proofs::Found::found_short, crate::proofs::Found::found_made))]
+pub(crate) fn read_pieces(alloc: Global, bytes: &[u8]) -> Result<Pdu, Bad>
+    ensures { IsRead (message_at bytes.now) result }
+{
+    let (kind, mut slots) = find_message(bytes)?;
+    Ok(message(alloc, kind, &mut slots)?)
 }
 
 /// Reads a message that is all of the octets: one in its usual form at once, and any other piece by piece.
 fn read_message(alloc: Global, bytes: &[u8]) -> Result<Pdu, Bad>
-    ensures { IsAnswer (message_at bytes.now) result }
+    ensures { IsRead (message_at bytes.now) result }
 {
     if let Some(pdu) = read_usual(alloc, bytes) {
         return Ok(pdu);
@@ -144,34 +163,50 @@ fn read_message(alloc: Global, bytes: &[u8]) -> Result<Pdu, Bad>
     read_pieces(alloc, bytes)
 }
 
-/// Reads a message that an MME receives.
-#[tactic(auto, unfolding(crate::specs::Built::uplink_at))]
-fn read_received(alloc: Global, bytes: &[u8]) -> Result<Pdu, Bad>
-    ensures { IsAnswer (uplink_at bytes.now) result }
+/// Reads a message that an MME receives, piece by piece.
+#[tactic(auto, using(crate::proofs::Found::uplink_ok, crate::proofs::Found::uplink_other, crate::proofs::Found::uplink_short, crate::proofs::Found::uplink_refused, crate::proofs::Found::found_made))]
+fn receive_pieces(alloc: Global, bytes: &[u8]) -> Result<Pdu, Bad>
+    ensures { IsRead (uplink_at bytes.now) result }
 {
-    let pdu = read_message(alloc, bytes)?;
-    if is_downlink(pdu.kind()) {
+    let (kind, mut slots) = find_message(bytes)?;
+    if is_downlink(kind) {
         return Err(Bad::Refused(Refusal {
             reason: Reason::WrongDirection,
             place: 1,
         }));
     }
-    Ok(pdu)
+    Ok(message(alloc, kind, &mut slots)?)
+}
+
+/// Reads a message that an MME receives: one in its usual form at once, and any other piece by piece.
+#[tactic(auto, unfolding(crate::specs::Built::uplink_at))]
+fn read_received(alloc: Global, bytes: &[u8]) -> Result<Pdu, Bad>
+    ensures { IsRead (uplink_at bytes.now) result }
+{
+    if let Some(pdu) = read_usual(alloc, bytes) {
+        if !is_downlink(pdu.kind()) {
+            return Ok(pdu);
+        }
+    }
+    receive_pieces(alloc, bytes)
 }
 
 /// Reads the message that all of the octets are. It is refused for the first piece that is wrong, at its octet: Truncated,
 /// LongLength, NonZeroPadding, NotMinimal, OutOfRange, TooLong, SequenceExtension, BadChoice, BadCriticality, TrailingBytes as
 /// the pieces are (ITU-T X.691); OtherProcedure at octet 1 for an outcome and procedure code of no message; RepeatedIe at the
 /// second id; and where no piece is wrong MissingIe at the end of the octets, for the first IE of the message's table that it
-/// needs. IEs may stand in any order and with any criticality, and other IEs are passed over. It takes memory for the NAS-PDU,
-/// the key, the radio capability and the lists that it keeps.
+/// needs. IEs may stand in any order and with any criticality, and other IEs are passed over. Memory is taken once
+/// the message is found right, for its NAS-PDU, key, radio capability and lists of E-RABs.
 pub fn read_pdu(alloc: Global, bytes: &[u8]) -> Result<Pdu, Bad>
     // What is read is spelled so, and what is refused is refused for the refusal that is due.
     ensures answers { Answers (Spells bytes.now) (Refused bytes.now) result }
     // The message that the octets are is read, unless memory runs out.
     ensures only { (p : Pdu) → Spells bytes.now p → IsAnswer (Ok p) result }
-    // The refusal that is due is given, unless memory runs out.
-    ensures refused { (e : Refusal) → Refused bytes.now e → IsAnswer (Err e) result }
+    // The refusal that is due is given, whatever memory there is.
+    ensures refused { (e : Refusal) → Refused bytes.now e → result ≡ Err (bad.Refused e) }
+    // Memory runs out only for a message with a field that takes some.
+    ensures memory { result ≡ Err bad.OutOfMemory
+        → (p : Pdu) × Spells bytes.now p × (takes_memory p ≡ true) }
     // What is read can be written again.
     ensures right { IfOk result IsRight }
     // The answer is a function of the octets.
@@ -185,7 +220,9 @@ pub fn read_pdu(alloc: Global, bytes: &[u8]) -> Result<Pdu, Bad>
 pub fn read_uplink(alloc: Global, bytes: &[u8]) -> Result<Pdu, Bad>
     ensures answers { Answers (SpellsUplink bytes.now) (RefusedUplink bytes.now) result }
     ensures only { (p : Pdu) → SpellsUplink bytes.now p → IsAnswer (Ok p) result }
-    ensures refused { (e : Refusal) → RefusedUplink bytes.now e → IsAnswer (Err e) result }
+    ensures refused { (e : Refusal) → RefusedUplink bytes.now e → result ≡ Err (bad.Refused e) }
+    ensures memory { result ≡ Err bad.OutOfMemory
+        → (p : Pdu) × SpellsUplink bytes.now p × (takes_memory p ≡ true) }
     ensures right { IfOk result IsRight }
     ensures reading { IsAnswer (uplink_at bytes.now) result }
 {

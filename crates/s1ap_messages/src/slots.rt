@@ -1,33 +1,60 @@
 //! A slot for each row of a message's table.
 
-ghost use Rattle.std.specs.Prelude.{◌≡◌, ◌<◌, IfSome, None, slice_set, slice_index_or};
-ghost use Rattle.s1ap_messages.specs.Reading.{empty, is_filled, noted};
+ghost use Rattle.std.specs.Prelude.{◌≡◌, ◌<◌, ◌≤◌, ◌&&◌, IfSome, None, is_none, length, slice_set, slice_index_or};
+ghost use Rattle.s1ap_messages.specs.Reading.{empty, is_filled, noted, lacking};
 
-use crate::value::OwnedValue;
+use crate::value::FoundValue;
+use s1ap_ies::IeRow;
 use std::marker::Model;
 
-/// The values of a message that were read, each in the place of its row.
+/// The values of a message that were found, each in the place of its row.
 #[derive(Drop)]
-pub struct Slots {
-    values: [Option<OwnedValue>; 6],
+pub struct Slots<'a> {
+    first: Option<FoundValue<'a>>,
+    second: Option<FoundValue<'a>>,
+    third: Option<FoundValue<'a>>,
+    fourth: Option<FoundValue<'a>>,
+    fifth: Option<FoundValue<'a>>,
+    sixth: Option<FoundValue<'a>>,
 }
 
-impl Model for Slots {
-    ghost use Rattle.std.specs.Prelude.{List, Option};
+impl<'a> Model for Slots<'a> {
+    ghost use Rattle.std.specs.Prelude.{List, [], ◌∷◌, Option};
     ghost use Rattle.s1ap_messages.specs.Values.{FieldValue};
 
     ghost Value = { List (Option FieldValue) };
 
-    ghost view = { λ slots. slots.values };
+    ghost view = { λ slots. slots.first ∷ slots.second ∷ slots.third ∷ slots.fourth ∷ slots.fifth ∷ slots.sixth ∷ [] };
 }
 
-impl Slots {
+impl<'a> Slots<'a> {
     /// No value yet.
-    pub fn new() -> Slots
+    pub fn new() -> Slots<'a>
         ensures { result ≡ empty }
     {
         Slots {
-            values: [None, None, None, None, None, None],
+            first: None,
+            second: None,
+            third: None,
+            fourth: None,
+            fifth: None,
+            sixth: None,
+        }
+    }
+
+    /// What stands in that place.
+    fn at(&self, place: usize) -> &Option<FoundValue<'a>>
+        requires { place < 6 }
+        ensures value { result.now ≡ slice_index_or self.now place None }
+        ensures places { length self.now ≡ 6 }
+    {
+        match place {
+            0 => &self.first,
+            1 => &self.second,
+            2 => &self.third,
+            3 => &self.fourth,
+            4 => &self.fifth,
+            _ => &self.sixth,
         }
     }
 
@@ -37,27 +64,70 @@ impl Slots {
         ensures { result ≡ is_filled place self.now }
     {
         match place {
-            Some(place) => self.values[place].is_some(),
+            Some(place) => self.at(place).is_some(),
             None => false,
         }
     }
 
-    /// Keeps a value that was read, in its place.
-    pub fn note(&mut self, found: Option<(usize, OwnedValue)>)
+    /// Keeps a value that was found, in its place.
+    pub fn note(&mut self, found: Option<(usize, FoundValue<'a>)>)
         requires { IfSome found (λ f. f.0 < 6) }
-        ensures { self.new ≡ noted self.old found }
+        ensures { self.new ≡ noted self.old found.entry }
     {
-        if let Some((place, value)) = found {
-            self.values[place] = Some(value);
+        let Some((place, value)) = found else {
+            return;
+        };
+        match place {
+            0 => self.first = Some(value),
+            1 => self.second = Some(value),
+            2 => self.third = Some(value),
+            3 => self.fourth = Some(value),
+            4 => self.fifth = Some(value),
+            _ => self.sixth = Some(value),
         }
     }
 
+    /// Does a message need the row, while there is no value in that place?
+    fn lacks(&self, row: IeRow, place: usize) -> bool
+        requires { place < 6 }
+        ensures value { result ≡ (row.needed && is_none (slice_index_or self.now place None)) }
+        ensures places { length self.now ≡ 6 }
+    {
+        let value = self.at(place);
+        row.needed && value.is_none()
+    }
+
+    /// The id of the first row that a message needs and that has no value in its place.
+    #[tactic(auto, unfolding(crate::specs::Reading::lacking))]
+    pub fn lacking(&self, rows: &[IeRow]) -> Option<u16>
+        requires { length rows.now ≤ 6 }
+        ensures { result ≡ lacking rows.now self.now }
+    {
+        let mut left = rows;
+        let mut place = 0;
+        while let [row, later @ ..] = left {
+            if self.lacks(*row, place) {
+                return Some(row.id);
+            }
+            left = later;
+            place += 1;
+        }
+        None
+    }
+
     /// Takes the value in that place out.
-    pub fn take(&mut self, place: usize) -> Option<OwnedValue>
+    pub fn take(&mut self, place: usize) -> Option<FoundValue<'a>>
         requires { place < 6 }
         ensures value { result ≡ slice_index_or self.old place None }
         ensures rest { self.new ≡ slice_set self.old place None }
     {
-        self.values[place].take()
+        match place {
+            0 => self.first.take(),
+            1 => self.second.take(),
+            2 => self.third.take(),
+            3 => self.fourth.take(),
+            4 => self.fifth.take(),
+            _ => self.sixth.take(),
+        }
     }
 }

@@ -1,6 +1,7 @@
 //! Messages in their usual form: read and written octet by octet. Any other form goes piece by piece.
 
-ghost use Rattle.std.specs.Prelude.{◌≡◌, ◌<◌, ◌∷◌, IfOk, IfSome, length};
+ghost use Rattle.std.specs.Prelude.{◌≡◌, ◌<◌, ◌∷◌, IfOk, IfSome, Ok, length};
+ghost use Rattle.s1ap_messages.specs.Built.{message_at};
 ghost use Rattle.s1ap_messages.specs.Run.{written, IsRight};
 ghost use Rattle.s1ap_messages.specs.Usual.{counted, usual_octets, IsUsual};
 
@@ -36,12 +37,19 @@ fn parts(octets: &[u8]) -> Option<(u8, u8, u8, u8, &[u8])>
 }
 
 /// The message that the octets are, where they are in its usual form.
-pub fn read_usual(alloc: Global, octets: &[u8]) -> Option<Pdu>
+fn find_usual(alloc: Global, octets: &[u8]) -> Option<Pdu>
     ensures { IfSome result (λ p. (octets.now ≡ usual_octets p) × IsUsual p) }
 {
     let (outcome, code, criticality, count, ies) = parts(octets)?;
     let kind = kind_of_header(outcome, code, criticality)?;
     fields(alloc, kind, ies, count)
+}
+
+/// What reading gives of octets that are a message in its usual form.
+pub fn read_usual(alloc: Global, octets: &[u8]) -> Option<Pdu>
+    ensures { IfSome result (λ p. message_at octets.now ≡ Ok p) }
+{
+    find_usual(alloc, octets)
 }
 
 /// The octets that are written for a message, where it is of a usual kind.

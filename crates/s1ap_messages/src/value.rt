@@ -1,20 +1,20 @@
 //! The values of IEs.
 
-ghost use Rattle.std.specs.Prelude.{◌≡◌};
-ghost use Rattle.aper_fields.specs.Reading.{octet_string_at, fixed_octets_at};
-ghost use Rattle.s1ap_ies.specs.Memory.{GivesIn};
+ghost use Rattle.std.specs.Prelude.{◌≡◌, IfOk};
+ghost use Rattle.aper_fields.specs.Reading.{Gives, octet_string_at, fixed_octets_at};
 ghost use Rattle.s1ap_messages.specs.Reading.{value_at};
 
-use crate::lists::read_erabs;
+use crate::lists::{FoundErabs, find_erabs};
 use crate::pdu::{ErabsDone, ErabsToSetup};
 use aper_fields::{BitReader, EnumValue, Ranged, read_enum, read_octet_string, read_octets_fixed};
 use device_types::Octets;
-use echo_base::Bad;
-use s1ap_ies::{BitRates, Cause, Cgi, SecCaps, Stmsi, Tai, UeIds};
+use echo_base::{OutOfMemory, Refusal};
+use s1ap_ies::{BitRates, Cause, Cgi, ErabDone, ErabToSetup, SecCaps, Stmsi, Tai, UeIds};
 use std::alloc::Global;
+use std::marker::Model;
 
-/// The value of an IE that a message has (TS 36.413, 9.2). Octets and lists are owned where they were read, and lent where
-/// they are written.
+/// The value of an IE that a message has (TS 36.413, 9.2). Octets and lists lie in what is read where they were found, and are
+/// lent where they are written.
 #[derive(Drop)]
 pub enum IeValue<O, S, D> {
     /// MME UE S1AP ID (9.2.3.3), the IE 0.
@@ -49,50 +49,71 @@ pub enum IeValue<O, S, D> {
     Rrc(EnumValue),
 }
 
-/// A value as it was read.
-pub type OwnedValue = IeValue<Octets, ErabsToSetup, ErabsDone>;
+/// Octets where they lie in what is read.
+#[derive(Drop)]
+pub struct FoundOctets<'a> {
+    octets: &'a [u8],
+}
+
+impl<'a> Model for FoundOctets<'a> {
+    ghost use Rattle.std.specs.Prelude.{ℕ, List};
+
+    ghost Value = { List ℕ };
+
+    ghost view = { λ found. found.octets.now };
+}
+
+impl<'a> FoundOctets<'a> {
+    /// The octets in memory of their own.
+    pub fn own(&self, alloc: Global) -> Result<Octets, OutOfMemory>
+        ensures { IfOk result (λ own. own ≡ self.now) }
+    {
+        Ok(Octets::from(Vec::from_slice(alloc, self.octets)?))
+    }
+}
+
+/// A value as it was found.
+pub type FoundValue<'a> = IeValue<
+    FoundOctets<'a>,
+    FoundErabs<'a, ErabToSetup>,
+    FoundErabs<'a, ErabDone>,
+>;
 
 /// A value as it is written.
 pub type LentValue<'a> = IeValue<&'a Octets, &'a ErabsToSetup, &'a ErabsDone>;
 
-/// Reads an octet string of at most so many octets, into memory of its own.
-fn read_text(alloc: Global, r: &mut BitReader, most: usize) -> Result<Octets, Bad>
-    ensures { GivesIn result r.old r.new (octet_string_at most r.old) }
+/// Finds an octet string of at most so many octets.
+fn find_text<'a>(r: &mut BitReader<'a>, most: usize) -> Result<FoundOctets<'a>, Refusal>
+    ensures { Gives result r.old r.new (octet_string_at most r.old) }
 {
-    let mut ahead = r.ahead();
-    let octets = read_octet_string(&mut ahead, most)?;
-    let text = Octets::from(Vec::from_slice(alloc, octets)?);
-    *r = ahead;
-    Ok(text)
+    let octets = read_octet_string(r, most)?;
+    Ok(FoundOctets { octets })
 }
 
-/// Reads a security key, a bit string of 256 bits, into memory of its own.
-fn read_key(alloc: Global, r: &mut BitReader) -> Result<Octets, Bad>
-    ensures { GivesIn result r.old r.new (fixed_octets_at 32 r.old) }
+/// Finds a security key, a bit string of 256 bits.
+fn find_key<'a>(r: &mut BitReader<'a>) -> Result<FoundOctets<'a>, Refusal>
+    ensures { Gives result r.old r.new (fixed_octets_at 32 r.old) }
 {
-    let mut ahead = r.ahead();
-    let octets = read_octets_fixed(&mut ahead, 32)?;
-    let key = Octets::from(Vec::from_slice(alloc, octets)?);
-    *r = ahead;
-    Ok(key)
+    let octets = read_octets_fixed(r, 32)?;
+    Ok(FoundOctets { octets })
 }
 
-/// Reads the value of the IE with that id; the last is 134.
+/// Finds the value of the IE with that id; the last is 134.
 #[tactic(auto, unfolding(crate::specs::Reading::value_at))]
-pub fn read_value(alloc: Global, r: &mut BitReader, id: u16) -> Result<OwnedValue, Bad>
-    ensures { GivesIn result r.old r.new (value_at id r.old) }
+pub fn find_value<'a>(r: &mut BitReader<'a>, id: u16) -> Result<FoundValue<'a>, Refusal>
+    ensures { Gives result r.old r.new (value_at id r.old) }
 {
     match id {
         0 => Ok(IeValue::Mme(Ranged::<0, 4294967295>::read(r)? as u32)),
         2 => Ok(IeValue::Cause(Cause::read(r)?)),
         8 => Ok(IeValue::Enb(Ranged::<0, 16777215>::read(r)? as u32)),
-        24 => Ok(IeValue::Bearers(read_erabs(alloc, r, 52)?)),
-        26 => Ok(IeValue::Nas(read_text(alloc, r, 2048)?)),
-        51 => Ok(IeValue::Done(read_erabs(alloc, r, 50)?)),
+        24 => Ok(IeValue::Bearers(find_erabs(r, 52)?)),
+        26 => Ok(IeValue::Nas(find_text(r, 2048)?)),
+        51 => Ok(IeValue::Done(find_erabs(r, 50)?)),
         66 => Ok(IeValue::Rates(BitRates::read(r)?)),
         67 => Ok(IeValue::Tai(Tai::read(r)?)),
-        73 => Ok(IeValue::Key(read_key(alloc, r)?)),
-        74 => Ok(IeValue::Radio(read_text(alloc, r, 16383)?)),
+        73 => Ok(IeValue::Key(find_key(r)?)),
+        74 => Ok(IeValue::Radio(find_text(r, 16383)?)),
         96 => Ok(IeValue::Stmsi(Stmsi::read(r)?)),
         99 => Ok(IeValue::Ids(UeIds::read(r)?)),
         100 => Ok(IeValue::Cgi(Cgi::read(r)?)),

@@ -1,7 +1,7 @@
 //! Long fields: NAS-PDUs and radio capabilities.
 
 use super::refusal_of;
-use crate::{Pdu, read_pdu, write_pdu};
+use crate::{read_pdu, write_pdu};
 use echo_base::Reason::TooLong;
 use echo_base::Refusal;
 use std::alloc::Global;
@@ -22,17 +22,7 @@ fn longest_nas(rt: HostRuntime) -> Result<(), Fail> {
     // 2,048 octets: 8800; with their length 2,050: 8802; all IEs with the octets before them 2,070: 8816
     let text = "000b408816000003000000020001000800020001001a0088028800";
     let octets = with_octets(rt.alloc(), text, 2048)?;
-    let pdu = read_pdu(rt.alloc(), &octets)?;
-    let Pdu::DownlinkNasTransport {
-        mme: _,
-        enb: _,
-        nas,
-    } = &pdu
-    else {
-        assert!(rt; false);
-        return Ok(());
-    };
-    assert_eq!(rt; nas.items().len(), 2048);
+    comes_back(&rt, rt.alloc(), &octets)?;
     // 2,049 octets behind their length in octet 25; and of as many none, behind their length in octet 23
     let text = "000b408817000003000000020001000800020001001a0088038801";
     let octets = with_octets(rt.alloc(), text, 2049)?;

@@ -1,13 +1,19 @@
 //! Messages in their usual form are read and written octet by octet, and piece by piece they are the same.
 
-use super::fields_of;
-use crate::read_pdu;
 use crate::reading::read_pieces;
 use crate::usual::{read_usual, write_usual};
 use crate::writing::write_pieces;
+use crate::{Pdu, read_pdu};
 use std::alloc::Global;
 use std::process::Abort;
 use std::test::Fail;
+
+/// Are both printed alike?
+fn are_alike(alloc: Global, one: &Pdu, other: &Pdu) -> Result<bool, Fail> {
+    let one = format!(in alloc; "{one:?}")?;
+    let other = format!(in alloc; "{other:?}")?;
+    Ok(one.as_str() == other.as_str())
+}
 
 /// Is the message in its usual form, and written in it?
 fn is_usual(alloc: Global, octets: &[u8]) -> Result<bool, Fail> {
@@ -18,7 +24,7 @@ fn is_usual(alloc: Global, octets: &[u8]) -> Result<bool, Fail> {
     let Some(written) = write_usual(alloc, &pdu)? else {
         return Ok(false);
     };
-    Ok(fields_of(&found) == fields_of(&pdu) && written.items() == octets)
+    Ok(are_alike(alloc, &found, &pdu)? && written.items() == octets)
 }
 
 /// Read and written piece by piece it is the same.
@@ -26,7 +32,7 @@ fn is_by_pieces(alloc: Global, octets: &[u8]) -> Result<bool, Fail> {
     let pdu = read_pdu(alloc, octets)?;
     let found = read_pieces(alloc, octets)?;
     let written = write_pieces(alloc, &pdu)?;
-    Ok(fields_of(&found) == fields_of(&pdu) && written.items() == octets)
+    Ok(are_alike(alloc, &found, &pdu)? && written.items() == octets)
 }
 
 fn are_usual(rt: &impl Abort, alloc: Global, lines: &str) -> Result<(), Fail> {

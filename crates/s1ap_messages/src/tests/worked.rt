@@ -1,165 +1,130 @@
-//! Worked messages that carry NAS-PDUs, read and written. In the comments e is an extension bit and o the bit of the
-//! iE-Extensions, both 0 unless shown; p is padding.
+//! Worked messages, read and written. Of each line of a table: the octets; those that are written for what is read, or `=` for the
+//! same ones; and what is read, as it is printed. In the comments e is an extension bit and o the bit of the iE-Extensions, both 0
+//! unless shown; p is padding.
 
-use super::{Fields, agrees};
-use aper_fields::EnumValue;
-use s1ap_ies::{Cgi, Stmsi, Tai};
+use super::cases;
+use crate::{read_pdu, write_pdu};
+use std::alloc::Global;
+use std::process::Abort;
 use std::test::Fail;
 
-const TAI: Tai = Tai {
-    plmn: 0x02f839,
-    tac: 1,
-};
-
-const CGI: Cgi = Cgi {
-    plmn: 0x02f839,
-    cell: 1,
-};
-
-// RRC Establishment Causes: mo-Signalling is e 011, mo-Data e 100
-const SIGNALLING: EnumValue = EnumValue {
-    extended: false,
-    index: 3,
-};
-
-const DATA: EnumValue = EnumValue {
-    extended: false,
-    index: 4,
-};
-
-#[test]
-fn initial_ue_messages(rt: HostRuntime) -> Result<(), Fail> {
-    let cases: [(&str, Fields); 4] = [
-        // an attach request; the IEs 8, 26, 67, 100, 134
-        (
-            "000c403e000005000800020001001a00161507417108298039000000001002e0e000040201d011004300060002f8390001006440080002f839000000100086400130",
-            Fields::Initial(
-                1,
-                b"\x07\x41\x71\x08\x29\x80\x39\x00\x00\x00\x00\x10\x02\xe0\xe0\x00\x04\x02\x01\xd0\x11",
-                TAI,
-                CGI,
-                SIGNALLING,
-                None,
-            ),
-        ),
-        // a service request; the IE 96 behind them: e o 00000001 p(6), the MME code 1, is 00 40
-        (
-            "000c4037000006000800020001001a000504c7000000004300060002f8390001006440080002f83900000010008640014000600006004000000001",
-            Fields::Initial(
-                1,
-                b"\xc7\x00\x00\x00",
-                TAI,
-                CGI,
-                DATA,
-                Some(Stmsi { mmec: 1, tmsi: 1 }),
-            ),
-        ),
-        // a tracking area update request, from the area 9
-        (
-            "000c4038000005000800020002001a00100f0748700bf602f83900010100000001004300060002f8390009006440080002f839000000100086400130",
-            Fields::Initial(
-                2,
-                b"\x07\x48\x70\x0b\xf6\x02\xf8\x39\x00\x01\x01\x00\x00\x00\x01",
-                Tai {
-                    plmn: 0x02f839,
-                    tac: 9,
-                },
-                CGI,
-                SIGNALLING,
-                None,
-            ),
-        ),
-        // the greatest eNB UE S1AP ID: three octets, so 10 p(6) before them
-        (
-            "000c40400000050008000480ffffff001a00161507417108298039000000001002e0e000040201d011004300060002f8390001006440080002f839000000100086400130",
-            Fields::Initial(
-                0xffffff,
-                b"\x07\x41\x71\x08\x29\x80\x39\x00\x00\x00\x00\x10\x02\xe0\xe0\x00\x04\x02\x01\xd0\x11",
-                TAI,
-                CGI,
-                SIGNALLING,
-                None,
-            ),
-        ),
-    ];
-    for (text, want) in cases {
-        agrees(&rt, rt.alloc(), text, want)?;
-    }
+/// The octets are read as the message that is printed so, and it is written as those that are wanted.
+pub fn becomes(
+    rt: &impl Abort,
+    alloc: Global,
+    octets: &[u8],
+    want: &[u8],
+    printed: &str,
+) -> Result<(), Fail> {
+    let pdu = read_pdu(alloc, octets)?;
+    let text = format!(in alloc; "{pdu:?}")?;
+    assert_eq!(rt; text.as_str(), printed);
+    let written = write_pdu(alloc, &pdu)?;
+    assert_eq!(rt; written.items(), want, "for {printed}");
     Ok(())
 }
 
 #[test]
-fn uplink_nas_transports(rt: HostRuntime) -> Result<(), Fail> {
-    let cases: [(&str, Fields); 3] = [
-        // an authentication response
-        (
-            "000d4035000005000000020001000800020001001a000c0b075308a0a1a2a3a4a5a6a7006440080002f83900000010004340060002f8390001",
-            Fields::Uplink(
-                1,
-                1,
-                b"\x07\x53\x08\xa0\xa1\xa2\xa3\xa4\xa5\xa6\xa7",
-                CGI,
-                TAI,
-            ),
-        ),
-        // a security mode complete
-        (
-            "000d4032000005000000020001000800020001001a000908470000000000075e006440080002f83900000010004340060002f8390001",
-            Fields::Uplink(1, 1, b"\x47\x00\x00\x00\x00\x00\x07\x5e", CGI, TAI),
-        ),
-        // an attach complete
-        (
-            "000d4037000005000000020001000800020001001a000e0d270000000001074300035200c2006440080002f83900000010004340060002f8390001",
-            Fields::Uplink(
-                1,
-                1,
-                b"\x27\x00\x00\x00\x00\x01\x07\x43\x00\x03\x52\x00\xc2",
-                CGI,
-                TAI,
-            ),
-        ),
-    ];
-    for (text, want) in cases {
-        agrees(&rt, rt.alloc(), text, want)?;
+fn worked_messages(rt: HostRuntime) -> Result<(), Fail> {
+    for table in [NAS_TRANSPORTS, CONTEXTS, OTHER_IES, EXTENDED_ITEMS] {
+        for (text, wants) in cases(rt.alloc(), table)? {
+            if let Some((written, printed)) = wants.split_once(' ') {
+                let octets = hex::decode(rt.alloc(), text)?;
+                let want = hex::decode(rt.alloc(), if written == "=" { text } else { written })?;
+                becomes(&rt, rt.alloc(), &octets, &want, printed)?;
+            }
+        }
     }
     Ok(())
 }
 
-#[test]
-fn downlink_nas_transports(rt: HostRuntime) -> Result<(), Fail> {
-    let cases: [(&str, Fields); 5] = [
-        // a service reject
-        (
-            "000b4017000003000000020001000800020001001a000403074e0a",
-            Fields::Downlink(1, 1, b"\x07\x4e\x0a"),
-        ),
-        // an authentication request
-        (
-            "000b4038000003000000020001000800020001001a002524075200000102030405060708090a0b0c0d0e0f10101112131415161718191a1b1c1d1e1f",
-            Fields::Downlink(
-                1,
-                1,
-                b"\x07\x52\x00\x00\x01\x02\x03\x04\x05\x06\x07\x08\x09\x0a\x0b\x0c\x0d\x0e\x0f\x10\x10\x11\x12\x13\x14\x15\x16\x17\x18\x19\x1a\x1b\x1c\x1d\x1e\x1f",
-            ),
-        ),
-        // a security mode command
-        (
-            "000b401b000003000000020001000800020001001a000807075d000002e0e0",
-            Fields::Downlink(1, 1, b"\x07\x5d\x00\x00\x02\xe0\xe0"),
-        ),
-        // an authentication reject
-        (
-            "000b4016000003000000020001000800020001001a0003020754",
-            Fields::Downlink(1, 1, b"\x07\x54"),
-        ),
-        // a tracking area update reject
-        (
-            "000b4017000003000000020001000800020002001a000403074b0c",
-            Fields::Downlink(1, 2, b"\x07\x4b\x0c"),
-        ),
-    ];
-    for (text, want) in cases {
-        agrees(&rt, rt.alloc(), text, want)?;
-    }
-    Ok(())
-}
+const NAS_TRANSPORTS: &str = "
+# an attach request; the IEs 8, 26, 67, 100, 134
+000c403e000005000800020001001a00161507417108298039000000001002e0e000040201d011004300060002f8390001006440080002f839000000100086400130 = InitialUeMessage { enb: 1, nas: ListOf { items: [7, 65, 113, 8, 41, 128, 57, 0, 0, 0, 0, 16, 2, 224, 224, 0, 4, 2, 1, 208, 17] }, tai: Tai { plmn: 194617, tac: 1 }, cgi: Cgi { plmn: 194617, cell: 1 }, rrc: EnumValue { extended: false, index: 3 }, stmsi: None }
+# a service request; the IE 96 behind them: e o 00000001 p(6), the MME code 1, is 00 40
+000c4037000006000800020001001a000504c7000000004300060002f8390001006440080002f83900000010008640014000600006004000000001 = InitialUeMessage { enb: 1, nas: ListOf { items: [199, 0, 0, 0] }, tai: Tai { plmn: 194617, tac: 1 }, cgi: Cgi { plmn: 194617, cell: 1 }, rrc: EnumValue { extended: false, index: 4 }, stmsi: Some(Stmsi { mmec: 1, tmsi: 1 }) }
+# a tracking area update request, from the area 9
+000c4038000005000800020002001a00100f0748700bf602f83900010100000001004300060002f8390009006440080002f839000000100086400130 = InitialUeMessage { enb: 2, nas: ListOf { items: [7, 72, 112, 11, 246, 2, 248, 57, 0, 1, 1, 0, 0, 0, 1] }, tai: Tai { plmn: 194617, tac: 9 }, cgi: Cgi { plmn: 194617, cell: 1 }, rrc: EnumValue { extended: false, index: 3 }, stmsi: None }
+# the greatest eNB UE S1AP ID: three octets, so 10 p(6) before them
+000c40400000050008000480ffffff001a00161507417108298039000000001002e0e000040201d011004300060002f8390001006440080002f839000000100086400130 = InitialUeMessage { enb: 16777215, nas: ListOf { items: [7, 65, 113, 8, 41, 128, 57, 0, 0, 0, 0, 16, 2, 224, 224, 0, 4, 2, 1, 208, 17] }, tai: Tai { plmn: 194617, tac: 1 }, cgi: Cgi { plmn: 194617, cell: 1 }, rrc: EnumValue { extended: false, index: 3 }, stmsi: None }
+# an authentication response
+000d4035000005000000020001000800020001001a000c0b075308a0a1a2a3a4a5a6a7006440080002f83900000010004340060002f8390001 = UplinkNasTransport { mme: 1, enb: 1, nas: ListOf { items: [7, 83, 8, 160, 161, 162, 163, 164, 165, 166, 167] }, cgi: Cgi { plmn: 194617, cell: 1 }, tai: Tai { plmn: 194617, tac: 1 } }
+# a security mode complete
+000d4032000005000000020001000800020001001a000908470000000000075e006440080002f83900000010004340060002f8390001 = UplinkNasTransport { mme: 1, enb: 1, nas: ListOf { items: [71, 0, 0, 0, 0, 0, 7, 94] }, cgi: Cgi { plmn: 194617, cell: 1 }, tai: Tai { plmn: 194617, tac: 1 } }
+# an attach complete
+000d4037000005000000020001000800020001001a000e0d270000000001074300035200c2006440080002f83900000010004340060002f8390001 = UplinkNasTransport { mme: 1, enb: 1, nas: ListOf { items: [39, 0, 0, 0, 0, 1, 7, 67, 0, 3, 82, 0, 194] }, cgi: Cgi { plmn: 194617, cell: 1 }, tai: Tai { plmn: 194617, tac: 1 } }
+# a service reject
+000b4017000003000000020001000800020001001a000403074e0a = DownlinkNasTransport { mme: 1, enb: 1, nas: ListOf { items: [7, 78, 10] } }
+# an authentication request
+000b4038000003000000020001000800020001001a002524075200000102030405060708090a0b0c0d0e0f10101112131415161718191a1b1c1d1e1f = DownlinkNasTransport { mme: 1, enb: 1, nas: ListOf { items: [7, 82, 0, 0, 1, 2, 3, 4, 5, 6, 7, 8, 9, 10, 11, 12, 13, 14, 15, 16, 16, 17, 18, 19, 20, 21, 22, 23, 24, 25, 26, 27, 28, 29, 30, 31] } }
+# a security mode command
+000b401b000003000000020001000800020001001a000807075d000002e0e0 = DownlinkNasTransport { mme: 1, enb: 1, nas: ListOf { items: [7, 93, 0, 0, 2, 224, 224] } }
+# an authentication reject
+000b4016000003000000020001000800020001001a0003020754 = DownlinkNasTransport { mme: 1, enb: 1, nas: ListOf { items: [7, 84] } }
+# a tracking area update reject
+000b4017000003000000020001000800020002001a000403074b0c = DownlinkNasTransport { mme: 1, enb: 2, nas: ListOf { items: [7, 75, 12] } }
+";
+
+const CONTEXTS: &str = "
+# an initial context setup request. Header, and 132 octets in two octets of length, 8084; six IEs; the IEs 0 and 8.
+# 66: 1000000000 is 3b9aca00, four octets: e o 011 p(3) is 18, and 011 p(5) is 60
+# 24: one E-RAB, so 00; the item 52 of 49 octets: e o o with o = 10, e 0101, 45; e e e p(5), QCI, 0009; e o 1000 0 0, e 00011111 p(7),
+# 200f80; address, TEID; 34 octets of NAS-PDU. 107: e o e 1100000000000000 e 1100000000000000 p(4). 73
+00090080840000060000000200010008000200010042000a183b9aca00603b9aca00001800360000340031450009200f80c0a800010000000122074201e0060002f839000100155201c101090908696e7465726e657405010a2d0001006b000518000c0000004900201111111111111111111111111111111111111111111111111111111111111111 = InitialContextSetupRequest { mme: 1, enb: 1, rates: BitRates { dl: 1000000000, ul: 1000000000 }, bearers: ListOf { items: [ErabToSetup { id: 5, qci: 9, arp: 32, address: 3232235521, teid: 1, nas: Some(ListOf { items: [7, 66, 1, 224, 6, 0, 2, 248, 57, 0, 1, 0, 21, 82, 1, 193, 1, 9, 9, 8, 105, 110, 116, 101, 114, 110, 101, 116, 5, 1, 10, 45, 0, 1] }) }] }, caps: SecCaps { eea: 49152, eia: 49152 }, key: ListOf { items: [17, 17, 17, 17, 17, 17, 17, 17, 17, 17, 17, 17, 17, 17, 17, 17, 17, 17, 17, 17, 17, 17, 17, 17, 17, 17, 17, 17, 17, 17, 17, 17] } }
+# the IEs 0, 8, 51: one E-RAB, so 00; the item 50: e o e 0101 e is 0a, and 00011111 is 1f
+200900220000030000400200010008400200010033400f000032400a0a1fc0a8000200000002 = InitialContextSetupResponse { mme: 1, enb: 1, done: ListOf { items: [ErabDone { id: 5, address: 3232235522, teid: 2 }] } }
+# two of them: the count less 1, and items of 10 octets with the E-RABs 5 and 6
+200900300000030000400200010008400200010033401d010032400a0a1fc0a80002000000020032400a0c1fc0a8000300000003 = InitialContextSetupResponse { mme: 1, enb: 1, done: ListOf { items: [ErabDone { id: 5, address: 3232235522, teid: 2 }, ErabDone { id: 6, address: 3232235523, teid: 3 }] } }
+# two that are to be set up: the count less 1, and items of 14 octets, and of 17 with a NAS-PDU: e o o with o = 10, e 0011, 43; QCI 05; e o
+# 1111 0 0, 3c
+000900760000060000000200010008000200010042000a183b9aca00603b9aca0000180028010034000e050009200f80c0a8000100000001003400114300053c0f800a00000100000102020746006b000518000c0000004900201111111111111111111111111111111111111111111111111111111111111111 = InitialContextSetupRequest { mme: 1, enb: 1, rates: BitRates { dl: 1000000000, ul: 1000000000 }, bearers: ListOf { items: [ErabToSetup { id: 5, qci: 9, arp: 32, address: 3232235521, teid: 1, nas: None }, ErabToSetup { id: 3, qci: 5, arp: 60, address: 167772161, teid: 258, nas: Some(ListOf { items: [7, 70] }) }] }, caps: SecCaps { eea: 49152, eia: 49152 }, key: ListOf { items: [17, 17, 17, 17, 17, 17, 17, 17, 17, 17, 17, 17, 17, 17, 17, 17, 17, 17, 17, 17, 17, 17, 17, 17, 17, 17, 17, 17, 17, 17, 17, 17] } }
+# causes: user-inactivity is the radio network's 20, e 000 e 010100; of the NAS ones, e 010, normal-release is e 00,
+# authentication-failure e 01, detach e 10
+# the IEs 0, 8, 2
+400900140000030000400200010008400200010002400124 = InitialContextSetupFailure { mme: 1, enb: 1, cause: Cause { group: 2, extended: false, index: 2 } }
+# the IEs 0, 8, 2
+00124015000003000000020001000800020001000240020280 = UeContextReleaseRequest { mme: 1, enb: 1, cause: Cause { group: 0, extended: false, index: 20 } }
+# the IEs 99 and 2: the choice e 0, the pair e o, one octet 00 p(2), one octet 00 p(6)
+0017001000000200630004000100010002400120 = UeContextReleaseCommand { ids: Pair { mme: 1, enb: 1 }, cause: Cause { group: 2, extended: false, index: 0 } }
+0017001000000200630004000100010002400122 = UeContextReleaseCommand { ids: Pair { mme: 1, enb: 1 }, cause: Cause { group: 2, extended: false, index: 1 } }
+001700110000020063000400010001000240020280 = UeContextReleaseCommand { ids: Pair { mme: 1, enb: 1 }, cause: Cause { group: 0, extended: false, index: 20 } }
+# the choice e 1, one octet 00 p(4)
+0017000e00000200630002402a0002400120 = UeContextReleaseCommand { ids: Mme(42), cause: Cause { group: 2, extended: false, index: 0 } }
+# the IEs 0 and 8
+2017000f000002000040020001000840020001 = UeContextReleaseComplete { mme: 1, enb: 1 }
+# the IEs 0, 8, 74
+00164016000003000000020001000800020001004a4003020102 = UeCapabilityInfoIndication { mme: 1, enb: 1, radio: ListOf { items: [1, 2] } }
+";
+
+const OTHER_IES: &str = "
+# any criticality
+2017000f000002000000020001000800020001 2017000f000002000040020001000840020001 UeContextReleaseComplete { mme: 1, enb: 1 }
+2017400f000002000040020001000840020001 2017000f000002000040020001000840020001 UeContextReleaseComplete { mme: 1, enb: 1 }
+2017800f000002000080020001000880020001 2017000f000002000040020001000840020001 UeContextReleaseComplete { mme: 1, enb: 1 }
+2017000f000002000080020001000880020001 2017000f000002000040020001000840020001 UeContextReleaseComplete { mme: 1, enb: 1 }
+# the id 75 at the end, in front, without content, and three times
+20170017000003000040020001000840020001004b000400000000 2017000f000002000040020001000840020001 UeContextReleaseComplete { mme: 1, enb: 1 }
+20170017000003004b000400000000000040020001000840020001 2017000f000002000040020001000840020001 UeContextReleaseComplete { mme: 1, enb: 1 }
+20170013000003000040020001004b0000000840020001 2017000f000002000040020001000840020001 UeContextReleaseComplete { mme: 1, enb: 1 }
+2017001d000005004b4001ff000040020001004b0000000840020001004b8001ff 2017000f000002000040020001000840020001 UeContextReleaseComplete { mme: 1, enb: 1 }
+# ids of other messages, whatever they contain
+20170015000003000040020001001a0002ffff000840020001 2017000f000002000040020001000840020001 UeContextReleaseComplete { mme: 1, enb: 1 }
+2017001400000300024001ff000040020001000840020001 2017000f000002000040020001000840020001 UeContextReleaseComplete { mme: 1, enb: 1 }
+20170019000004000040020001ffff0001ffffff0001ff000840020001 2017000f000002000040020001000840020001 UeContextReleaseComplete { mme: 1, enb: 1 }
+# an attach request with the IE 75 behind its own
+000c4046000006000800020001001a00161507417108298039000000001002e0e000040201d011004300060002f8390001006440080002f839000000100086400130004b000400000000 000c403e000005000800020001001a00161507417108298039000000001002e0e000040201d011004300060002f8390001006440080002f839000000100086400130 InitialUeMessage { enb: 1, nas: ListOf { items: [7, 65, 113, 8, 41, 128, 57, 0, 0, 0, 0, 16, 2, 224, 224, 0, 4, 2, 1, 208, 17] }, tai: Tai { plmn: 194617, tac: 1 }, cgi: Cgi { plmn: 194617, cell: 1 }, rrc: EnumValue { extended: false, index: 3 }, stmsi: None }
+# with iE-Extensions in its TAI, o 1: one entry with the id 99 hexadecimal, to be ignored, of one octet
+000c4045000005000800020001001a00161507417108298039000000001002e0e000040201d0110043000d4002f839000100000099400100006440080002f839000000100086400130 000c403e000005000800020001001a00161507417108298039000000001002e0e000040201d011004300060002f8390001006440080002f839000000100086400130 InitialUeMessage { enb: 1, nas: ListOf { items: [7, 65, 113, 8, 41, 128, 57, 0, 0, 0, 0, 16, 2, 224, 224, 0, 4, 2, 1, 208, 17] }, tai: Tai { plmn: 194617, tac: 1 }, cgi: Cgi { plmn: 194617, cell: 1 }, rrc: EnumValue { extended: false, index: 3 }, stmsi: None }
+";
+
+const EXTENDED_ITEMS: &str = "
+# iE-Extensions in the item of a request, which are passed over
+# in the priority: e o 100000 with o = 1 is 60; behind it one entry, 0000, the id 7, to be ignored, the octet aa
+000900680000060000000200010008000200010042000a183b9aca00603b9aca000018001a000034001505000960000000074001aa0f80c0a8000100000001006b000518000c0000004900201111111111111111111111111111111111111111111111111111111111111111 000900610000060000000200010008000200010042000a183b9aca00603b9aca0000180013000034000e050009200f80c0a8000100000001006b000518000c0000004900201111111111111111111111111111111111111111111111111111111111111111 InitialContextSetupRequest { mme: 1, enb: 1, rates: BitRates { dl: 1000000000, ul: 1000000000 }, bearers: ListOf { items: [ErabToSetup { id: 5, qci: 9, arp: 32, address: 3232235521, teid: 1, nas: None }] }, caps: SecCaps { eea: 49152, eia: 49152 }, key: ListOf { items: [17, 17, 17, 17, 17, 17, 17, 17, 17, 17, 17, 17, 17, 17, 17, 17, 17, 17, 17, 17, 17, 17, 17, 17, 17, 17, 17, 17, 17, 17, 17, 17] } }
+# in the QoS: e e o p(5) with o = 1 is 20; the entry stands behind the priority
+000900680000060000000200010008000200010042000a183b9aca00603b9aca000018001a000034001505200920000000074001aa0f80c0a8000100000001006b000518000c0000004900201111111111111111111111111111111111111111111111111111111111111111 000900610000060000000200010008000200010042000a183b9aca00603b9aca0000180013000034000e050009200f80c0a8000100000001006b000518000c0000004900201111111111111111111111111111111111111111111111111111111111111111 InitialContextSetupRequest { mme: 1, enb: 1, rates: BitRates { dl: 1000000000, ul: 1000000000 }, bearers: ListOf { items: [ErabToSetup { id: 5, qci: 9, arp: 32, address: 3232235521, teid: 1, nas: None }] }, caps: SecCaps { eea: 49152, eia: 49152 }, key: ListOf { items: [17, 17, 17, 17, 17, 17, 17, 17, 17, 17, 17, 17, 17, 17, 17, 17, 17, 17, 17, 17, 17, 17, 17, 17, 17, 17, 17, 17, 17, 17, 17, 17] } }
+# in the item: e o o e 0101 with the second o = 1 is 25; the entry stands at the end
+000900680000060000000200010008000200010042000a183b9aca00603b9aca000018001a0000340015250009200f80c0a8000100000001000000074001aa006b000518000c0000004900201111111111111111111111111111111111111111111111111111111111111111 000900610000060000000200010008000200010042000a183b9aca00603b9aca0000180013000034000e050009200f80c0a8000100000001006b000518000c0000004900201111111111111111111111111111111111111111111111111111111111111111 InitialContextSetupRequest { mme: 1, enb: 1, rates: BitRates { dl: 1000000000, ul: 1000000000 }, bearers: ListOf { items: [ErabToSetup { id: 5, qci: 9, arp: 32, address: 3232235521, teid: 1, nas: None }] }, caps: SecCaps { eea: 49152, eia: 49152 }, key: ListOf { items: [17, 17, 17, 17, 17, 17, 17, 17, 17, 17, 17, 17, 17, 17, 17, 17, 17, 17, 17, 17, 17, 17, 17, 17, 17, 17, 17, 17, 17, 17, 17, 17] } }
+# in all three
+000900770000060000000200010008000200010042000a183b9aca00603b9aca0000180029000034002425200960000000074001aa000000080001bb0f80c0a8000100000001000000098002ccdd006b000518000c0000004900201111111111111111111111111111111111111111111111111111111111111111 000900610000060000000200010008000200010042000a183b9aca00603b9aca0000180013000034000e050009200f80c0a8000100000001006b000518000c0000004900201111111111111111111111111111111111111111111111111111111111111111 InitialContextSetupRequest { mme: 1, enb: 1, rates: BitRates { dl: 1000000000, ul: 1000000000 }, bearers: ListOf { items: [ErabToSetup { id: 5, qci: 9, arp: 32, address: 3232235521, teid: 1, nas: None }] }, caps: SecCaps { eea: 49152, eia: 49152 }, key: ListOf { items: [17, 17, 17, 17, 17, 17, 17, 17, 17, 17, 17, 17, 17, 17, 17, 17, 17, 17, 17, 17, 17, 17, 17, 17, 17, 17, 17, 17, 17, 17, 17, 17] } }
+";

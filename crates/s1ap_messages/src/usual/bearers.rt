@@ -1,6 +1,6 @@
 //! Lists of one E-RAB, read from their octets.
 
-ghost use Rattle.std.specs.Prelude.{◌≡◌, ◌≤◌, ◌∷◌, [], ◌++◌, IfSome, is_some};
+ghost use Rattle.std.specs.Prelude.{◌≡◌, ◌≤◌, ◌∷◌, [], IfSome, is_some};
 ghost use Rattle.s1ap_ies.specs.Run.{IsErabDone, IsErabToSetup, IsNas};
 ghost use Rattle.s1ap_messages.specs.Run.{AreSome};
 ghost use Rattle.s1ap_messages.specs.Usual.{nas_octets, done_octets, setup_octets, erabs_octets, ie_octets};
@@ -12,19 +12,18 @@ use device_types::{ListOf, Octets};
 use s1ap_ies::{ErabDone, ErabToSetup};
 use std::alloc::Global;
 
-/// The one item of a list, and what stands behind the list.
+/// The one item of a list, where all of the octets are such a list.
 #[inline(always)]
-fn item(octets: &[u8], list: u8, criticality: u8, id: u8) -> Option<(&[u8], &[u8])>
+fn item(octets: &[u8], id: u8, criticality: u8) -> Option<&[u8]>
     requires { criticality ≤ 2 }
-    ensures { IfSome result (λ x. octets.now ≡ ie_octets list criticality (0 ∷ ie_octets id criticality x.0.now) ++ x.1.now) }
+    ensures { IfSome result (λ x. octets.now ≡ 0 ∷ ie_octets id criticality x.now) }
 {
-    let (content, rest) = ie(octets, list, criticality)?;
-    let (count, items) = one(content)?;
+    let (count, items) = one(octets)?;
     let (item, more) = ie(items, id, criticality)?;
     if count != 0 || !more.is_empty() {
         return None;
     }
-    Some((item, rest))
+    Some(item)
 }
 
 /// A list of one.
@@ -57,15 +56,15 @@ fn done(octets: &[u8]) -> Option<ErabDone>
     })
 }
 
-/// A list of one E-RAB that was set up, and what stands behind it.
+/// A list of one E-RAB that was set up, where all of the octets are it.
 #[tactic(auto, unfolding(crate::specs::Usual::erabs_octets, crate::specs::Usual::items_octets))]
-pub fn erabs_done(alloc: Global, octets: &[u8]) -> Option<(ErabsDone, &[u8])>
-    ensures octets { IfSome result (λ x. octets.now ≡ ie_octets 51 1 (erabs_octets 50 1 done_octets x.0) ++ x.1.now) }
-    ensures right { IfSome result (λ x. AreSome IsErabDone x.0) }
+pub fn erabs_done(alloc: Global, octets: &[u8]) -> Option<ErabsDone>
+    ensures octets { IfSome result (λ list. octets.now ≡ erabs_octets 50 1 done_octets list) }
+    ensures right { IfSome result (λ list. AreSome IsErabDone list) }
 {
-    let (item, rest) = item(octets, 51, 1, 50)?;
-    let erab = done(item)?;
-    Some((list_of(alloc, erab)?, rest))
+    let erab = done(item(octets, 50, 1)?)?;
+    let list = list_of(alloc, erab)?;
+    Some(list)
 }
 
 /// The NAS-PDU of an E-RAB that has one, where all of the octets are it.
@@ -112,13 +111,13 @@ fn setup(alloc: Global, octets: &[u8]) -> Option<ErabToSetup>
     })
 }
 
-/// A list of one E-RAB that is to be set up, and what stands behind it.
+/// A list of one E-RAB that is to be set up, where all of the octets are it.
 #[tactic(auto, unfolding(crate::specs::Usual::erabs_octets, crate::specs::Usual::items_octets))]
-pub fn erabs_to_setup(alloc: Global, octets: &[u8]) -> Option<(ErabsToSetup, &[u8])>
-    ensures octets { IfSome result (λ x. octets.now ≡ ie_octets 24 0 (erabs_octets 52 0 setup_octets x.0) ++ x.1.now) }
-    ensures right { IfSome result (λ x. AreSome IsErabToSetup x.0) }
+pub fn erabs_to_setup(alloc: Global, octets: &[u8]) -> Option<ErabsToSetup>
+    ensures octets { IfSome result (λ list. octets.now ≡ erabs_octets 52 0 setup_octets list) }
+    ensures right { IfSome result (λ list. AreSome IsErabToSetup list) }
 {
-    let (item, rest) = item(octets, 24, 0, 52)?;
-    let erab = setup(alloc, item)?;
-    Some((list_of(alloc, erab)?, rest))
+    let erab = setup(alloc, item(octets, 52, 0)?)?;
+    let list = list_of(alloc, erab)?;
+    Some(list)
 }

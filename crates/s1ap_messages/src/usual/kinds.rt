@@ -6,6 +6,7 @@ ghost use Rattle.s1ap_messages.specs.Usual.{AreFieldsOf, BeginsAs};
 
 use crate::pdu::Pdu;
 use crate::usual::bearers::{erabs_done, erabs_to_setup};
+use crate::usual::octets::ie;
 use crate::usual::values::{
     caps, cause, cgi, enb, ids, key, last_stmsi, mme, nas, own, rates, rrc, tai, text,
 };
@@ -76,12 +77,13 @@ fn initial_context_setup_request(alloc: Global, octets: &[u8], count: u8) -> Opt
     let (mme, octets) = mme(octets, 0)?;
     let (enb, octets) = enb(octets, 0)?;
     let (rates, octets) = rates(octets)?;
-    let (bearers, octets) = erabs_to_setup(alloc, octets)?;
+    let (bearers, octets) = ie(octets, 24, 0)?;
     let (caps, octets) = caps(octets)?;
     let (key, octets) = key(octets)?;
     if count != 6 || !octets.is_empty() {
         return None;
     }
+    let bearers = erabs_to_setup(alloc, bearers)?;
     let key = own(alloc, key)?;
     Some(Pdu::InitialContextSetupRequest {
         mme,
@@ -99,10 +101,11 @@ fn initial_context_setup_response(alloc: Global, octets: &[u8], count: u8) -> Op
 {
     let (mme, octets) = mme(octets, 1)?;
     let (enb, octets) = enb(octets, 1)?;
-    let (done, octets) = erabs_done(alloc, octets)?;
+    let (done, octets) = ie(octets, 51, 1)?;
     if count != 3 || !octets.is_empty() {
         return None;
     }
+    let done = erabs_done(alloc, done)?;
     Some(Pdu::InitialContextSetupResponse { mme, enb, done })
 }
 

@@ -1,18 +1,26 @@
 use Rattle.std.proofs.Common.{subst}
 use Rattle.s1ap_messages.specs.Answer.{IsAnswer}
 use Rattle.s1ap_messages.specs.Grammar.{Spells, Refused}
+use Rattle.s1ap_messages.specs.Built.{message_at}
 use Rattle.s1ap_messages.proofs.Right.{message_right, answer_right}
-use Rattle.s1ap_messages.proofs.Exact.{message_answers, only_message, refused_message}
+use Rattle.s1ap_messages.proofs.Exact.{message_answers, only_message}
+use Rattle.s1ap_messages.proofs.Found.{read_answer, refused_read, short_read}
 use Rattle.s1ap_messages.proofs.reading.read_pdu.Goals as goal
 
+pub returns-clause-reading : goal.returns-clause-reading
+returns-clause-reading c = read_answer (message_at c.args.bytes.now) c.read_message.result c.read_message.ensures
+
 pub returns-clause-answers : goal.returns-clause-answers
-returns-clause-answers c = message_answers c.args.bytes.now c.read_message.result c.read_message.ensures
+returns-clause-answers c = message_answers c.args.bytes.now c.read_message.result (returns-clause-reading c)
 
 pub returns-clause-only : goal.returns-clause-only
-returns-clause-only c = λ p s. subst (λ r. IsAnswer r c.read_message.result) (only_message c.args.bytes.now p s) c.read_message.ensures
+returns-clause-only c = λ p s. subst (λ r. IsAnswer r c.read_message.result) (only_message c.args.bytes.now p s) (returns-clause-reading c)
 
 pub returns-clause-refused : goal.returns-clause-refused
-returns-clause-refused c = λ e h. subst (λ r. IsAnswer r c.read_message.result) (refused_message c.args.bytes.now e h) c.read_message.ensures
+returns-clause-refused c = λ e due. refused_read c.args.bytes.now c.read_message.result e c.read_message.ensures due
+
+pub returns-clause-memory : goal.returns-clause-memory
+returns-clause-memory c = λ e. short_read c.args.bytes.now c.read_message.result c.read_message.ensures e
 
 pub returns-clause-right : goal.returns-clause-right
-returns-clause-right c = answer_right (Spells c.args.bytes.now) (Refused c.args.bytes.now) (λ p s. (message_right c.args.bytes.now p s).0) c.read_message.result (message_answers c.args.bytes.now c.read_message.result c.read_message.ensures)
+returns-clause-right c = answer_right (Spells c.args.bytes.now) (Refused c.args.bytes.now) (λ p s. (message_right c.args.bytes.now p s).0) c.read_message.result (returns-clause-answers c)

@@ -1,5 +1,6 @@
-use Rattle.s1ap_messages.proofs.UsualForm.{usual_body}
+use Rattle.std.proofs.Common.{arith}
+use Rattle.s1ap_messages.proofs.UsualForm.{usual_reads}
 use Rattle.s1ap_messages.proofs.usual.read_usual.Goals as goal
 
 pub returns : goal.returns
-returns c = let h = c.in_ok-outcome in usual_body c.in_ok-kind.kind c.fields.result c.args.octets.now h.ies.now h.outcome h.code h.criticality h.count h.ensures.octets h.ensures.few c.in_ok-kind.ensures c.fields.ensures
+returns c = usual_reads _ c.args.octets.now (λ i. omega (arith, c.type_inv.octets i)) c.find_usual.ensures
