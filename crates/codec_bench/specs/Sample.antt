@@ -1,8 +1,9 @@
 -- What a line of the mix is.
-use Rattle.std.specs.Prelude.{◌≡◌, ℕ, List, [], ◌∷◌, ◌++◌, Ok, IsErr}
+use Rattle.std.specs.Prelude.{◌≡◌, ℕ, Bool, nat_eq, List, [], ◌∷◌, ◌++◌, Ok, IsErr}
+use Rattle.std.specs.Cmp.Lexicographic.{pointwise}
 use Rattle.hex.specs.Hex.{decode_of}
 use Rattle.s1ap_messages.specs.Grammar.{Spells, Refused}
-use Rattle.s1ap_messages.specs.Run.{IsRight}
+use Rattle.s1ap_messages.specs.Run.{IsRight, written}
 use Rattle.codec_bench.specs.declared.sample.Sample.{Sample}
 use Rattle.codec_bench.specs.declared.sample.SampleError.{SampleError}
 use Rattle.codec_bench.specs.declared.sample.SampleError.TheVariants as errors
@@ -10,6 +11,10 @@ use Rattle.codec_bench.specs.declared.sample.SampleError.TheVariants as errors
 -- octets with the message that they spell, which can be written again
 abbrev pub IsSample : Sample → Type 0
 IsSample s = Spells s.octets s.pdu × IsRight s.pdu
+
+-- are its octets those that are written for its message?
+abbrev pub is_as_written : Sample → Bool
+is_as_written s = pointwise nat_eq (written s.pdu) s.octets
 
 -- the sample of a line: its octets, and what they spell
 abbrev pub IsSampleOf : List ℕ → Sample → Type 0

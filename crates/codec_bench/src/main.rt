@@ -1,6 +1,6 @@
 //! `codec_bench READS WRITES` reads S1AP PDUs on standard input, one a line in hexadecimal digits. It reads all of them READS
-//! times and writes all of them WRITES times, in turns, and prints how many messages it read and wrote. It has no clock: what
-//! starts it takes the time (`bench/README.md`).
+//! times and writes all of them WRITES times, in turns, and prints how many messages it read and wrote, and how many of the list
+//! have the octets that are written for them. It has no clock: what starts it takes the time (`bench/README.md`).
 #![tactic(auto)]
 
 mod sample;
@@ -14,7 +14,7 @@ use sample::{Sample, read_sample};
 use std::alloc::Global;
 use std::env;
 use std::io::{BufRead, BufReader};
-use turns::{read_turns, write_turns};
+use turns::{count_as_written, read_turns, write_turns};
 
 /// How many times all messages are read, and written: the two words of the command.
 fn counts(rt: &HostRuntime) -> Result<(u32, u32)> {
@@ -55,8 +55,9 @@ fn main(rt: HostRuntime) -> Result<()> {
     let (reads, writes) = counts(&rt)?;
     let samples = samples(&rt)?;
     let count = samples.len();
+    let usual = count_as_written(rt.alloc(), &samples)?;
     let read = read_turns(rt.alloc(), &samples, reads)?;
     let written = write_turns(rt.alloc(), &samples, writes)?;
-    println!(rt; "messages {count}\nread {read}\nwritten {written}")?;
+    println!(rt; "messages {count}\nas written {usual}\nread {read}\nwritten {written}")?;
     Ok(())
 }

@@ -1,8 +1,8 @@
 //! Reading and writing in turns.
 
-ghost use Rattle.std.specs.Prelude.{◌≡◌, ◌*◌, All, IfOk, IsTrue, length};
+ghost use Rattle.std.specs.Prelude.{◌≡◌, ◌*◌, All, IfOk, IsTrue, count_by, length};
 ghost use Rattle.s1ap_messages.specs.Run.{written};
-ghost use Rattle.codec_bench.specs.Sample.{IsSample};
+ghost use Rattle.codec_bench.specs.Sample.{IsSample, is_as_written};
 
 use crate::sample::Sample;
 use device_types::Octets;
@@ -30,6 +30,29 @@ fn write_again(alloc: Global, sample: &Sample) -> Result<Octets, OutOfMemory>
     ensures { IfOk result (λ octets. octets ≡ written sample.now.pdu) }
 {
     write_pdu(alloc, &sample.pdu)
+}
+
+/// Are the octets of a sample those that are written for its message?
+fn is_as_written(alloc: Global, sample: &Sample) -> Result<bool, OutOfMemory>
+    requires { IsSample sample.now }
+    ensures { IfOk result (λ same. same ≡ is_as_written sample.now) }
+{
+    let octets = write_again(alloc, sample)?;
+    Ok(octets.items() == sample.octets.items())
+}
+
+/// How many samples have the octets that are written for their messages.
+pub fn count_as_written(alloc: Global, samples: &[Sample]) -> Result<usize, OutOfMemory>
+    requires { All IsSample samples.now }
+    ensures { IfOk result (λ count. count ≡ count_by is_as_written samples.now) }
+{
+    let mut count = 0;
+    for sample in samples {
+        if is_as_written(alloc, sample)? {
+            count += 1;
+        }
+    }
+    Ok(count)
 }
 
 /// Is the message that was read of the kind of its sample?

@@ -23,3 +23,10 @@ pub mod Sizes
 pub mod Answering
 pub mod Right
 pub mod Small
+pub mod UsualBits
+pub mod UsualNumbers
+pub mod UsualValues
+pub mod UsualErabs
+pub mod UsualForm
+pub mod UsualRead
+pub mod UsualWrite

@@ -9,4 +9,5 @@ pub mod Names
 pub mod Reading
 pub mod Run
 pub mod Small
+pub mod Usual
 pub mod Values

@@ -11,6 +11,7 @@ mod reading;
 mod slots;
 #[cfg(test)]
 mod tests;
+mod usual;
 mod value;
 mod writing;
 

@@ -17,6 +17,7 @@ use crate::build::message;
 use crate::header::read_header;
 use crate::pdu::{Pdu, is_downlink};
 use crate::slots::Slots;
+use crate::usual::read_usual;
 use crate::value::{FoundValue, find_value};
 use aper_fields::{BitReader, Ranged, close, read_open};
 use echo_base::{Bad, Reason, Refusal};
@@ -143,18 +144,28 @@ fn find_message(bytes: &[u8]) -> Result<(MessageKind, Slots<'_>), Refusal>
     Ok((kind, slots))
 }
 
-/// Reads a message that is all of the octets.
+/// Reads a message that is all of the octets, piece by piece.
 #[tactic(auto, using(crate::proofs::Found::found_ok, crate::proofs::Found::found_short, crate::proofs::Found::found_made))]
-fn read_message(alloc: Global, bytes: &[u8]) -> Result<Pdu, Bad>
+pub(crate) fn read_pieces(alloc: Global, bytes: &[u8]) -> Result<Pdu, Bad>
     ensures { IsRead (message_at bytes.now) result }
 {
     let (kind, mut slots) = find_message(bytes)?;
     Ok(message(alloc, kind, &mut slots)?)
 }
 
-/// Reads a message that an MME receives.
+/// Reads a message that is all of the octets: one in its usual form at once, and any other piece by piece.
+fn read_message(alloc: Global, bytes: &[u8]) -> Result<Pdu, Bad>
+    ensures { IsRead (message_at bytes.now) result }
+{
+    if let Some(pdu) = read_usual(alloc, bytes) {
+        return Ok(pdu);
+    }
+    read_pieces(alloc, bytes)
+}
+
+/// Reads a message that an MME receives, piece by piece.
 #[tactic(auto, using(crate::proofs::Found::uplink_ok, crate::proofs::Found::uplink_other, crate::proofs::Found::uplink_short, crate::proofs::Found::uplink_refused, crate::proofs::Found::found_made))]
-fn read_received(alloc: Global, bytes: &[u8]) -> Result<Pdu, Bad>
+fn receive_pieces(alloc: Global, bytes: &[u8]) -> Result<Pdu, Bad>
     ensures { IsRead (uplink_at bytes.now) result }
 {
     let (kind, mut slots) = find_message(bytes)?;
@@ -165,6 +176,19 @@ fn read_received(alloc: Global, bytes: &[u8]) -> Result<Pdu, Bad>
         }));
     }
     Ok(message(alloc, kind, &mut slots)?)
+}
+
+/// Reads a message that an MME receives: one in its usual form at once, and any other piece by piece.
+#[tactic(auto, unfolding(crate::specs::Built::uplink_at))]
+fn read_received(alloc: Global, bytes: &[u8]) -> Result<Pdu, Bad>
+    ensures { IsRead (uplink_at bytes.now) result }
+{
+    if let Some(pdu) = read_usual(alloc, bytes) {
+        if !is_downlink(pdu.kind()) {
+            return Ok(pdu);
+        }
+    }
+    receive_pieces(alloc, bytes)
 }
 
 /// Reads the message that all of the octets are. It is refused for the first piece that is wrong, at its octet: Truncated,

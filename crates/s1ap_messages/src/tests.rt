@@ -11,6 +11,7 @@ mod orders;
 mod refused;
 mod refused_ies;
 mod uplink;
+mod usual;
 mod worked;
 
 /// Why the octets are refused, if they are.

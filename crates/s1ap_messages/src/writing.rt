@@ -12,6 +12,7 @@ use crate::header::{header_of, write_header};
 use crate::lists::write_erabs;
 use crate::pdu::Pdu;
 use crate::reading::rows;
+use crate::usual::write_usual;
 use crate::value::{IeValue, LentValue};
 use aper_fields::{
     BitWriter, Ranged, write_bits_fixed, write_enum, write_octet_string, write_octets_fixed,
@@ -135,10 +136,9 @@ fn write_body(alloc: Global, p: &Pdu) -> Result<BitWriter, OutOfMemory>
     write_ies(alloc, kind, &p.values()[..ies_of(kind).len])
 }
 
-/// Writes a message: its IEs in the order of its table (TS 36.413, 9.1), each with the criticality of the table, and no
-/// other.
+/// Writes a message piece by piece.
 #[tactic(auto, unfolding(crate::specs::Run::pdu_run, crate::specs::Run::written), using(crate::proofs::Writes::short_content))]
-pub fn write_pdu(alloc: Global, p: &Pdu) -> Result<Octets, OutOfMemory>
+pub(crate) fn write_pieces(alloc: Global, p: &Pdu) -> Result<Octets, OutOfMemory>
     requires { IsRight p.now }
     ensures { IfOk result (λ octets. octets ≡ written p.now) }
 {
@@ -147,4 +147,16 @@ pub fn write_pdu(alloc: Global, p: &Pdu) -> Result<Octets, OutOfMemory>
     write_header(&mut w, header_of(p.kind()))?;
     write_open(&mut w, &body)?;
     Ok(Octets::from(Vec::from_slice(alloc, w.bytes())?))
+}
+
+/// Writes a message: its IEs in the order of its table (TS 36.413, 9.1), each with the criticality of the table, and no
+/// other.
+pub fn write_pdu(alloc: Global, p: &Pdu) -> Result<Octets, OutOfMemory>
+    requires { IsRight p.now }
+    ensures { IfOk result (λ octets. octets ≡ written p.now) }
+{
+    if let Some(octets) = write_usual(alloc, p)? {
+        return Ok(octets);
+    }
+    write_pieces(alloc, p)
 }

@@ -1,0 +1,226 @@
+-- What is written for a message, octet by octet.
+use Rattle.std.proofs.Common.{◌≡◌, ℕ, zero, suc, ◌+◌, ◌-◌, ◌*◌, ◌<◌, ◌≤◌, Bool, true, ltb, eqb, List, [], ◌∷◌, ◌++◌, length, get_or, take, drop, Option, Some, None, IfSome, is_some, Ok, refl, sym, ap, ◌∙◌, subst, inl, inr, append_assoc, arith}
+use Rattle.std.specs.List.{All, AllByRecursion, list_all}
+use Rattle.std.proofs.lemmas.Bool.{cases_Bool, ltb-true, eqb-true, and_parts}
+use Rattle.std.proofs.lemmas.List.{length-append}
+use Rattle.std.proofs.lemmas.List.Sums.{count_by-le-length}
+use Rattle.aper_fields.specs.Bits.{bits, bits_of, zeros, gap, filled}
+use Rattle.aper_fields.specs.Run.{fixed_bits_run, number_run}
+use Rattle.aper_fields.specs.Spelling.{IsOctets}
+use Rattle.aper_fields.proofs.BitLaws.{length-bits, length-bits_of}
+use Rattle.aper_fields.proofs.Packed.{IsBytes, packed_is}
+use Rattle.s1ap_ies.specs.declared.tables.IeRow.{IeRow}
+use Rattle.s1ap_ies.specs.declared.tables.MessageKind.{MessageKind}
+use Rattle.s1ap_ies.specs.declared.tables.MessageKind.TheVariants as kind
+use Rattle.s1ap_ies.specs.Tables.{rows_of}
+use Rattle.s1ap_messages.specs.declared.value.IeValue.TheVariants as value
+use Rattle.s1ap_messages.specs.declared.pdu.Pdu.{Pdu}
+use Rattle.s1ap_messages.specs.Messages.{header_of, kind_of, values_of}
+use Rattle.s1ap_messages.specs.Grammar.{Spells}
+use Rattle.s1ap_messages.specs.Built.{message_at}
+use Rattle.s1ap_messages.specs.Run.{value_run, ie_run, fields_run, ies_run, header_run, pdu_run, written, count_of, IsShort, IsRightValue, IsRightField, IsRight, HasOctetsIn, HasOctets}
+use Rattle.s1ap_messages.specs.Usual.{counted, ie_octets, value_octets, fields_octets, body_octets, message_octets, usual_octets, unfinished_octets, HasRightValues, IsUsual, AreFieldsOf, BeginsAs}
+use Rattle.s1ap_messages.specs.Values.{FieldValue}
+use Rattle.s1ap_messages.proofs.Writes.{values-length}
+use Rattle.s1ap_messages.proofs.Whole.{written_spelled}
+use Rattle.s1ap_messages.proofs.Exact.{only_message}
+use Rattle.s1ap_messages.proofs.UsualBits.{AreOctets, octets_then, two_bits, low_octet, filled_is, Contains, contains_octets, open_octets, item_is, ie_few}
+use Rattle.s1ap_messages.proofs.UsualNumbers.{mme_is, enb_is, rates_are, ids_are}
+use Rattle.s1ap_messages.proofs.UsualValues.{counted_some, text_is, key_is, tai_is, cgi_is, stmsi_is, caps_are, rrc_is, cause_is}
+use Rattle.s1ap_messages.proofs.UsualErabs.{dones_are, setups_are, counted_behind, item_behind, setups_behind}
+
+-- ---- values
+
+pub value_is : (v : FieldValue) → IsRightValue v → Contains (value_run v 0) (value_octets v)
+unfolding value_run
+value_is (value.Mme mme) right = mme_is mme right
+value_is (value.Cause cause) right = cause_is cause right
+value_is (value.Enb enb) right = enb_is enb right
+value_is (value.Bearers bearers) right = setups_are bearers right.2
+value_is (value.Nas nas) right = contains_octets _ (counted nas) (counted_some nas) (text_is nas (omega (arith, right)))
+value_is (value.Done done) right = dones_are done right.2
+value_is (value.Rates rates) right = rates_are rates right
+value_is (value.Tai tai) right = tai_is tai
+value_is (value.Key key) right = contains_octets _ key (omega (arith, right)) (key_is key)
+value_is (value.Radio radio) right = contains_octets _ (counted radio) (counted_some radio) (text_is radio right)
+value_is (value.Stmsi stmsi) right = stmsi_is stmsi right
+value_is (value.Ids ids) right = ids_are ids right
+value_is (value.Cgi cgi) right = cgi_is cgi
+value_is (value.Caps caps) right = caps_are caps right
+value_is (value.Rrc rrc) right = rrc_is rrc right
+
+-- ---- the IEs of a table
+
+each_is_small : (kind : MessageKind) → list_all (λ (row : IeRow). ltb row.id 256) (rows_of kind) ≡ true
+each_is_small kind.InitialUeMessage = refl
+each_is_small _ = refl
+
+-- values in their ranges
+abbrev AreRight : List (Option FieldValue) → Type 0
+AreRight values = AllByRecursion (λ v. IfSome v IsRightValue) values
+
+fields_are : (rows : List IeRow) (values : List (Option FieldValue)) → list_all (λ (row : IeRow). ltb row.id 256) rows ≡ true → AreRight values → length (fields_octets rows values) < 16384 → AreOctets (fields_run rows values) (fields_octets rows values)
+unfolding fields_run bits_of ie_run
+fields_are [] values small right few = λ k. refl
+fields_are (row ∷ rows) [] small right few = λ k. refl
+fields_are (row ∷ rows) (None ∷ values) small right few =
+    let parts = and_parts (ltb row.id 256) (list_all (λ (row : IeRow). ltb row.id 256) rows) small in
+    octets_then (ie_run row None) (fields_run rows values) [] (fields_octets rows values) (λ k. refl) (fields_are rows values parts.1 right.1 few)
+fields_are (row ∷ rows) (Some v ∷ values) small right few =
+    let parts = and_parts (ltb row.id 256) (list_all (λ (row : IeRow). ltb row.id 256) rows) small in
+    let l = ie_few row.id row.criticality (value_octets v) (fields_octets rows values) few in
+    octets_then (ie_run row (Some v)) (fields_run rows values) (ie_octets row.id row.criticality (value_octets v)) (fields_octets rows values) (item_is row.id row.criticality (value_run v 0) (value_octets v) (ltb-true _ _ parts.0) (value_is v right.0) l.0) (fields_are rows values parts.1 right.1 l.1)
+
+-- ---- the message
+
+body_parts : (kind : MessageKind) (values : List (Option FieldValue)) → ies_run kind values 0 ≡ bits 8 0 ++ (bits 16 (count_of values - 0) ++ fields_run (rows_of kind) values 24)
+unfolding ies_run fixed_bits_run number_run bits
+body_parts kind values = refl
+
+few_values : (kind : MessageKind) → length (rows_of kind) ≤ 6
+few_values kind.InitialUeMessage = omega arith
+few_values _ = omega arith
+
+few_fields : (p : Pdu) → count_of (values_of p) < 256
+few_fields p = omega (arith, few_values (kind_of p), values-length p, count_by-le-length (λ (v : Option FieldValue). is_some v) (values_of p))
+
+body_is : (p : Pdu) → IsUsual p → ies_run (kind_of p) (values_of p) 0 ≡ bits_of (body_octets p)
+unfolding bits_of
+body_is p usual =
+    let kind = kind_of p in
+    let values = values_of p in
+    let m : count_of values - 0 ≡ count_of values = omega arith in
+    let here : fields_run (rows_of kind) values 24 ≡ bits_of (fields_octets (rows_of kind) values) = fields_are (rows_of kind) values (each_is_small kind) usual.0 (omega (arith, usual.1)) 3 in
+    rw (body_parts kind values, m, low_octet (count_of values) (few_fields p), here) (simp append_assoc)
+
+body_content : (p : Pdu) → IsUsual p → Contains (ies_run (kind_of p) (values_of p) 0) (body_octets p)
+body_content p usual = contains_octets _ (body_octets p) (omega arith) (body_is p usual)
+
+header_is : (kind : MessageKind) → header_run (header_of kind) 0 ≡ bits 8 (32 * (header_of kind).outcome) ++ (bits 8 (header_of kind).code ++ bits 2 (header_of kind).criticality)
+unfolding header_run fixed_bits_run number_run bits
+header_is kind.InitialUeMessage = refl
+header_is _ = refl
+
+message_is : (p : Pdu) → IsUsual p → pdu_run (kind_of p) (values_of p) 0 ≡ bits_of (usual_octets p)
+unfolding pdu_run usual_octets bits_of
+message_is p usual =
+    let header = header_of (kind_of p) in
+    let front : List Bool = bits 8 (32 * header.outcome) ++ (bits 8 header.code ++ bits 2 header.criticality) in
+    let l : 0 + length front ≡ 18 = omega (arith, length-append (bits 8 (32 * header.outcome)) (bits 8 header.code ++ bits 2 header.criticality), length-append (bits 8 header.code) (bits 2 header.criticality), length-bits 8 (32 * header.outcome), length-bits 8 header.code, length-bits 2 header.criticality) in
+    rw (header_is (kind_of p), l, open_octets _ (body_octets p) 18 (body_content p usual) usual.1, two_bits header.criticality) (simp append_assoc)
+
+-- octets in the usual form of a message are what is written for it
+pub usual_is_written : (p : Pdu) (octets : List ℕ) → IsBytes octets → octets ≡ usual_octets p → IsUsual p → octets ≡ written p
+unfolding written
+usual_is_written p octets fits e usual =
+    let run = pdu_run (kind_of p) (values_of p) 0 in
+    let same : run ≡ bits_of octets = message_is p usual ∙ ap bits_of (sym e) in
+    packed_is octets run fits (sym (ap (λ (l : List Bool). filled l) same ∙ filled_is octets))
+
+-- ---- such a message is right
+
+short_content : (body : List Bool) (octets : List ℕ) → Contains body octets → length octets < 16384 → IsShort body
+short_content body octets c few =
+    elim (cases_Bool (eqb (length body) 0)) [
+      | inl none ↦ omega (arith, eqb-true _ _ none)
+      | inr some ↦
+          let e : filled body ≡ bits_of octets = rw some at (c.0) in
+          omega (arith, ap length e, length-append body (zeros (gap (length body))), length-bits_of octets, few)
+    ]
+
+fields_right : (rows : List IeRow) (values : List (Option FieldValue)) → length values ≡ length rows → AreRight values → length (fields_octets rows values) < 16384 → AllByRecursion (λ v. IfSome v IsRightField) values
+fields_right rows [] whole right few = tt
+fields_right [] (v ∷ values) whole right few = absurd (omega (arith, whole))
+fields_right (row ∷ rows) (None ∷ values) whole right few = (tt, fields_right rows values (omega (arith, whole)) right.1 few)
+fields_right (row ∷ rows) (Some v ∷ values) whole right few =
+    let l = ie_few row.id row.criticality (value_octets v) (fields_octets rows values) few in
+    ((right.0, short_content _ _ (value_is v right.0) l.0), fields_right rows values (omega (arith, whole)) right.1 l.1)
+
+pub usual_right : (p : Pdu) → IsUsual p → IsRight p
+usual_right p usual =
+    (fields_right (rows_of (kind_of p)) (values_of p) (values-length p) usual.0 (omega (arith, usual.1)), short_content _ _ (body_content p usual) usual.1)
+
+-- ---- its strings are octets
+
+are_octets : (octets : List ℕ) → IsBytes octets → IsOctets octets
+are_octets [] fits = tt
+are_octets (b ∷ bs) fits = (fits 0, are_octets bs (λ i. fits (suc i)))
+
+value_behind : (v : FieldValue) → IsOctets (value_octets v) → HasOctetsIn v
+value_behind (value.Mme mme) h = tt
+value_behind (value.Cause cause) h = tt
+value_behind (value.Enb enb) h = tt
+value_behind (value.Bearers bearers) h = setups_behind bearers h
+value_behind (value.Nas nas) h = counted_behind nas h
+value_behind (value.Done done) h = tt
+value_behind (value.Rates rates) h = tt
+value_behind (value.Tai tai) h = tt
+value_behind (value.Key key) h = h
+value_behind (value.Radio radio) h = counted_behind radio h
+value_behind (value.Stmsi stmsi) h = tt
+value_behind (value.Ids ids) h = tt
+value_behind (value.Cgi cgi) h = tt
+value_behind (value.Caps caps) h = tt
+value_behind (value.Rrc rrc) h = tt
+
+fields_behind : (rows : List IeRow) (values : List (Option FieldValue)) → length values ≡ length rows → IsOctets (fields_octets rows values) → AllByRecursion (λ v. IfSome v HasOctetsIn) values
+fields_behind rows [] whole h = tt
+fields_behind [] (v ∷ values) whole h = absurd (omega (arith, whole))
+fields_behind (row ∷ rows) (None ∷ values) whole h = (tt, fields_behind rows values (omega (arith, whole)) h)
+fields_behind (row ∷ rows) (Some v ∷ values) whole h =
+    let r = item_behind row.id row.criticality (value_octets v) (fields_octets rows values) h in
+    (value_behind v r.0, fields_behind rows values (omega (arith, whole)) r.1)
+
+usual_has_octets : (p : Pdu) (octets : List ℕ) → IsBytes octets → octets ≡ usual_octets p → HasOctets p
+unfolding usual_octets
+usual_has_octets p octets fits e =
+    let all : IsOctets (usual_octets p) = subst IsOctets e (are_octets octets fits) in
+    let body = counted_behind (body_octets p) all.1.1.1 in
+    fields_behind (rows_of (kind_of p)) (values_of p) (values-length p) body.1.1.1
+
+-- what the reading gives of octets in the usual form of a message
+usual_read : (p : Pdu) (octets : List ℕ) → IsBytes octets → octets ≡ usual_octets p → IsUsual p → message_at octets ≡ Ok p
+usual_read p octets fits e usual =
+    let spelled : Spells (written p) p = written_spelled p (usual_right p usual) (usual_has_octets p octets fits e) in
+    only_message octets p (subst (λ o. Spells o p) (sym (usual_is_written p octets fits e usual)) spelled)
+
+pub usual_reads : (r : Option Pdu) (octets : List ℕ) → IsBytes octets → IfSome r (λ p. (octets ≡ usual_octets p) × IsUsual p) → IfSome r (λ p. message_at octets ≡ Ok p)
+usual_reads None octets fits found = tt
+usual_reads (Some p) octets fits found = usual_read p octets fits found.0 found.1
+
+bytes_of_all : (octets : List ℕ) → All (λ (x : ℕ). x < 256) octets → IsBytes octets
+bytes_of_all [] all i = omega arith
+bytes_of_all (b ∷ bs) all i = elim i as (λ k. get_or (b ∷ bs) k 0 < 256) [ zero ↦ all 0 0 (omega arith) | suc i ↦ bytes_of_all bs (λ k d l. all (suc k) d (omega (arith, l))) i ]
+
+-- fields of a message that is right are in their ranges
+fields_in_range : (values : List (Option FieldValue)) → AllByRecursion (λ v. IfSome v IsRightField) values → AreRight values
+fields_in_range [] right = tt
+fields_in_range (None ∷ values) right = (tt, fields_in_range values right.1)
+fields_in_range (Some v ∷ values) right = (right.0.0, fields_in_range values right.1)
+
+-- ---- messages as they are read
+
+usual_from : (p : Pdu) (kind : MessageKind) (octets rest : List ℕ) (count : ℕ) → kind_of p ≡ kind → rest ≡ fields_octets (rows_of kind) (values_of p) → count ≡ count_of (values_of p) → HasRightValues p → octets ≡ message_octets (header_of kind) (0 ∷ 0 ∷ count ∷ rest) → length (0 ∷ 0 ∷ count ∷ rest) < 16384 → (octets ≡ usual_octets p) × IsUsual p
+unfolding usual_octets
+usual_from p kind octets rest count k r c right e few =
+    let body : 0 ∷ 0 ∷ count ∷ rest ≡ body_octets p = rw (c, r, ← k) refl in
+    (e ∙ ap (λ b. message_octets (header_of kind) b) body ∙ ap (λ x. message_octets (header_of x) (body_octets p)) (sym k), (right, subst (λ (b : List ℕ). length b < 16384) body few))
+
+-- what the reader of a body found, behind the header of its kind
+pub usual_body : (kind : MessageKind) (r : Option Pdu) (octets rest : List ℕ) (outcome code criticality count : ℕ) → octets ≡ outcome ∷ code ∷ criticality ∷ counted (0 ∷ 0 ∷ count ∷ rest) → length (0 ∷ 0 ∷ count ∷ rest) < 16384 → BeginsAs kind outcome code criticality → IfSome r (AreFieldsOf kind rest count) → IfSome r (λ p. (octets ≡ usual_octets p) × IsUsual p)
+usual_body kind None octets rest outcome code criticality count e few h found = tt
+usual_body kind (Some p) octets rest outcome code criticality count e few h found = usual_from p kind octets rest count found.0 found.1 found.2 found.3 (e ∙ rw (h.0, h.1, h.2) refl) few
+
+-- ---- messages as they are written
+
+finished : (p : Pdu) (out octets : List ℕ) → out ≡ unfinished_octets p → octets ≡ take 3 out ++ counted (drop 4 out) → length out < 16388 → (octets ≡ usual_octets p) × (length (body_octets p) < 16384)
+unfolding unfinished_octets usual_octets
+finished p out octets e set few =
+    let l : length out ≡ 4 + length (body_octets p) = ap length e ∙ omega arith in
+    (set ∙ ap (λ (x : List ℕ). take 3 x ++ counted (drop 4 x)) e, omega (arith, l, few))
+
+-- what was finished is what is written
+pub finished_is_written : (p : Pdu) (out octets : List ℕ) → IsRight p → out ≡ unfinished_octets p → octets ≡ take 3 out ++ counted (drop 4 out) → length out < 16388 → All (λ (x : ℕ). x < 256) octets → octets ≡ written p
+finished_is_written p out octets right e set few all =
+    let f = finished p out octets e set few in
+    usual_is_written p octets (bytes_of_all octets all) f.0 (fields_in_range (values_of p) right.0, f.1)

@@ -1,0 +1,91 @@
+-- Octets that are put one behind another, as those of a message.
+use Rattle.std.proofs.Common.{◌≡◌, ℕ, ◌+◌, ◌-◌, ◌*◌, ◌/◌, ◌%◌, ◌<◌, ◌≤◌, List, [], ◌∷◌, ◌++◌, length, take, drop, slice_set, insert, is_some, cond, refl, sym, ap, ◌∙◌, append_assoc, arith}
+use Rattle.std.proofs.lemmas.Bool.{lt-ltb, le-ltb}
+use Rattle.std.proofs.lemmas.List.{append-nil, length-append}
+use Rattle.s1ap_ies.specs.declared.erab_to_setup.ErabToSetup.{ErabToSetup}
+use Rattle.s1ap_messages.specs.Usual.{count_octets, counted, four_octets, least_octets, number_octets, nas_octets, setup_octets, ie_octets, items_octets, erabs_octets}
+
+pub counted_length : (octets : List ℕ) → length (counted octets) ≡ length (count_octets (length octets)) + length octets
+unfolding counted
+counted_length octets = length-append (count_octets (length octets)) octets
+
+-- a content behind the head of an IE
+pub ie_put : (front head all content : List ℕ) (id criticality len : ℕ) → head ≡ front ++ 0 ∷ id ∷ 64 * criticality ∷ count_octets len → all ≡ head ++ content → len ≡ length content → all ≡ front ++ ie_octets id criticality content
+unfolding ie_octets counted
+ie_put front head all content id criticality len h a l =
+    a ∙ rw (h, l) (append_assoc front (0 ∷ id ∷ 64 * criticality ∷ count_octets (length content)) content)
+
+-- a length of one octet
+pub short_body : (out : List ℕ) (n : ℕ) → 4 ≤ length out → n ≡ length out - 4 → n < 128 → slice_set out 3 n ≡ take 3 out ++ counted (drop 4 out)
+unfolding counted count_octets
+short_body (a ∷ b ∷ c ∷ d ∷ rest) n some e short =
+    let l : length rest ≡ n = omega (arith, e) in
+    rw (l, lt-ltb n 128 short) refl
+short_body [] n some e short = absurd (omega arith)
+short_body (a ∷ []) n some e short = absurd (omega arith)
+short_body (a ∷ b ∷ []) n some e short = absurd (omega arith)
+short_body (a ∷ b ∷ c ∷ []) n some e short = absurd (omega arith)
+
+-- a length of two octets
+pub long_body : (out : List ℕ) (n : ℕ) → 4 ≤ length out → n ≡ length out - 4 → 128 ≤ n → insert (slice_set out 3 (128 + n / 256)) 4 (n % 256) ≡ take 3 out ++ counted (drop 4 out)
+unfolding counted count_octets
+long_body (a ∷ b ∷ c ∷ d ∷ rest) n some e long =
+    let l : length rest ≡ n = omega (arith, e) in
+    rw (l, le-ltb n 128 long) refl
+long_body [] n some e long = absurd (omega arith)
+long_body (a ∷ []) n some e long = absurd (omega arith)
+long_body (a ∷ b ∷ []) n some e long = absurd (omega arith)
+long_body (a ∷ b ∷ c ∷ []) n some e long = absurd (omega arith)
+
+-- so many IEs behind one another
+pub two_ies : (front a b : List ℕ) → (front ++ a) ++ b ≡ front ++ (a ++ (b ++ []))
+two_ies front a b = simp (append_assoc, append-nil)
+
+pub three_ies : (front a b c : List ℕ) → ((front ++ a) ++ b) ++ c ≡ front ++ (a ++ (b ++ (c ++ [])))
+three_ies front a b c = simp (append_assoc, append-nil)
+
+pub five_ies : (front a b c d e : List ℕ) → ((((front ++ a) ++ b) ++ c) ++ d) ++ e ≡ front ++ (a ++ (b ++ (c ++ (d ++ (e ++ [])))))
+five_ies front a b c d e = simp (append_assoc, append-nil)
+
+pub number_length : (before unit n : ℕ) → length (number_octets before unit n) ≡ length (least_octets n) + 1
+unfolding number_octets
+number_length before unit n = omega arith
+
+-- two numbers behind the head of an IE
+pub two_put : (front head one all a b : List ℕ) (id criticality len : ℕ) → head ≡ front ++ 0 ∷ id ∷ 64 * criticality ∷ count_octets len → one ≡ head ++ a → all ≡ one ++ b → len ≡ length a + length b → all ≡ front ++ ie_octets id criticality (a ++ b)
+two_put front head one all a b id criticality len h o e l =
+    ie_put front head all (a ++ b) id criticality len h (e ∙ rw o (append_assoc head a b)) (l ∙ sym (length-append a b))
+
+pub four_length : (n : ℕ) → length (four_octets n) ≡ 4
+unfolding four_octets
+four_length n = refl
+
+pub six_ies : (front a b c d e f : List ℕ) → (((((front ++ a) ++ b) ++ c) ++ d) ++ e) ++ f ≡ front ++ (a ++ (b ++ (c ++ (d ++ (e ++ (f ++ []))))))
+six_ies front a b c d e f = simp (append_assoc, append-nil)
+
+pub six_parts : (front a b c d e f : List ℕ) → (((((front ++ a) ++ b) ++ c) ++ d) ++ e) ++ f ≡ front ++ (a ++ (b ++ (c ++ (d ++ (e ++ f)))))
+six_parts front a b c d e f = simp append_assoc
+
+-- the fields of an E-RAB that is to be set up
+pub setup_put : (out first second third all : List ℕ) (erab : ErabToSetup) → first ≡ out ++ (cond (is_some erab.nas) 64 0 + erab.id) ∷ 0 ∷ erab.qci ∷ erab.arp ∷ 15 ∷ 128 ∷ [] → second ≡ first ++ four_octets erab.address → third ≡ second ++ four_octets erab.teid → all ≡ third ++ nas_octets erab.nas → all ≡ out ++ setup_octets erab
+unfolding setup_octets
+setup_put out first second third all erab a b c d =
+    d ∙ rw (c, b, a) (simp append_assoc)
+
+setup_length : (erab : ErabToSetup) (more : ℕ) → more ≡ length (nas_octets erab.nas) → more + 14 ≡ length (setup_octets erab)
+unfolding setup_octets four_octets
+setup_length erab more m = omega (arith, m)
+
+ie_length : (id criticality : ℕ) (content : List ℕ) → length (ie_octets id criticality content) ≡ 3 + (length (count_octets (length content)) + length content)
+unfolding ie_octets
+ie_length id criticality content = omega (arith, counted_length content)
+
+-- a list of one item
+pub setups_put : (out head count item all : List ℕ) (erab : ErabToSetup) (k more : ℕ) → more ≡ length (nas_octets erab.nas) → k ≡ length (count_octets (more + 14)) → head ≡ out ++ 0 ∷ 24 ∷ 0 ∷ count_octets (k + (more + 14) + 4) → count ≡ head ++ 0 ∷ [] → item ≡ count ++ 0 ∷ 52 ∷ 0 ∷ count_octets (more + 14) → all ≡ item ++ setup_octets erab → all ≡ out ++ ie_octets 24 0 (erabs_octets 52 0 setup_octets (erab ∷ []))
+unfolding erabs_octets items_octets
+setups_put out head count item all erab k more m l h c i a =
+    let n : more + 14 ≡ length (setup_octets erab) = setup_length erab more m in
+    let one : all ≡ count ++ ie_octets 52 0 (setup_octets erab) = ie_put count item all (setup_octets erab) 52 0 (more + 14) i a n in
+    let e : ie_octets 52 0 (setup_octets erab) ++ [] ≡ ie_octets 52 0 (setup_octets erab) = append-nil (ie_octets 52 0 (setup_octets erab)) in
+    let whole : k + (more + 14) + 4 ≡ length (0 ∷ ie_octets 52 0 (setup_octets erab)) = omega (arith, l, ie_length 52 0 (setup_octets erab), ap (λ (x : ℕ). length (count_octets x)) n, n) in
+    rw e (ie_put out head all (0 ∷ ie_octets 52 0 (setup_octets erab)) 24 0 (k + (more + 14) + 4) h (one ∙ rw c (append_assoc head (0 ∷ []) (ie_octets 52 0 (setup_octets erab)))) whole)

@@ -1,0 +1,163 @@
+-- The octets of a message as it is written, octet by octet.
+use Rattle.std.specs.Prelude.{◌≡◌, ℕ, ◌+◌, ◌-◌, ◌*◌, ◌/◌, ◌%◌, ◌<◌, ◌==◌, nat_lt, List, [], ◌∷◌, ◌++◌, length, Option, Some, None, is_some, IfSome, if◌then◌else◌}
+use Rattle.std.specs.List.{AllByRecursion}
+use Rattle.aper_fields.specs.declared.enumerated.EnumValue.{EnumValue}
+use Rattle.s1ap_ies.specs.declared.tai.Tai.{Tai}
+use Rattle.s1ap_ies.specs.declared.cgi.Cgi.{Cgi}
+use Rattle.s1ap_ies.specs.declared.stmsi.Stmsi.{Stmsi}
+use Rattle.s1ap_ies.specs.declared.bit_rates.BitRates.{BitRates}
+use Rattle.s1ap_ies.specs.declared.sec_caps.SecCaps.{SecCaps}
+use Rattle.s1ap_ies.specs.declared.cause.Cause.{Cause}
+use Rattle.s1ap_ies.specs.declared.ue_ids.UeIds.{UeIds}
+use Rattle.s1ap_ies.specs.declared.ue_ids.UeIds.TheVariants.{Pair, Mme}
+use Rattle.s1ap_ies.specs.declared.erab_done.ErabDone.{ErabDone}
+use Rattle.s1ap_ies.specs.declared.erab_to_setup.ErabToSetup.{ErabToSetup}
+use Rattle.s1ap_ies.specs.declared.tables.IeRow.{IeRow}
+use Rattle.s1ap_ies.specs.declared.tables.MessageKind.{MessageKind}
+use Rattle.s1ap_ies.specs.Tables.{rows_of}
+use Rattle.s1ap_messages.specs.declared.header.Header.{Header}
+use Rattle.s1ap_messages.specs.declared.pdu.Pdu.{Pdu}
+use Rattle.s1ap_messages.specs.declared.value.IeValue.TheVariants as value
+use Rattle.s1ap_messages.specs.Values.{FieldValue}
+use Rattle.s1ap_messages.specs.Messages.{header_of, kind_of, values_of}
+use Rattle.s1ap_messages.specs.Run.{count_of, IsRightValue}
+
+-- ---- pieces
+
+-- a length: one octet below 128, else two that begin with the bits 10
+unfoldable pub count_octets : ℕ → List ℕ
+count_octets n = if nat_lt n 128 then n ∷ [] else (128 + n / 256) ∷ n % 256 ∷ []
+
+-- octets behind their length: an octet string, and an open type
+unfoldable pub counted : List ℕ → List ℕ
+counted octets = count_octets (length octets) ++ octets
+
+unfoldable pub four_octets : ℕ → List ℕ
+four_octets n = n / 16777216 ∷ n / 65536 % 256 ∷ n / 256 % 256 ∷ n % 256 ∷ []
+
+-- a number below 2^40 in its least octets
+unfoldable pub least_octets : ℕ → List ℕ
+least_octets n =
+    if nat_lt n 256 then n ∷ []
+    else (if nat_lt n 65536 then n / 256 ∷ n % 256 ∷ []
+    else (if nat_lt n 16777216 then n / 65536 ∷ n / 256 % 256 ∷ n % 256 ∷ []
+    else (if nat_lt n 4294967296 then n / 16777216 ∷ n / 65536 % 256 ∷ n / 256 % 256 ∷ n % 256 ∷ []
+    else n / 4294967296 ∷ n / 16777216 % 256 ∷ n / 65536 % 256 ∷ n / 256 % 256 ∷ n % 256 ∷ [])))
+
+-- a number behind an octet that holds the bits before it, and the count of its octets less one
+unfoldable pub number_octets : ℕ → ℕ → ℕ → List ℕ
+number_octets before unit n = (before + unit * (length (least_octets n) - 1)) ∷ least_octets n
+
+-- ---- values
+
+unfoldable pub tai_octets : Tai → List ℕ
+tai_octets v = 0 ∷ v.plmn / 65536 ∷ v.plmn / 256 % 256 ∷ v.plmn % 256 ∷ v.tac / 256 ∷ v.tac % 256 ∷ []
+
+unfoldable pub cgi_octets : Cgi → List ℕ
+cgi_octets v = 0 ∷ v.plmn / 65536 ∷ v.plmn / 256 % 256 ∷ v.plmn % 256 ∷ v.cell / 1048576 ∷ v.cell / 4096 % 256 ∷ v.cell / 16 % 256 ∷ v.cell % 16 * 16 ∷ []
+
+unfoldable pub stmsi_octets : Stmsi → List ℕ
+stmsi_octets v = v.mmec / 4 ∷ v.mmec % 4 * 64 ∷ four_octets v.tmsi
+
+unfoldable pub rates_octets : BitRates → List ℕ
+rates_octets v = number_octets 0 8 v.dl ++ number_octets 0 32 v.ul
+
+unfoldable pub caps_octets : SecCaps → List ℕ
+caps_octets v = v.eea / 2048 ∷ v.eea / 8 % 256 ∷ (v.eea % 8 * 32 + v.eia / 4096) ∷ v.eia / 16 % 256 ∷ v.eia % 16 * 16 ∷ []
+
+-- a root, or one behind the extension mark
+unfoldable pub rrc_octets : EnumValue → List ℕ
+rrc_octets v = if v.extended then (128 + v.index) ∷ [] else 16 * v.index ∷ []
+
+unfoldable pub cause_octets : Cause → List ℕ
+cause_octets v =
+    if v.extended then (16 * v.group + 8 + v.index / 16) ∷ v.index % 16 * 16 ∷ []
+    else (if v.group == 0 then v.index / 8 ∷ v.index % 8 * 32 ∷ []
+    else (if v.group == 1 then (16 + 4 * v.index) ∷ []
+    else (if v.group == 2 then (32 + 2 * v.index) ∷ []
+    else (16 * v.group + v.index) ∷ [])))
+
+unfoldable pub ids_octets : UeIds → List ℕ
+ids_octets (Pair mme enb) = number_octets 0 4 mme ++ number_octets 0 64 enb
+ids_octets (Mme mme) = number_octets 64 16 mme
+
+unfoldable pub done_octets : ErabDone → List ℕ
+done_octets v = 2 * v.id ∷ 31 ∷ four_octets v.address ++ four_octets v.teid
+
+-- a NAS-PDU, where there is one
+unfoldable pub nas_octets : Option (List ℕ) → List ℕ
+nas_octets None = []
+nas_octets (Some nas) = counted nas
+
+unfoldable pub setup_octets : ErabToSetup → List ℕ
+setup_octets v = ((if is_some v.nas then 64 else 0) + v.id) ∷ 0 ∷ v.qci ∷ v.arp ∷ 15 ∷ 128 ∷ four_octets v.address ++ (four_octets v.teid ++ nas_octets v.nas)
+
+-- ---- IEs
+
+-- an IE, or an item of a list: its id, its criticality, and what it contains
+unfoldable pub ie_octets : ℕ → ℕ → List ℕ → List ℕ
+ie_octets id criticality content = 0 ∷ id ∷ 64 * criticality ∷ counted content
+
+-- the items of a list
+unfoldable pub items_octets : {A : Type 0} → ℕ → ℕ → (A → List ℕ) → List A → List ℕ
+items_octets id criticality octets [] = []
+items_octets id criticality octets (x ∷ xs) = ie_octets id criticality (octets x) ++ items_octets id criticality octets xs
+
+unfoldable pub erabs_octets : {A : Type 0} → ℕ → ℕ → (A → List ℕ) → List A → List ℕ
+erabs_octets id criticality octets xs = (length xs - 1) ∷ items_octets id criticality octets xs
+
+abbrev pub value_octets : FieldValue → List ℕ
+value_octets (value.Mme mme) = number_octets 0 64 mme
+value_octets (value.Cause cause) = cause_octets cause
+value_octets (value.Enb enb) = number_octets 0 64 enb
+value_octets (value.Bearers bearers) = erabs_octets 52 0 setup_octets bearers
+value_octets (value.Nas nas) = counted nas
+value_octets (value.Done done) = erabs_octets 50 1 done_octets done
+value_octets (value.Rates rates) = rates_octets rates
+value_octets (value.Tai tai) = tai_octets tai
+value_octets (value.Key key) = key
+value_octets (value.Radio radio) = counted radio
+value_octets (value.Stmsi stmsi) = stmsi_octets stmsi
+value_octets (value.Ids ids) = ids_octets ids
+value_octets (value.Cgi cgi) = cgi_octets cgi
+value_octets (value.Caps caps) = caps_octets caps
+value_octets (value.Rrc rrc) = rrc_octets rrc
+
+-- the IEs of a table, with their values
+abbrev pub fields_octets : List IeRow → List (Option FieldValue) → List ℕ
+fields_octets [] values = []
+fields_octets (row ∷ rows) [] = []
+fields_octets (row ∷ rows) (None ∷ values) = fields_octets rows values
+fields_octets (row ∷ rows) (Some v ∷ values) = ie_octets row.id row.criticality (value_octets v) ++ fields_octets rows values
+
+-- ---- the message
+
+abbrev pub body_octets : Pdu → List ℕ
+body_octets p = 0 ∷ 0 ∷ count_of (values_of p) ∷ fields_octets (rows_of (kind_of p)) (values_of p)
+
+-- a header, and an open type
+abbrev pub message_octets : Header → List ℕ → List ℕ
+message_octets header body = 32 * header.outcome ∷ header.code ∷ 64 * header.criticality ∷ counted body
+
+unfoldable pub usual_octets : Pdu → List ℕ
+usual_octets p = message_octets (header_of (kind_of p)) (body_octets p)
+
+-- the same with an octet of zeros in place of the length of the body
+unfoldable pub unfinished_octets : Pdu → List ℕ
+unfinished_octets p = 32 * (header_of (kind_of p)).outcome ∷ (header_of (kind_of p)).code ∷ 64 * (header_of (kind_of p)).criticality ∷ 0 ∷ body_octets p
+
+-- its fields are in their ranges
+abbrev pub HasRightValues : Pdu → Type 0
+HasRightValues p = AllByRecursion (λ v. IfSome v IsRightValue) (values_of p)
+
+-- A message whose fields are in their ranges, and whose body has a length.
+abbrev pub IsUsual : Pdu → Type 0
+IsUsual p = HasRightValues p × (length (body_octets p) < 16384)
+
+-- what the IEs of a kind of message are, and how many
+abbrev pub AreFieldsOf : MessageKind → List ℕ → ℕ → Pdu → Type 0
+AreFieldsOf kind octets count p = (kind_of p ≡ kind) × (octets ≡ fields_octets (rows_of kind) (values_of p)) × (count ≡ count_of (values_of p)) × HasRightValues p
+
+-- the octets of the header of a kind of message
+abbrev pub BeginsAs : MessageKind → ℕ → ℕ → ℕ → Type 0
+BeginsAs kind outcome code criticality = (outcome ≡ 32 * (header_of kind).outcome) × (code ≡ (header_of kind).code) × (criticality ≡ 64 * (header_of kind).criticality)

@@ -1,0 +1,70 @@
+//! Messages in their usual form: read and written octet by octet. Any other form goes piece by piece.
+
+ghost use Rattle.std.specs.Prelude.{◌≡◌, ◌<◌, ◌∷◌, IfOk, IfSome, Ok, length};
+ghost use Rattle.s1ap_messages.specs.Built.{message_at};
+ghost use Rattle.s1ap_messages.specs.Run.{written, IsRight};
+ghost use Rattle.s1ap_messages.specs.Usual.{counted, usual_octets, IsUsual};
+
+mod bearers;
+mod kinds;
+mod octets;
+mod put;
+mod put_bearers;
+mod put_kinds;
+mod put_values;
+mod values;
+
+use crate::pdu::Pdu;
+use crate::usual::kinds::{fields, kind_of_header};
+use crate::usual::octets::{counted, three};
+use crate::usual::put::finish;
+use crate::usual::put_kinds::unfinished;
+use device_types::Octets;
+use std::alloc::{AllocError, Global};
+
+/// The header of a message, the count of its IEs, and the IEs.
+fn parts(octets: &[u8]) -> Option<(u8, u8, u8, u8, &[u8])>
+    ensures octets { IfSome result (λ x. octets.now ≡ x.0 ∷ x.1 ∷ x.2 ∷ counted (0 ∷ 0 ∷ x.3 ∷ x.4.now)) }
+    ensures few { IfSome result (λ x. length (0 ∷ 0 ∷ x.3 ∷ x.4.now) < 16384) }
+{
+    let (outcome, code, criticality, rest) = three(octets)?;
+    let (body, rest) = counted(rest)?;
+    let (first, high, count, ies) = three(body)?;
+    if first != 0 || high != 0 || !rest.is_empty() {
+        return None;
+    }
+    Some((outcome, code, criticality, count, ies))
+}
+
+/// The message that the octets are, where they are in its usual form.
+fn find_usual(alloc: Global, octets: &[u8]) -> Option<Pdu>
+    ensures { IfSome result (λ p. (octets.now ≡ usual_octets p) × IsUsual p) }
+{
+    let (outcome, code, criticality, count, ies) = parts(octets)?;
+    let kind = kind_of_header(outcome, code, criticality)?;
+    fields(alloc, kind, ies, count)
+}
+
+/// What reading gives of octets that are a message in its usual form.
+pub fn read_usual(alloc: Global, octets: &[u8]) -> Option<Pdu>
+    ensures { IfSome result (λ p. message_at octets.now ≡ Ok p) }
+{
+    find_usual(alloc, octets)
+}
+
+/// The octets that are written for a message, where it is of a usual kind.
+#[tactic(auto, using(crate::proofs::UsualForm::finished_is_written))]
+pub fn write_usual(alloc: Global, p: &Pdu) -> Result<Option<Octets>, AllocError>
+    requires { IsRight p.now }
+    ensures { IfOk result (λ found. IfSome found (λ octets. octets ≡ written p.now)) }
+{
+    let Some(out) = unfinished(alloc, p)? else {
+        return Ok(None);
+    };
+    let Some(octets) = finish(out)? else {
+        return Ok(None);
+    };
+    // Its clause says that each is below 256.
+    octets.octets();
+    Ok(Some(octets))
+}

@@ -1,0 +1,217 @@
+//! The IEs of each kind of message, read from their octets.
+
+ghost use Rattle.std.specs.Prelude.{IfSome};
+ghost use Rattle.s1ap_ies.specs.declared.tables.MessageKind.TheVariants as kind;
+ghost use Rattle.s1ap_messages.specs.Usual.{AreFieldsOf, BeginsAs};
+
+use crate::pdu::Pdu;
+use crate::usual::bearers::{erabs_done, erabs_to_setup};
+use crate::usual::octets::ie;
+use crate::usual::values::{
+    caps, cause, cgi, enb, ids, key, last_stmsi, mme, nas, own, rates, rrc, tai, text,
+};
+use s1ap_ies::MessageKind;
+use std::alloc::Global;
+
+/// The IEs of an INITIAL UE MESSAGE.
+fn initial_ue_message(alloc: Global, octets: &[u8], count: u8) -> Option<Pdu>
+    ensures { IfSome result (AreFieldsOf kind.InitialUeMessage octets.now count) }
+{
+    let (enb, octets) = enb(octets, 0)?;
+    let (nas, octets) = nas(octets)?;
+    let (tai, octets) = tai(octets, 0)?;
+    let (cgi, octets) = cgi(octets)?;
+    let (rrc, octets) = rrc(octets)?;
+    let stmsi = last_stmsi(octets, count)?;
+    let nas = own(alloc, nas)?;
+    Some(Pdu::InitialUeMessage {
+        enb,
+        nas,
+        tai,
+        cgi,
+        rrc,
+        stmsi,
+    })
+}
+
+/// The IEs of an UPLINK NAS TRANSPORT.
+fn uplink_nas_transport(alloc: Global, octets: &[u8], count: u8) -> Option<Pdu>
+    ensures { IfSome result (AreFieldsOf kind.UplinkNasTransport octets.now count) }
+{
+    let (mme, octets) = mme(octets, 0)?;
+    let (enb, octets) = enb(octets, 0)?;
+    let (nas, octets) = nas(octets)?;
+    let (cgi, octets) = cgi(octets)?;
+    let (tai, octets) = tai(octets, 1)?;
+    if count != 5 || !octets.is_empty() {
+        return None;
+    }
+    let nas = own(alloc, nas)?;
+    Some(Pdu::UplinkNasTransport {
+        mme,
+        enb,
+        nas,
+        cgi,
+        tai,
+    })
+}
+
+/// The IEs of a DOWNLINK NAS TRANSPORT.
+fn downlink_nas_transport(alloc: Global, octets: &[u8], count: u8) -> Option<Pdu>
+    ensures { IfSome result (AreFieldsOf kind.DownlinkNasTransport octets.now count) }
+{
+    let (mme, octets) = mme(octets, 0)?;
+    let (enb, octets) = enb(octets, 0)?;
+    let (nas, octets) = nas(octets)?;
+    if count != 3 || !octets.is_empty() {
+        return None;
+    }
+    let nas = own(alloc, nas)?;
+    Some(Pdu::DownlinkNasTransport { mme, enb, nas })
+}
+
+/// The IEs of an INITIAL CONTEXT SETUP REQUEST.
+fn initial_context_setup_request(alloc: Global, octets: &[u8], count: u8) -> Option<Pdu>
+    ensures { IfSome result (AreFieldsOf kind.InitialContextSetupRequest octets.now count) }
+{
+    let (mme, octets) = mme(octets, 0)?;
+    let (enb, octets) = enb(octets, 0)?;
+    let (rates, octets) = rates(octets)?;
+    let (bearers, octets) = ie(octets, 24, 0)?;
+    let (caps, octets) = caps(octets)?;
+    let (key, octets) = key(octets)?;
+    if count != 6 || !octets.is_empty() {
+        return None;
+    }
+    let bearers = erabs_to_setup(alloc, bearers)?;
+    let key = own(alloc, key)?;
+    Some(Pdu::InitialContextSetupRequest {
+        mme,
+        enb,
+        rates,
+        bearers,
+        caps,
+        key,
+    })
+}
+
+/// The IEs of an INITIAL CONTEXT SETUP RESPONSE.
+fn initial_context_setup_response(alloc: Global, octets: &[u8], count: u8) -> Option<Pdu>
+    ensures { IfSome result (AreFieldsOf kind.InitialContextSetupResponse octets.now count) }
+{
+    let (mme, octets) = mme(octets, 1)?;
+    let (enb, octets) = enb(octets, 1)?;
+    let (done, octets) = ie(octets, 51, 1)?;
+    if count != 3 || !octets.is_empty() {
+        return None;
+    }
+    let done = erabs_done(alloc, done)?;
+    Some(Pdu::InitialContextSetupResponse { mme, enb, done })
+}
+
+/// The IEs of an INITIAL CONTEXT SETUP FAILURE.
+fn initial_context_setup_failure(octets: &[u8], count: u8) -> Option<Pdu>
+    ensures { IfSome result (AreFieldsOf kind.InitialContextSetupFailure octets.now count) }
+{
+    let (mme, octets) = mme(octets, 1)?;
+    let (enb, octets) = enb(octets, 1)?;
+    let (cause, octets) = cause(octets)?;
+    if count != 3 || !octets.is_empty() {
+        return None;
+    }
+    Some(Pdu::InitialContextSetupFailure { mme, enb, cause })
+}
+
+/// The IEs of a UE CONTEXT RELEASE REQUEST.
+fn ue_context_release_request(octets: &[u8], count: u8) -> Option<Pdu>
+    ensures { IfSome result (AreFieldsOf kind.UeContextReleaseRequest octets.now count) }
+{
+    let (mme, octets) = mme(octets, 0)?;
+    let (enb, octets) = enb(octets, 0)?;
+    let (cause, octets) = cause(octets)?;
+    if count != 3 || !octets.is_empty() {
+        return None;
+    }
+    Some(Pdu::UeContextReleaseRequest { mme, enb, cause })
+}
+
+/// The IEs of a UE CONTEXT RELEASE COMMAND.
+fn ue_context_release_command(octets: &[u8], count: u8) -> Option<Pdu>
+    ensures { IfSome result (AreFieldsOf kind.UeContextReleaseCommand octets.now count) }
+{
+    let (ids, octets) = ids(octets)?;
+    let (cause, octets) = cause(octets)?;
+    if count != 2 || !octets.is_empty() {
+        return None;
+    }
+    Some(Pdu::UeContextReleaseCommand { ids, cause })
+}
+
+/// The IEs of a UE CONTEXT RELEASE COMPLETE.
+fn ue_context_release_complete(octets: &[u8], count: u8) -> Option<Pdu>
+    ensures { IfSome result (AreFieldsOf kind.UeContextReleaseComplete octets.now count) }
+{
+    let (mme, octets) = mme(octets, 1)?;
+    let (enb, octets) = enb(octets, 1)?;
+    if count != 2 || !octets.is_empty() {
+        return None;
+    }
+    Some(Pdu::UeContextReleaseComplete { mme, enb })
+}
+
+/// The IEs of a UE CAPABILITY INFO INDICATION.
+fn ue_capability_info_indication(alloc: Global, octets: &[u8], count: u8) -> Option<Pdu>
+    ensures { IfSome result (AreFieldsOf kind.UeCapabilityInfoIndication octets.now count) }
+{
+    let (mme, octets) = mme(octets, 0)?;
+    let (enb, octets) = enb(octets, 0)?;
+    let (radio, octets) = text(octets, 74, 1)?;
+    if count != 3 || !octets.is_empty() {
+        return None;
+    }
+    let radio = own(alloc, radio)?;
+    Some(Pdu::UeCapabilityInfoIndication { mme, enb, radio })
+}
+
+/// The IEs of a kind of message.
+pub fn fields(alloc: Global, kind: MessageKind, octets: &[u8], count: u8) -> Option<Pdu>
+    ensures { IfSome result (AreFieldsOf kind octets.now count) }
+{
+    match kind {
+        MessageKind::InitialUeMessage => initial_ue_message(alloc, octets, count),
+        MessageKind::UplinkNasTransport => uplink_nas_transport(alloc, octets, count),
+        MessageKind::DownlinkNasTransport => downlink_nas_transport(alloc, octets, count),
+        MessageKind::InitialContextSetupRequest => {
+            initial_context_setup_request(alloc, octets, count)
+        }
+        MessageKind::InitialContextSetupResponse => {
+            initial_context_setup_response(alloc, octets, count)
+        }
+        MessageKind::InitialContextSetupFailure => initial_context_setup_failure(octets, count),
+        MessageKind::UeContextReleaseRequest => ue_context_release_request(octets, count),
+        MessageKind::UeContextReleaseCommand => ue_context_release_command(octets, count),
+        MessageKind::UeContextReleaseComplete => ue_context_release_complete(octets, count),
+        MessageKind::UeCapabilityInfoIndication => {
+            ue_capability_info_indication(alloc, octets, count)
+        }
+    }
+}
+
+/// The kind of message whose header has these octets, as it is written.
+pub fn kind_of_header(outcome: u8, code: u8, criticality: u8) -> Option<MessageKind>
+    ensures { IfSome result (λ kind. BeginsAs kind outcome code criticality) }
+{
+    match (outcome, code, criticality) {
+        (0, 9, 0) => Some(MessageKind::InitialContextSetupRequest),
+        (0, 11, 64) => Some(MessageKind::DownlinkNasTransport),
+        (0, 12, 64) => Some(MessageKind::InitialUeMessage),
+        (0, 13, 64) => Some(MessageKind::UplinkNasTransport),
+        (0, 18, 64) => Some(MessageKind::UeContextReleaseRequest),
+        (0, 22, 64) => Some(MessageKind::UeCapabilityInfoIndication),
+        (0, 23, 0) => Some(MessageKind::UeContextReleaseCommand),
+        (32, 9, 0) => Some(MessageKind::InitialContextSetupResponse),
+        (32, 23, 0) => Some(MessageKind::UeContextReleaseComplete),
+        (64, 9, 0) => Some(MessageKind::InitialContextSetupFailure),
+        _ => None,
+    }
+}

@@ -1,0 +1,162 @@
+//! Octets that are written one behind another.
+
+ghost use Rattle.std.specs.Prelude.{◌≡◌, ◌+◌, ◌-◌, ◌*◌, ◌^◌, ◌<◌, ◌≤◌, ◌∷◌, [], ◌++◌, IfOk, IfSome, OnOk, length, take, drop};
+ghost use Rattle.s1ap_messages.specs.Usual.{count_octets, counted, least_octets, number_octets};
+
+use device_types::Octets;
+use std::alloc::{AllocError, Global};
+
+/// The octets of a message before its IEs, with an octet of zeros in place of its length.
+#[inline(always)]
+pub fn begin(
+    alloc: Global,
+    outcome: u8,
+    code: u8,
+    criticality: u8,
+    count: u8,
+    room: usize,
+) -> Result<Vec<u8>, AllocError>
+    ensures { IfOk result (λ out. out.items ≡ outcome ∷ code ∷ criticality ∷ 0 ∷ 0 ∷ 0 ∷ count ∷ []) }
+{
+    let mut out = Vec::with_capacity(alloc, room)?;
+    out.extend_from_slice(&[outcome, code, criticality, 0, 0, 0, count])?;
+    Ok(out)
+}
+
+/// Puts a length.
+#[inline(always)]
+#[tactic(auto, unfolding(crate::specs::Usual::count_octets))]
+pub fn put_count(out: &mut Vec<u8>, n: usize) -> Result<(), AllocError>
+    requires { n < 16384 }
+    ensures { OnOk result (out.new.items ≡ out.old.items ++ count_octets n) }
+{
+    if n < 128 {
+        return out.extend_from_slice(&[n as u8]);
+    }
+    out.extend_from_slice(&[(128 + n / 256) as u8, (n % 256) as u8])
+}
+
+/// How many octets a length is.
+#[inline(always)]
+#[tactic(auto, unfolding(crate::specs::Usual::count_octets))]
+pub fn count_len(n: usize) -> usize
+    ensures len { result ≡ length (count_octets n) }
+    ensures few { result ≤ 2 }
+{
+    if n < 128 { 1 } else { 2 }
+}
+
+/// How many octets those are with their length before them.
+#[inline(always)]
+#[tactic(auto, using(crate::proofs::UsualWrite::counted_length))]
+pub fn counted_len(octets: &[u8]) -> usize
+    requires { length octets.now < 16384 }
+    ensures len { result ≡ length (counted octets.now) }
+    ensures few { result ≤ length octets.now + 2 }
+{
+    count_len(octets.len()) + octets.len()
+}
+
+/// Puts octets behind their length.
+#[inline(always)]
+#[tactic(auto, unfolding(crate::specs::Usual::counted))]
+pub fn put_counted(out: &mut Vec<u8>, octets: &[u8]) -> Result<(), AllocError>
+    requires { length octets.now < 16384 }
+    ensures { OnOk result (out.new.items ≡ out.old.items ++ counted octets.now) }
+{
+    put_count(out, octets.len())?;
+    out.extend_from_slice(octets)
+}
+
+/// Puts what stands before the content of an IE, or of an item of a list.
+#[inline(always)]
+pub fn put_ie(out: &mut Vec<u8>, id: u8, criticality: u8, len: usize) -> Result<(), AllocError>
+    requires criticality { criticality ≤ 2 }
+    requires len { len < 16384 }
+    ensures { OnOk result (out.new.items ≡ out.old.items ++ 0 ∷ id ∷ 64 * criticality ∷ count_octets len) }
+{
+    out.extend_from_slice(&[0, id, 64 * criticality])?;
+    put_count(out, len)
+}
+
+/// How many octets a number needs.
+#[inline(always)]
+#[tactic(auto, unfolding(crate::specs::Usual::least_octets))]
+pub fn octets_in(n: u64) -> usize
+    ensures count { result ≡ length (least_octets n) }
+    ensures some { 1 ≤ result }
+    ensures five { result ≤ 5 }
+    ensures four { n < 4294967296 → result ≤ 4 }
+{
+    if n < 256 {
+        1
+    } else if n < 65536 {
+        2
+    } else if n < 16777216 {
+        3
+    } else if n < 4294967296 {
+        4
+    } else {
+        5
+    }
+}
+
+/// Puts a number in its least octets, behind another octet.
+#[inline(always)]
+#[tactic(auto, unfolding(crate::specs::Usual::least_octets))]
+fn put_least(out: &mut Vec<u8>, head: u8, n: u64) -> Result<(), AllocError>
+    requires { n < 2 ^ 40 }
+    ensures { OnOk result (out.new.items ≡ out.old.items ++ head ∷ least_octets n) }
+{
+    if n < 256 {
+        return out.extend_from_slice(&[head, n as u8]);
+    }
+    let e = (n % 256) as u8;
+    if n < 65536 {
+        return out.extend_from_slice(&[head, (n / 256) as u8, e]);
+    }
+    let d = (n / 256 % 256) as u8;
+    if n < 16777216 {
+        return out.extend_from_slice(&[head, (n / 65536) as u8, d, e]);
+    }
+    let c = (n / 65536 % 256) as u8;
+    if n < 4294967296 {
+        return out.extend_from_slice(&[head, (n / 16777216) as u8, c, d, e]);
+    }
+    let b = (n / 16777216 % 256) as u8;
+    out.extend_from_slice(&[head, (n / 4294967296) as u8, b, c, d, e])
+}
+
+/// Puts a number behind the octet with the count of its octets less one. In that octet the count counts in units, and some bits
+/// stand before it.
+#[inline(always)]
+#[tactic(auto, unfolding(crate::specs::Usual::number_octets))]
+pub fn put_number(out: &mut Vec<u8>, before: u8, unit: u8, n: u64) -> Result<(), AllocError>
+    requires fits { n < 2 ^ 40 }
+    requires room { before + unit * (length (least_octets n) - 1) ≤ 255 }
+    ensures { OnOk result (out.new.items ≡ out.old.items ++ number_octets before unit n) }
+{
+    put_least(out, before + unit * (octets_in(n) - 1) as u8, n)
+}
+
+/// Notes the length of the body in its place, where it has one.
+#[tactic(auto, using(crate::proofs::UsualWrite::short_body, crate::proofs::UsualWrite::long_body))]
+pub fn finish(out: Vec<u8>) -> Result<Option<Octets>, AllocError>
+    ensures octets { IfOk result (λ found. IfSome found (λ o. o ≡ take 3 out.items ++ counted (drop 4 out.items))) }
+    ensures few { IfOk result (λ found. IfSome found (λ o. (4 ≤ length out.items) × (length out.items < 16388))) }
+{
+    let mut out = out;
+    if out.len() < 4 || out.len() >= 16388 {
+        return Ok(None);
+    }
+    let count = out.len() - 4;
+    if count < 128 {
+        out[3] = count as u8;
+        return Ok(Some(Octets::from(out)));
+    }
+    out[3] = (128 + count / 256) as u8;
+    match out.insert(4, (count % 256) as u8) {
+        Ok(()) => Ok(Some(Octets::from(out))),
+        Err(_) => Err(AllocError),
+    }
+}

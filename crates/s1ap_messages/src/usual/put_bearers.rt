@@ -1,0 +1,88 @@
+//! Lists of one E-RAB, written as octets.
+
+ghost use Rattle.std.specs.Prelude.{◌≡◌, ◌+◌, ◌<◌, ◌≤◌, ◌∷◌, [], ◌++◌, OnOk, IfSome, is_some, if◌then◌else◌, length};
+ghost use Rattle.s1ap_ies.specs.Run.{IsErabDone, IsErabToSetup, IsNas};
+ghost use Rattle.s1ap_messages.specs.Usual.{done_octets, nas_octets, setup_octets, erabs_octets, ie_octets};
+
+use crate::usual::put::{count_len, counted_len, put_counted, put_ie};
+use crate::usual::put_values::four;
+use device_types::Octets;
+use s1ap_ies::{ErabDone, ErabToSetup};
+use std::alloc::AllocError;
+
+/// Puts a list of one E-RAB that was set up.
+#[tactic(auto, unfolding(crate::specs::Usual::ie_octets, crate::specs::Usual::counted, crate::specs::Usual::count_octets, crate::specs::Usual::erabs_octets, crate::specs::Usual::items_octets, crate::specs::Usual::done_octets, crate::specs::Usual::four_octets))]
+#[rattlefmt::skip]
+pub fn put_done(out: &mut Vec<u8>, erab: &ErabDone) -> Result<(), AllocError>
+    requires { IsErabDone erab.now }
+    ensures { OnOk result (out.new.items ≡ out.old.items ++ ie_octets 51 1 (erabs_octets 50 1 done_octets (erab.now ∷ []))) }
+{
+    let [a, b, c, d] = four(erab.address);
+    let [t, u, v, w] = four(erab.teid);
+    out.extend_from_slice(&[0, 51, 64, 15, 0, 0, 50, 64, 10, 2 * erab.id, 31, a, b, c, d, t, u, v, w])
+}
+
+/// How many octets the NAS-PDU of an E-RAB is.
+#[inline(always)]
+#[tactic(auto, unfolding(crate::specs::Usual::nas_octets))]
+pub fn nas_len(nas: &Option<Octets>) -> usize
+    requires { IfSome nas.now IsNas }
+    ensures len { result ≡ length (nas_octets nas.now) }
+    ensures few { result ≤ 2050 }
+{
+    match nas {
+        Some(nas) => counted_len(nas.items()),
+        None => 0,
+    }
+}
+
+/// Puts the NAS-PDU of an E-RAB.
+#[inline(always)]
+#[tactic(auto, unfolding(crate::specs::Usual::nas_octets))]
+fn put_nas(out: &mut Vec<u8>, nas: &Option<Octets>) -> Result<(), AllocError>
+    requires { IfSome nas.now IsNas }
+    ensures { OnOk result (out.new.items ≡ out.old.items ++ nas_octets nas.now) }
+{
+    match nas {
+        Some(nas) => put_counted(out, nas.items()),
+        None => Ok(()),
+    }
+}
+
+/// The first octet of an E-RAB that is to be set up.
+#[inline(always)]
+fn setup_head(erab: &ErabToSetup) -> u8
+    requires { erab.now.id < 16 }
+    ensures { result ≡ (if is_some erab.now.nas then 64 else 0) + erab.now.id }
+{
+    if erab.nas.is_some() {
+        64 + erab.id
+    } else {
+        erab.id
+    }
+}
+
+/// Puts the fields of an E-RAB that is to be set up.
+#[tactic(auto, unfolding(crate::specs::Usual::setup_octets), using(crate::proofs::UsualWrite::setup_put))]
+fn put_fields(out: &mut Vec<u8>, erab: &ErabToSetup) -> Result<(), AllocError>
+    requires { IsErabToSetup erab.now }
+    ensures { OnOk result (out.new.items ≡ out.old.items ++ setup_octets erab.now) }
+{
+    out.extend_from_slice(&[setup_head(erab), 0, erab.qci, erab.arp, 15, 128])?;
+    out.extend_from_slice(&four(erab.address))?;
+    out.extend_from_slice(&four(erab.teid))?;
+    put_nas(out, &erab.nas)
+}
+
+/// Puts a list of one E-RAB that is to be set up.
+#[tactic(auto, using(crate::proofs::UsualWrite::setups_put))]
+pub fn put_setup(out: &mut Vec<u8>, erab: &ErabToSetup) -> Result<(), AllocError>
+    requires { IsErabToSetup erab.now }
+    ensures { OnOk result (out.new.items ≡ out.old.items ++ ie_octets 24 0 (erabs_octets 52 0 setup_octets (erab.now ∷ []))) }
+{
+    let len = nas_len(&erab.nas) + 14;
+    put_ie(out, 24, 0, count_len(len) + len + 4)?;
+    out.extend_from_slice(&[0])?;
+    put_ie(out, 52, 0, len)?;
+    put_fields(out, erab)
+}

@@ -1,0 +1,252 @@
+//! Messages, written as octets before the length of their body is known.
+
+ghost use Rattle.std.specs.Prelude.{◌≡◌, ◌≤◌, true, ◌∷◌, [], IfOk, IfSome, length};
+ghost use Rattle.aper_fields.specs.Spelling.{IsEnumValue};
+ghost use Rattle.s1ap_ies.specs.Run.{IsTai, IsCgi, IsBitRates, IsCause, IsErabDone, IsErabToSetup};
+ghost use Rattle.s1ap_messages.specs.declared.pdu.Pdu.TheVariants.{InitialUeMessage, UplinkNasTransport, DownlinkNasTransport, InitialContextSetupRequest, InitialContextSetupResponse, InitialContextSetupFailure, UeContextReleaseRequest, UeContextReleaseCommand, UeContextReleaseComplete, UeCapabilityInfoIndication};
+ghost use Rattle.s1ap_messages.specs.Run.{IsRight};
+ghost use Rattle.s1ap_messages.specs.Usual.{unfinished_octets};
+
+use crate::pdu::Pdu;
+use crate::usual::put::begin;
+use crate::usual::put_bearers::{nas_len, put_done, put_setup};
+use crate::usual::put_values::{
+    initial_count, put_caps, put_cause, put_cgi, put_id, put_ids, put_key, put_last_stmsi,
+    put_rates, put_rrc, put_tai, put_text,
+};
+use aper_fields::EnumValue;
+use s1ap_ies::{BitRates, Cause, Cgi, ErabDone, ErabToSetup, SecCaps, Stmsi, Tai, UeIds};
+use std::alloc::{AllocError, Global};
+
+/// The octets of an INITIAL UE MESSAGE, without the length of its body.
+#[tactic(auto, unfolding(crate::specs::Usual::unfinished_octets), using(crate::proofs::UsualWrite::six_parts))]
+fn initial_ue_message(
+    alloc: Global,
+    enb: u32,
+    nas: &[u8],
+    tai: &Tai,
+    cgi: &Cgi,
+    rrc: &EnumValue,
+    stmsi: &Option<Stmsi>,
+) -> Result<Vec<u8>, AllocError>
+    requires nas { length nas.now ≤ 2048 }
+    requires tai { IsTai tai.now }
+    requires cgi { IsCgi cgi.now }
+    requires rrc { IsEnumValue 5 true rrc.now }
+    ensures { IfOk result (λ out. out.items ≡ unfinished_octets (InitialUeMessage enb nas.now tai.now cgi.now rrc.now stmsi.now)) }
+{
+    let mut out = begin(alloc, 0, 12, 64, initial_count(stmsi), 80 + nas.len())?;
+    put_id(&mut out, 8, 0, enb)?;
+    put_text(&mut out, 26, 0, nas)?;
+    put_tai(&mut out, 0, tai)?;
+    put_cgi(&mut out, cgi)?;
+    put_rrc(&mut out, rrc)?;
+    put_last_stmsi(&mut out, stmsi)?;
+    Ok(out)
+}
+
+/// The octets of an UPLINK NAS TRANSPORT, without the length of its body.
+#[tactic(auto, unfolding(crate::specs::Usual::unfinished_octets), using(crate::proofs::UsualWrite::five_ies))]
+fn uplink_nas_transport(
+    alloc: Global,
+    mme: u32,
+    enb: u32,
+    nas: &[u8],
+    cgi: &Cgi,
+    tai: &Tai,
+) -> Result<Vec<u8>, AllocError>
+    requires nas { length nas.now ≤ 2048 }
+    requires cgi { IsCgi cgi.now }
+    requires tai { IsTai tai.now }
+    ensures { IfOk result (λ out. out.items ≡ unfinished_octets (UplinkNasTransport mme enb nas.now cgi.now tai.now)) }
+{
+    let mut out = begin(alloc, 0, 13, 64, 5, 80 + nas.len())?;
+    put_id(&mut out, 0, 0, mme)?;
+    put_id(&mut out, 8, 0, enb)?;
+    put_text(&mut out, 26, 0, nas)?;
+    put_cgi(&mut out, cgi)?;
+    put_tai(&mut out, 1, tai)?;
+    Ok(out)
+}
+
+/// The octets of a DOWNLINK NAS TRANSPORT, without the length of its body.
+#[tactic(auto, unfolding(crate::specs::Usual::unfinished_octets), using(crate::proofs::UsualWrite::three_ies))]
+fn downlink_nas_transport(
+    alloc: Global,
+    mme: u32,
+    enb: u32,
+    nas: &[u8],
+) -> Result<Vec<u8>, AllocError>
+    requires { length nas.now ≤ 2048 }
+    ensures { IfOk result (λ out. out.items ≡ unfinished_octets (DownlinkNasTransport mme enb nas.now)) }
+{
+    let mut out = begin(alloc, 0, 11, 64, 3, 48 + nas.len())?;
+    put_id(&mut out, 0, 0, mme)?;
+    put_id(&mut out, 8, 0, enb)?;
+    put_text(&mut out, 26, 0, nas)?;
+    Ok(out)
+}
+
+/// The octets of an INITIAL CONTEXT SETUP REQUEST with one E-RAB, without the length of its body.
+#[tactic(auto, unfolding(crate::specs::Usual::unfinished_octets), using(crate::proofs::UsualWrite::six_ies))]
+fn initial_context_setup_request(
+    alloc: Global,
+    mme: u32,
+    enb: u32,
+    rates: &BitRates,
+    erab: &ErabToSetup,
+    caps: &SecCaps,
+    key: &[u8],
+) -> Result<Vec<u8>, AllocError>
+    requires rates { IsBitRates rates.now }
+    requires erab { IsErabToSetup erab.now }
+    requires key { length key.now ≡ 32 }
+    ensures { IfOk result (λ out. out.items ≡ unfinished_octets (InitialContextSetupRequest mme enb rates.now (erab.now ∷ []) caps.now key.now)) }
+{
+    let mut out = begin(alloc, 0, 9, 0, 6, 128 + nas_len(&erab.nas))?;
+    put_id(&mut out, 0, 0, mme)?;
+    put_id(&mut out, 8, 0, enb)?;
+    put_rates(&mut out, rates)?;
+    put_setup(&mut out, erab)?;
+    put_caps(&mut out, caps)?;
+    put_key(&mut out, key)?;
+    Ok(out)
+}
+
+/// The octets of an INITIAL CONTEXT SETUP RESPONSE with one E-RAB, without the length of its body.
+#[tactic(auto, unfolding(crate::specs::Usual::unfinished_octets), using(crate::proofs::UsualWrite::three_ies))]
+fn initial_context_setup_response(
+    alloc: Global,
+    mme: u32,
+    enb: u32,
+    erab: &ErabDone,
+) -> Result<Vec<u8>, AllocError>
+    requires { IsErabDone erab.now }
+    ensures { IfOk result (λ out. out.items ≡ unfinished_octets (InitialContextSetupResponse mme enb (erab.now ∷ []))) }
+{
+    let mut out = begin(alloc, 32, 9, 0, 3, 48)?;
+    put_id(&mut out, 0, 1, mme)?;
+    put_id(&mut out, 8, 1, enb)?;
+    put_done(&mut out, erab)?;
+    Ok(out)
+}
+
+/// The octets of an INITIAL CONTEXT SETUP FAILURE, without the length of its body.
+#[tactic(auto, unfolding(crate::specs::Usual::unfinished_octets), using(crate::proofs::UsualWrite::three_ies))]
+fn initial_context_setup_failure(
+    alloc: Global,
+    mme: u32,
+    enb: u32,
+    cause: &Cause,
+) -> Result<Vec<u8>, AllocError>
+    requires { IsCause cause.now }
+    ensures { IfOk result (λ out. out.items ≡ unfinished_octets (InitialContextSetupFailure mme enb cause.now)) }
+{
+    let mut out = begin(alloc, 64, 9, 0, 3, 32)?;
+    put_id(&mut out, 0, 1, mme)?;
+    put_id(&mut out, 8, 1, enb)?;
+    put_cause(&mut out, cause)?;
+    Ok(out)
+}
+
+/// The octets of a UE CONTEXT RELEASE REQUEST, without the length of its body.
+#[tactic(auto, unfolding(crate::specs::Usual::unfinished_octets), using(crate::proofs::UsualWrite::three_ies))]
+fn ue_context_release_request(
+    alloc: Global,
+    mme: u32,
+    enb: u32,
+    cause: &Cause,
+) -> Result<Vec<u8>, AllocError>
+    requires { IsCause cause.now }
+    ensures { IfOk result (λ out. out.items ≡ unfinished_octets (UeContextReleaseRequest mme enb cause.now)) }
+{
+    let mut out = begin(alloc, 0, 18, 64, 3, 32)?;
+    put_id(&mut out, 0, 0, mme)?;
+    put_id(&mut out, 8, 0, enb)?;
+    put_cause(&mut out, cause)?;
+    Ok(out)
+}
+
+/// The octets of a UE CONTEXT RELEASE COMMAND, without the length of its body.
+#[tactic(auto, unfolding(crate::specs::Usual::unfinished_octets), using(crate::proofs::UsualWrite::two_ies))]
+fn ue_context_release_command(
+    alloc: Global,
+    ids: &UeIds,
+    cause: &Cause,
+) -> Result<Vec<u8>, AllocError>
+    requires { IsCause cause.now }
+    ensures { IfOk result (λ out. out.items ≡ unfinished_octets (UeContextReleaseCommand ids.now cause.now)) }
+{
+    let mut out = begin(alloc, 0, 23, 0, 2, 32)?;
+    put_ids(&mut out, ids)?;
+    put_cause(&mut out, cause)?;
+    Ok(out)
+}
+
+/// The octets of a UE CONTEXT RELEASE COMPLETE, without the length of its body.
+#[tactic(auto, unfolding(crate::specs::Usual::unfinished_octets), using(crate::proofs::UsualWrite::two_ies))]
+fn ue_context_release_complete(alloc: Global, mme: u32, enb: u32) -> Result<Vec<u8>, AllocError>
+    ensures { IfOk result (λ out. out.items ≡ unfinished_octets (UeContextReleaseComplete mme enb)) }
+{
+    let mut out = begin(alloc, 32, 23, 0, 2, 32)?;
+    put_id(&mut out, 0, 1, mme)?;
+    put_id(&mut out, 8, 1, enb)?;
+    Ok(out)
+}
+
+/// The octets of a UE CAPABILITY INFO INDICATION, without the length of its body.
+#[tactic(auto, unfolding(crate::specs::Usual::unfinished_octets), using(crate::proofs::UsualWrite::three_ies))]
+fn ue_capability_info_indication(
+    alloc: Global,
+    mme: u32,
+    enb: u32,
+    radio: &[u8],
+) -> Result<Vec<u8>, AllocError>
+    requires { length radio.now ≤ 16000 }
+    ensures { IfOk result (λ out. out.items ≡ unfinished_octets (UeCapabilityInfoIndication mme enb radio.now)) }
+{
+    let mut out = begin(alloc, 0, 22, 64, 3, 48 + radio.len())?;
+    put_id(&mut out, 0, 0, mme)?;
+    put_id(&mut out, 8, 0, enb)?;
+    put_text(&mut out, 74, 1, radio)?;
+    Ok(out)
+}
+
+/// The octets of a message, without the length of its body, where its lists have one item.
+#[rattlefmt::skip]
+pub fn unfinished(alloc: Global, p: &Pdu) -> Result<Option<Vec<u8>>, AllocError>
+    requires { IsRight p.now }
+    ensures { IfOk result (λ found. IfSome found (λ out. out.items ≡ unfinished_octets p.now)) }
+{
+    match p {
+        Pdu::InitialUeMessage { enb, nas, tai, cgi, rrc, stmsi } => {
+            Ok(Some(initial_ue_message(alloc, *enb, nas.items(), tai, cgi, rrc, stmsi)?))
+        }
+        Pdu::UplinkNasTransport { mme, enb, nas, cgi, tai } => {
+            Ok(Some(uplink_nas_transport(alloc, *mme, *enb, nas.items(), cgi, tai)?))
+        }
+        Pdu::DownlinkNasTransport { mme, enb, nas } => Ok(Some(downlink_nas_transport(alloc, *mme, *enb, nas.items())?)),
+        Pdu::InitialContextSetupRequest { mme, enb, rates, bearers, caps, key } => {
+            let [erab] = bearers.items() else {
+                return Ok(None);
+            };
+            Ok(Some(initial_context_setup_request(alloc, *mme, *enb, rates, erab, caps, key.items())?))
+        }
+        Pdu::InitialContextSetupResponse { mme, enb, done } => {
+            let [erab] = done.items() else {
+                return Ok(None);
+            };
+            Ok(Some(initial_context_setup_response(alloc, *mme, *enb, erab)?))
+        }
+        Pdu::InitialContextSetupFailure { mme, enb, cause } => Ok(Some(initial_context_setup_failure(alloc, *mme, *enb, cause)?)),
+        Pdu::UeContextReleaseRequest { mme, enb, cause } => Ok(Some(ue_context_release_request(alloc, *mme, *enb, cause)?)),
+        Pdu::UeContextReleaseCommand { ids, cause } => Ok(Some(ue_context_release_command(alloc, ids, cause)?)),
+        Pdu::UeContextReleaseComplete { mme, enb } => Ok(Some(ue_context_release_complete(alloc, *mme, *enb)?)),
+        Pdu::UeCapabilityInfoIndication { mme, enb, radio } => {
+            if radio.items().len() > 16000 {
+                return Ok(None);
+            }
+            Ok(Some(ue_capability_info_indication(alloc, *mme, *enb, radio.items())?))
+        }
+    }
+}

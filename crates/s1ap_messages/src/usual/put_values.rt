@@ -1,0 +1,246 @@
+//! Values of IEs, written as octets.
+
+ghost use Rattle.std.specs.Prelude.{◌≡◌, ◌+◌, ◌^◌, ◌<◌, ◌≤◌, true, ◌∷◌, [], ◌++◌, OnOk, length, option_map};
+ghost use Rattle.aper_fields.specs.Spelling.{IsEnumValue};
+ghost use Rattle.s1ap_ies.specs.declared.ue_ids.UeIds.TheVariants.{Pair, Mme};
+ghost use Rattle.s1ap_ies.specs.Run.{IsTai, IsCgi, IsBitRates, IsCause};
+ghost use Rattle.s1ap_ies.specs.Tables.{optional};
+ghost use Rattle.s1ap_messages.specs.declared.value.IeValue.TheVariants as value;
+ghost use Rattle.s1ap_messages.specs.Run.{count_of};
+ghost use Rattle.s1ap_messages.specs.Usual.{counted, four_octets, number_octets, tai_octets, cgi_octets, stmsi_octets, rates_octets, caps_octets, rrc_octets, cause_octets, ids_octets, ie_octets, fields_octets};
+
+use crate::usual::put::{counted_len, octets_in, put_counted, put_ie, put_number};
+use aper_fields::EnumValue;
+use s1ap_ies::{BitRates, Cause, Cgi, SecCaps, Stmsi, Tai, UeIds};
+use std::alloc::AllocError;
+
+/// Puts an IE that is an identity, given in 64 bits.
+#[inline(always)]
+fn put_wide_id(out: &mut Vec<u8>, id: u8, criticality: u8, n: u64) -> Result<(), AllocError>
+    requires criticality { criticality ≤ 2 }
+    requires fits { n < 2 ^ 32 }
+    ensures { OnOk result (out.new.items ≡ out.old.items ++ ie_octets id criticality (number_octets 0 64 n)) }
+{
+    put_ie(out, id, criticality, octets_in(n) + 1)?;
+    put_number(out, 0, 64, n)?;
+    Ok(())
+}
+
+/// Puts an IE that is an identity.
+#[inline(always)]
+pub fn put_id(out: &mut Vec<u8>, id: u8, criticality: u8, n: u32) -> Result<(), AllocError>
+    requires { criticality ≤ 2 }
+    ensures { OnOk result (out.new.items ≡ out.old.items ++ ie_octets id criticality (number_octets 0 64 n)) }
+{
+    put_wide_id(out, id, criticality, u64::from(n))
+}
+
+/// Puts an IE that is an octet string.
+#[inline(always)]
+pub fn put_text(out: &mut Vec<u8>, id: u8, criticality: u8, text: &[u8]) -> Result<(), AllocError>
+    requires criticality { criticality ≤ 2 }
+    requires few { length text.now ≤ 16000 }
+    ensures { OnOk result (out.new.items ≡ out.old.items ++ ie_octets id criticality (counted text.now)) }
+{
+    put_ie(out, id, criticality, counted_len(text))?;
+    put_counted(out, text)?;
+    Ok(())
+}
+
+/// Puts a TAI.
+#[inline(always)]
+#[tactic(auto, unfolding(crate::specs::Usual::ie_octets, crate::specs::Usual::counted, crate::specs::Usual::count_octets, crate::specs::Usual::tai_octets))]
+pub fn put_tai(out: &mut Vec<u8>, criticality: u8, tai: &Tai) -> Result<(), AllocError>
+    requires criticality { criticality ≤ 2 }
+    requires right { IsTai tai.now }
+    ensures { OnOk result (out.new.items ≡ out.old.items ++ ie_octets 67 criticality (tai_octets tai.now)) }
+{
+    out.extend_from_slice(&[
+        0,
+        67,
+        64 * criticality,
+        6,
+        0,
+        (tai.plmn / 65536) as u8,
+        (tai.plmn / 256 % 256) as u8,
+        (tai.plmn % 256) as u8,
+        (tai.tac / 256) as u8,
+        (tai.tac % 256) as u8,
+    ])
+}
+
+/// Puts a CGI.
+#[inline(always)]
+#[tactic(auto, unfolding(crate::specs::Usual::ie_octets, crate::specs::Usual::counted, crate::specs::Usual::count_octets, crate::specs::Usual::cgi_octets))]
+pub fn put_cgi(out: &mut Vec<u8>, cgi: &Cgi) -> Result<(), AllocError>
+    requires { IsCgi cgi.now }
+    ensures { OnOk result (out.new.items ≡ out.old.items ++ ie_octets 100 1 (cgi_octets cgi.now)) }
+{
+    out.extend_from_slice(&[
+        0,
+        100,
+        64,
+        8,
+        0,
+        (cgi.plmn / 65536) as u8,
+        (cgi.plmn / 256 % 256) as u8,
+        (cgi.plmn % 256) as u8,
+        (cgi.cell / 1048576) as u8,
+        (cgi.cell / 4096 % 256) as u8,
+        (cgi.cell / 16 % 256) as u8,
+        (cgi.cell % 16 * 16) as u8,
+    ])
+}
+
+/// Puts an RRC establishment cause.
+#[inline(always)]
+#[tactic(auto, unfolding(crate::specs::Usual::ie_octets, crate::specs::Usual::counted, crate::specs::Usual::count_octets, crate::specs::Usual::rrc_octets))]
+pub fn put_rrc(out: &mut Vec<u8>, rrc: &EnumValue) -> Result<(), AllocError>
+    requires { IsEnumValue 5 true rrc.now }
+    ensures { OnOk result (out.new.items ≡ out.old.items ++ ie_octets 134 1 (rrc_octets rrc.now)) }
+{
+    if rrc.extended {
+        return out.extend_from_slice(&[0, 134, 64, 1, 128 + rrc.index]);
+    }
+    out.extend_from_slice(&[0, 134, 64, 1, 16 * rrc.index])
+}
+
+/// A number as four octets.
+#[inline(always)]
+#[tactic(auto, unfolding(crate::specs::Usual::four_octets))]
+pub fn four(n: u32) -> [u8; 4]
+    ensures { result ≡ four_octets n }
+{
+    [
+        (n / 16777216) as u8,
+        (n / 65536 % 256) as u8,
+        (n / 256 % 256) as u8,
+        (n % 256) as u8,
+    ]
+}
+
+/// Puts an S-TMSI.
+#[inline(always)]
+#[tactic(auto, unfolding(crate::specs::Usual::ie_octets, crate::specs::Usual::counted, crate::specs::Usual::count_octets, crate::specs::Usual::stmsi_octets, crate::specs::Usual::four_octets))]
+fn put_stmsi(out: &mut Vec<u8>, stmsi: &Stmsi) -> Result<(), AllocError>
+    ensures { OnOk result (out.new.items ≡ out.old.items ++ ie_octets 96 0 (stmsi_octets stmsi.now)) }
+{
+    let [a, b, c, d] = four(stmsi.tmsi);
+    let code = stmsi.mmec;
+    out.extend_from_slice(&[0, 96, 0, 6, code / 4, code % 4 * 64, a, b, c, d])
+}
+
+/// Puts the S-TMSI of an INITIAL UE MESSAGE, where it has one.
+#[inline(always)]
+pub fn put_last_stmsi(out: &mut Vec<u8>, stmsi: &Option<Stmsi>) -> Result<(), AllocError>
+    ensures { OnOk result (out.new.items ≡ out.old.items ++ fields_octets (optional 96 ∷ []) (option_map value.Stmsi stmsi.now ∷ [])) }
+{
+    match stmsi {
+        Some(stmsi) => put_stmsi(out, stmsi),
+        None => Ok(()),
+    }
+}
+
+/// How many IEs an INITIAL UE MESSAGE has.
+#[inline(always)]
+pub fn initial_count(stmsi: &Option<Stmsi>) -> u8
+    ensures { result ≡ 5 + count_of (option_map value.Stmsi stmsi.now ∷ []) }
+{
+    if stmsi.is_some() { 6 } else { 5 }
+}
+
+/// Puts bit rates.
+#[inline(always)]
+pub fn put_rates(out: &mut Vec<u8>, rates: &BitRates) -> Result<(), AllocError>
+    requires { IsBitRates rates.now }
+    ensures { OnOk result (out.new.items ≡ out.old.items ++ ie_octets 66 0 (rates_octets rates.now)) }
+{
+    put_ie(out, 66, 0, octets_in(rates.dl) + octets_in(rates.ul) + 2)?;
+    put_number(out, 0, 8, rates.dl)?;
+    put_number(out, 0, 32, rates.ul)?;
+    Ok(())
+}
+
+/// Puts security capabilities.
+#[inline(always)]
+#[tactic(auto, unfolding(crate::specs::Usual::ie_octets, crate::specs::Usual::counted, crate::specs::Usual::count_octets, crate::specs::Usual::caps_octets))]
+pub fn put_caps(out: &mut Vec<u8>, caps: &SecCaps) -> Result<(), AllocError>
+    ensures { OnOk result (out.new.items ≡ out.old.items ++ ie_octets 107 0 (caps_octets caps.now)) }
+{
+    out.extend_from_slice(&[
+        0,
+        107,
+        0,
+        5,
+        (caps.eea / 2048) as u8,
+        (caps.eea / 8 % 256) as u8,
+        (caps.eea % 8 * 32 + caps.eia / 4096) as u8,
+        (caps.eia / 16 % 256) as u8,
+        (caps.eia % 16 * 16) as u8,
+    ])
+}
+
+/// Puts a security key.
+#[inline(always)]
+#[tactic(auto, unfolding(crate::specs::Usual::ie_octets, crate::specs::Usual::counted))]
+pub fn put_key(out: &mut Vec<u8>, key: &[u8]) -> Result<(), AllocError>
+    requires { length key.now ≡ 32 }
+    ensures { OnOk result (out.new.items ≡ out.old.items ++ ie_octets 73 0 key.now) }
+{
+    put_ie(out, 73, 0, key.len())?;
+    out.extend_from_slice(key)
+}
+
+/// Puts a cause.
+#[tactic(auto, unfolding(crate::specs::Usual::ie_octets, crate::specs::Usual::counted, crate::specs::Usual::count_octets, crate::specs::Usual::cause_octets, device_types::specs::Cause::cause_roots))]
+pub fn put_cause(out: &mut Vec<u8>, cause: &Cause) -> Result<(), AllocError>
+    requires { IsCause cause.now }
+    ensures { OnOk result (out.new.items ≡ out.old.items ++ ie_octets 2 1 (cause_octets cause.now)) }
+{
+    let i = cause.index;
+    if cause.extended {
+        return out.extend_from_slice(&[0, 2, 64, 2, 16 * cause.group + 8 + i / 16, i % 16 * 16]);
+    }
+    if cause.group == 0 {
+        return out.extend_from_slice(&[0, 2, 64, 2, i / 8, i % 8 * 32]);
+    }
+    if cause.group == 1 {
+        return out.extend_from_slice(&[0, 2, 64, 1, 16 + 4 * i]);
+    }
+    if cause.group == 2 {
+        return out.extend_from_slice(&[0, 2, 64, 1, 32 + 2 * i]);
+    }
+    out.extend_from_slice(&[0, 2, 64, 1, 16 * cause.group + i])
+}
+
+/// Puts both identities of a device.
+fn put_pair(out: &mut Vec<u8>, mme: u64, enb: u64) -> Result<(), AllocError>
+    requires mme { mme < 2 ^ 32 }
+    requires enb { enb < 2 ^ 32 }
+    ensures { OnOk result (out.new.items ≡ out.old.items ++ ie_octets 99 0 (ids_octets (Pair mme enb))) }
+{
+    put_ie(out, 99, 0, octets_in(mme) + octets_in(enb) + 2)?;
+    put_number(out, 0, 4, mme)?;
+    put_number(out, 0, 64, enb)?;
+    Ok(())
+}
+
+/// Puts the MME UE S1AP ID of a device alone.
+fn put_single(out: &mut Vec<u8>, mme: u64) -> Result<(), AllocError>
+    requires { mme < 2 ^ 32 }
+    ensures { OnOk result (out.new.items ≡ out.old.items ++ ie_octets 99 0 (ids_octets (Mme mme))) }
+{
+    put_ie(out, 99, 0, octets_in(mme) + 1)?;
+    put_number(out, 64, 16, mme)?;
+    Ok(())
+}
+
+/// Puts UE S1AP IDs.
+pub fn put_ids(out: &mut Vec<u8>, ids: &UeIds) -> Result<(), AllocError>
+    ensures { OnOk result (out.new.items ≡ out.old.items ++ ie_octets 99 0 (ids_octets ids.now)) }
+{
+    match ids {
+        UeIds::Pair { mme, enb } => put_pair(out, u64::from(*mme), u64::from(*enb)),
+        UeIds::Mme(mme) => put_single(out, u64::from(*mme)),
+    }
+}

@@ -1,0 +1,382 @@
+//! Values of IEs, read from their octets.
+
+ghost use Rattle.std.specs.Prelude.{◌≡◌, ◌+◌, ◌%◌, ◌^◌, ◌<◌, ◌≤◌, true, false, ◌∷◌, [], ◌++◌, IfSome, length, option_map};
+ghost use Rattle.aper_fields.specs.Spelling.{IsEnumValue};
+ghost use Rattle.s1ap_ies.specs.Run.{IsTai, IsCgi, IsStmsi, IsBitRates, IsSecCaps, IsCause, IsUeIds};
+ghost use Rattle.s1ap_ies.specs.Tables.{optional};
+ghost use Rattle.s1ap_messages.specs.declared.value.IeValue.TheVariants as value;
+ghost use Rattle.s1ap_messages.specs.Run.{count_of, IsRightValue};
+ghost use Rattle.s1ap_messages.specs.Usual.{counted, four_octets, number_octets, tai_octets, cgi_octets, stmsi_octets, rates_octets, caps_octets, rrc_octets, cause_octets, ids_octets, ie_octets, fields_octets};
+
+use crate::usual::octets::{counted, id, ie, number, one};
+use aper_fields::EnumValue;
+use device_types::Octets;
+use s1ap_ies::{BitRates, Cause, Cgi, SecCaps, Stmsi, Tai, UeIds};
+use std::alloc::Global;
+
+/// An MME UE S1AP ID, and what stands behind it.
+#[inline(always)]
+pub fn mme(octets: &[u8], criticality: u8) -> Option<(u32, &[u8])>
+    requires { criticality ≤ 2 }
+    ensures { IfSome result (λ x. octets.now ≡ ie_octets 0 criticality (number_octets 0 64 x.0) ++ x.1.now) }
+{
+    let (content, rest) = ie(octets, 0, criticality)?;
+    let (mme, more) = id(content, 0, 64)?;
+    if !more.is_empty() {
+        return None;
+    }
+    Some((mme, rest))
+}
+
+/// An eNB UE S1AP ID, and what stands behind it.
+#[inline(always)]
+pub fn enb(octets: &[u8], criticality: u8) -> Option<(u32, &[u8])>
+    requires { criticality ≤ 2 }
+    ensures octets { IfSome result (λ x. octets.now ≡ ie_octets 8 criticality (number_octets 0 64 x.0) ++ x.1.now) }
+    ensures right { IfSome result (λ x. x.0 < 2 ^ 24) }
+{
+    let (content, rest) = ie(octets, 8, criticality)?;
+    let (enb, more) = id(content, 0, 64)?;
+    if !more.is_empty() || enb >= 16777216 {
+        return None;
+    }
+    Some((enb, rest))
+}
+
+/// An octet string, and what stands behind it.
+#[inline(always)]
+pub fn text(octets: &[u8], id: u8, criticality: u8) -> Option<(&[u8], &[u8])>
+    requires { criticality ≤ 2 }
+    ensures octets { IfSome result (λ x. octets.now ≡ ie_octets id criticality (counted x.0.now) ++ x.1.now) }
+    ensures right { IfSome result (λ x. length x.0.now < 16384) }
+{
+    let (content, rest) = ie(octets, id, criticality)?;
+    let (text, more) = counted(content)?;
+    if !more.is_empty() {
+        return None;
+    }
+    Some((text, rest))
+}
+
+/// A NAS-PDU, and what stands behind it.
+#[inline(always)]
+pub fn nas(octets: &[u8]) -> Option<(&[u8], &[u8])>
+    ensures octets { IfSome result (λ x. octets.now ≡ ie_octets 26 0 (counted x.0.now) ++ x.1.now) }
+    ensures right { IfSome result (λ x. length x.0.now ≤ 2048) }
+{
+    let (nas, rest) = text(octets, 26, 0)?;
+    if nas.len() > 2048 {
+        return None;
+    }
+    Some((nas, rest))
+}
+
+/// The TAI that five octets behind an octet of zeros are.
+#[tactic(auto, using(crate::proofs::UsualRead::tai_read))]
+fn tai_of(a: u8, b: u8, c: u8, d: u8, e: u8) -> Tai
+    ensures octets { tai_octets result ≡ 0 ∷ a ∷ b ∷ c ∷ d ∷ e ∷ [] }
+    ensures right { IsTai result }
+{
+    Tai {
+        plmn: u32::from(a) * 65536 + u32::from(b) * 256 + u32::from(c),
+        tac: u16::from(d) * 256 + u16::from(e),
+    }
+}
+
+/// A TAI, and what stands behind it.
+#[inline(always)]
+pub fn tai(octets: &[u8], criticality: u8) -> Option<(Tai, &[u8])>
+    requires { criticality ≤ 2 }
+    ensures octets { IfSome result (λ x. octets.now ≡ ie_octets 67 criticality (tai_octets x.0) ++ x.1.now) }
+    ensures right { IfSome result (λ x. IsTai x.0) }
+{
+    let (content, rest) = ie(octets, 67, criticality)?;
+    let [0, a, b, c, d, e] = content else {
+        return None;
+    };
+    Some((tai_of(*a, *b, *c, *d, *e), rest))
+}
+
+/// The CGI that seven octets behind an octet of zeros are.
+#[tactic(auto, using(crate::proofs::UsualRead::cgi_read))]
+fn cgi_of(a: u8, b: u8, c: u8, d: u8, e: u8, f: u8, g: u8) -> Cgi
+    requires { g % 16 ≡ 0 }
+    ensures octets { cgi_octets result ≡ 0 ∷ a ∷ b ∷ c ∷ d ∷ e ∷ f ∷ g ∷ [] }
+    ensures right { IsCgi result }
+{
+    Cgi {
+        plmn: u32::from(a) * 65536 + u32::from(b) * 256 + u32::from(c),
+        cell: u32::from(d) * 1048576 + u32::from(e) * 4096 + u32::from(f) * 16 + u32::from(g / 16),
+    }
+}
+
+/// A CGI, and what stands behind it.
+#[inline(always)]
+pub fn cgi(octets: &[u8]) -> Option<(Cgi, &[u8])>
+    ensures octets { IfSome result (λ x. octets.now ≡ ie_octets 100 1 (cgi_octets x.0) ++ x.1.now) }
+    ensures right { IfSome result (λ x. IsCgi x.0) }
+{
+    let (content, rest) = ie(octets, 100, 1)?;
+    let [0, a, b, c, d, e, f, g] = content else {
+        return None;
+    };
+    if *g % 16 != 0 {
+        return None;
+    }
+    Some((cgi_of(*a, *b, *c, *d, *e, *f, *g), rest))
+}
+
+/// An RRC establishment cause that is one of the roots, and what stands behind it.
+#[inline(always)]
+#[tactic(auto, unfolding(crate::specs::Usual::rrc_octets))]
+pub fn rrc(octets: &[u8]) -> Option<(EnumValue, &[u8])>
+    ensures octets { IfSome result (λ x. octets.now ≡ ie_octets 134 1 (rrc_octets x.0) ++ x.1.now) }
+    ensures right { IfSome result (λ x. IsEnumValue 5 true x.0) }
+{
+    let (content, rest) = ie(octets, 134, 1)?;
+    let [a] = content else {
+        return None;
+    };
+    if *a % 16 != 0 || *a / 16 >= 5 {
+        return None;
+    }
+    let rrc = EnumValue {
+        extended: false,
+        index: *a / 16,
+    };
+    Some((rrc, rest))
+}
+
+/// Four octets as a number.
+#[inline(always)]
+#[tactic(auto, using(crate::proofs::UsualRead::four_read))]
+pub fn four(a: u8, b: u8, c: u8, d: u8) -> u32
+    ensures { four_octets result ≡ a ∷ b ∷ c ∷ d ∷ [] }
+{
+    u32::from(a) * 16777216 + u32::from(b) * 65536 + u32::from(c) * 256 + u32::from(d)
+}
+
+/// The S-TMSI with an MME code that stands two bits behind the start of two octets.
+#[inline(always)]
+#[tactic(auto, unfolding(crate::specs::Usual::stmsi_octets))]
+fn stmsi_of(h: u8, m: u8, tmsi: u32) -> Stmsi
+    requires high { h < 64 }
+    requires low { m % 64 ≡ 0 }
+    ensures octets { stmsi_octets result ≡ h ∷ m ∷ four_octets tmsi }
+    ensures right { IsStmsi result }
+{
+    Stmsi {
+        mmec: h * 4 + m / 64,
+        tmsi,
+    }
+}
+
+/// An S-TMSI, and what stands behind it.
+#[inline(always)]
+fn stmsi(octets: &[u8]) -> Option<(Stmsi, &[u8])>
+    ensures octets { IfSome result (λ x. octets.now ≡ ie_octets 96 0 (stmsi_octets x.0) ++ x.1.now) }
+    ensures right { IfSome result (λ x. IsStmsi x.0) }
+{
+    let (content, rest) = ie(octets, 96, 0)?;
+    let [h, m, a, b, c, d] = content else {
+        return None;
+    };
+    if *h >= 64 || *m % 64 != 0 {
+        return None;
+    }
+    Some((stmsi_of(*h, *m, four(*a, *b, *c, *d)), rest))
+}
+
+/// The S-TMSI of an INITIAL UE MESSAGE, which is its last IE, where it has one.
+pub fn last_stmsi(octets: &[u8], count: u8) -> Option<Option<Stmsi>>
+    ensures octets { IfSome result (λ s. octets.now ≡ fields_octets (optional 96 ∷ []) (option_map value.Stmsi s ∷ [])) }
+    ensures count { IfSome result (λ s. count ≡ 5 + count_of (option_map value.Stmsi s ∷ [])) }
+    ensures right { IfSome result (λ s. IfSome (option_map value.Stmsi s) IsRightValue) }
+{
+    if count == 5 && octets.is_empty() {
+        return Some(None);
+    }
+    let (stmsi, more) = stmsi(octets)?;
+    if count != 6 || !more.is_empty() {
+        return None;
+    }
+    Some(Some(stmsi))
+}
+
+/// Bit rates, and what stands behind them.
+#[inline(always)]
+#[tactic(auto, unfolding(crate::specs::Usual::rates_octets))]
+pub fn rates(octets: &[u8]) -> Option<(BitRates, &[u8])>
+    ensures octets { IfSome result (λ x. octets.now ≡ ie_octets 66 0 (rates_octets x.0) ++ x.1.now) }
+    ensures right { IfSome result (λ x. IsBitRates x.0) }
+{
+    let (content, rest) = ie(octets, 66, 0)?;
+    let (dl, up) = number(content, 0, 8)?;
+    let (ul, more) = number(up, 0, 32)?;
+    if dl > 10000000000 || ul > 10000000000 || !more.is_empty() {
+        return None;
+    }
+    Some((BitRates { dl, ul }, rest))
+}
+
+/// The security capabilities that five octets are.
+#[inline(always)]
+#[tactic(auto, using(crate::proofs::UsualRead::caps_read))]
+fn caps_of(a: u8, b: u8, c: u8, d: u8, e: u8) -> SecCaps
+    requires first { a < 32 }
+    requires third { c % 32 < 16 }
+    requires last { e % 16 ≡ 0 }
+    ensures octets { caps_octets result ≡ a ∷ b ∷ c ∷ d ∷ e ∷ [] }
+    ensures right { IsSecCaps result }
+{
+    SecCaps {
+        eea: u16::from(a) * 2048 + u16::from(b) * 8 + u16::from(c / 32),
+        eia: u16::from(c % 16) * 4096 + u16::from(d) * 16 + u16::from(e / 16),
+    }
+}
+
+/// Security capabilities, and what stands behind them.
+#[inline(always)]
+pub fn caps(octets: &[u8]) -> Option<(SecCaps, &[u8])>
+    ensures octets { IfSome result (λ x. octets.now ≡ ie_octets 107 0 (caps_octets x.0) ++ x.1.now) }
+    ensures right { IfSome result (λ x. IsSecCaps x.0) }
+{
+    let (content, rest) = ie(octets, 107, 0)?;
+    let [a, b, c, d, e] = content else {
+        return None;
+    };
+    if *a >= 32 || *c % 32 >= 16 || *e % 16 != 0 {
+        return None;
+    }
+    Some((caps_of(*a, *b, *c, *d, *e), rest))
+}
+
+/// A security key, and what stands behind it.
+#[inline(always)]
+pub fn key(octets: &[u8]) -> Option<(&[u8], &[u8])>
+    ensures octets { IfSome result (λ x. octets.now ≡ ie_octets 73 0 x.0.now ++ x.1.now) }
+    ensures right { IfSome result (λ x. length x.0.now ≡ 32) }
+{
+    let (content, rest) = ie(octets, 73, 0)?;
+    if content.len() != 32 {
+        return None;
+    }
+    Some((content, rest))
+}
+
+/// A root of a group of causes.
+#[inline(always)]
+const fn root(group: u8, index: u8) -> Cause
+    ensures { result ≡ record { group = group; extended = false; index = index } }
+{
+    Cause {
+        group,
+        extended: false,
+        index,
+    }
+}
+
+/// The cause that one octet is: a root of a group other than that of the radio network.
+#[tactic(auto, unfolding(crate::specs::Usual::cause_octets, device_types::specs::Cause::cause_roots))]
+fn short_cause(a: u8) -> Option<Cause>
+    ensures octets { IfSome result (λ c. cause_octets c ≡ a ∷ []) }
+    ensures right { IfSome result (λ c. IsCause c) }
+{
+    let group = a / 16;
+    let low = a % 16;
+    if group == 1 && low % 4 == 0 && low < 8 {
+        return Some(root(1, low / 4));
+    }
+    if group == 2 && low % 2 == 0 && low < 8 {
+        return Some(root(2, low / 2));
+    }
+    if group == 3 && low < 7 {
+        return Some(root(3, low));
+    }
+    if group == 4 && low < 6 {
+        return Some(root(4, low));
+    }
+    None
+}
+
+/// The cause that two octets are: a root of the radio network.
+#[tactic(auto, unfolding(crate::specs::Usual::cause_octets, device_types::specs::Cause::cause_roots))]
+fn radio_cause(a: u8, b: u8) -> Option<Cause>
+    ensures octets { IfSome result (λ c. cause_octets c ≡ a ∷ b ∷ []) }
+    ensures right { IfSome result (λ c. IsCause c) }
+{
+    if a >= 8 || b % 32 != 0 {
+        return None;
+    }
+    let index = a * 8 + b / 32;
+    if index >= 36 {
+        return None;
+    }
+    Some(root(0, index))
+}
+
+/// A cause that is a root of its group, and what stands behind it.
+#[inline(always)]
+pub fn cause(octets: &[u8]) -> Option<(Cause, &[u8])>
+    ensures octets { IfSome result (λ x. octets.now ≡ ie_octets 2 1 (cause_octets x.0) ++ x.1.now) }
+    ensures right { IfSome result (λ x. IsCause x.0) }
+{
+    let (content, rest) = ie(octets, 2, 1)?;
+    let (a, more) = one(content)?;
+    if more.is_empty() {
+        return Some((short_cause(a)?, rest));
+    }
+    let [b] = more else {
+        return None;
+    };
+    Some((radio_cause(a, *b)?, rest))
+}
+
+/// Both identities of a device, where all of the octets are these.
+#[tactic(auto, unfolding(crate::specs::Usual::ids_octets))]
+fn pair(octets: &[u8]) -> Option<UeIds>
+    ensures octets { IfSome result (λ ids. octets.now ≡ ids_octets ids) }
+    ensures right { IfSome result (λ ids. IsUeIds ids) }
+{
+    let (mme, rest) = id(octets, 0, 4)?;
+    let (enb, more) = id(rest, 0, 64)?;
+    if enb >= 16777216 || !more.is_empty() {
+        return None;
+    }
+    Some(UeIds::Pair { mme, enb })
+}
+
+/// The MME UE S1AP ID alone, where all of the octets are it.
+#[tactic(auto, unfolding(crate::specs::Usual::ids_octets))]
+fn single(octets: &[u8]) -> Option<UeIds>
+    ensures octets { IfSome result (λ ids. octets.now ≡ ids_octets ids) }
+    ensures right { IfSome result (λ ids. IsUeIds ids) }
+{
+    let (mme, more) = id(octets, 64, 16)?;
+    if !more.is_empty() {
+        return None;
+    }
+    Some(UeIds::Mme(mme))
+}
+
+/// UE S1AP IDs, and what stands behind them.
+pub fn ids(octets: &[u8]) -> Option<(UeIds, &[u8])>
+    ensures octets { IfSome result (λ x. octets.now ≡ ie_octets 99 0 (ids_octets x.0) ++ x.1.now) }
+    ensures right { IfSome result (λ x. IsUeIds x.0) }
+{
+    let (content, rest) = ie(octets, 99, 0)?;
+    if let Some(ids) = pair(content) {
+        return Some((ids, rest));
+    }
+    Some((single(content)?, rest))
+}
+
+/// Octets in memory of their own.
+pub fn own(alloc: Global, octets: &[u8]) -> Option<Octets>
+    ensures { IfSome result (λ o. o ≡ octets.now) }
+{
+    match Vec::from_slice(alloc, octets) {
+        Ok(octets) => Some(Octets::from(octets)),
+        Err(_) => None,
+    }
+}
