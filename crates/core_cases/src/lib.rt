@@ -3,3 +3,5 @@
 
 #[cfg(test)]
 mod top_calls;
+#[cfg(test)]
+mod worlds;

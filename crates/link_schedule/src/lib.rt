@@ -17,8 +17,6 @@ mod settle;
 mod settling;
 mod stop;
 mod take;
-#[cfg(test)]
-mod tests;
 mod world;
 mod write;
 

@@ -7,11 +7,11 @@ ghost use Rattle.schedule_laws.specs.Answer.{IsEvent};
 ghost use Rattle.link_schedule.specs.Floor.{IsOpen};
 ghost use Rattle.link_schedule.specs.World.{IsShort};
 
-use crate::{Floor, OwnFloor, World};
 use case_form::read_case;
 use device_types::{
     Body, Book, DeviceEnd, DeviceId, Event, Finals, Lane, Message, Messages, Octets,
 };
+use link_schedule::{Floor, OwnFloor, World};
 use session_store::RowLaw;
 use std::alloc::{AllocError, Global};
 use std::test::Fail;
