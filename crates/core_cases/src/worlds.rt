@@ -12,7 +12,6 @@ use device_types::{
     Body, Book, DeviceEnd, DeviceId, Event, Finals, Lane, Message, Messages, Octets,
 };
 use link_schedule::{Floor, OwnFloor, World};
-use session_store::RowLaw;
 use std::alloc::{AllocError, Global};
 use std::test::Fail;
 use subs_table::SubsTable;
@@ -405,7 +404,7 @@ fn is_replica(r: u32) -> bool
 fn is_device(world: &World, d: DeviceId) -> bool
     ensures { result ≡ true → IsWithin (length world.now.setting.rows) d.0 }
 {
-    d.0 >= 1 && d.0 as usize <= world.law.charter().rows().len()
+    d.0 >= 1 && d.0 <= world.device_count()
 }
 
 /// Is it a device, and a number from 1?

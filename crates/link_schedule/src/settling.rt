@@ -13,7 +13,7 @@ use std::alloc::AllocError;
 
 impl World {
     /// How many devices there are. It takes no memory.
-    pub(crate) fn device_count(&self) -> u32
+    pub fn device_count(&self) -> u32
         ensures { result ≡ length self.now.setting.rows }
     {
         self.law.charter().rows().len() as u32
