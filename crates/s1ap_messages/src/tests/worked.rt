@@ -9,7 +9,7 @@ use std::process::Abort;
 use std::test::Fail;
 
 /// The octets are read as the message that is printed so, and it is written as those that are wanted.
-pub fn becomes(
+pub(crate) fn becomes(
     rt: &impl Abort,
     alloc: Global,
     octets: &[u8],
