@@ -24,11 +24,11 @@ use Rattle.case_form.specs.Lines.{lines_of}
 use Rattle.entry_edge.specs.Trace as admission
 use Rattle.report_text.specs.Final.{final_text}
 use Rattle.echo_run.specs.Answer.{replay_of, Ran, IsWithoutFloor}
-use Rattle.echo_run.specs.Command.{command_of}
+use Rattle.command_words.specs.Command.{command_of}
 use Rattle.echo_run.specs.Replay.{setting_of, lines_from, transcript_of, IsRun}
 use Rattle.echo_run.specs.Top.{Tells}
-use Rattle.echo_run.specs.declared.command.Command.{Command}
-use Rattle.echo_run.specs.declared.command.Command.TheVariants.{Plain, Replay, Show}
+use Rattle.command_words.specs.declared.command.Command.{Command}
+use Rattle.command_words.specs.declared.command.Command.TheVariants.{Plain, Replay, Show}
 
 -- ---- what was given first is still there first
 

@@ -1,4 +1,3 @@
 pub mod Floors
 pub mod Lines
 pub mod Schedule
-pub mod Words

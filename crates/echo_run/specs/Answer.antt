@@ -17,8 +17,8 @@ use Rattle.schedule_laws.specs.Setting.{Setting}
 use Rattle.link_schedule.specs.World.{IsShort}
 use Rattle.report_text.specs.Show.{show_text}
 use Rattle.report_text.specs.Final.{final_text}
-use Rattle.echo_run.specs.declared.command.Command.{Command}
-use Rattle.echo_run.specs.declared.command.Command.TheVariants.{Plain, Replay, Show}
+use Rattle.command_words.specs.declared.command.Command.{Command}
+use Rattle.command_words.specs.declared.command.Command.TheVariants.{Plain, Replay, Show}
 use Rattle.echo_run.specs.declared.answer.NoText.{NoText}
 use Rattle.echo_run.specs.declared.answer.NoText.TheVariants as no
 use Rattle.echo_run.specs.Replay.{setting_of, transcript_of, told_of, IsRun}

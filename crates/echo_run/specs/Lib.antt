@@ -1,5 +1,3 @@
 pub mod Answer
-pub mod Command
-pub mod Options
 pub mod Replay
 pub mod Top

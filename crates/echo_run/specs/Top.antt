@@ -2,8 +2,8 @@
 use Rattle.std.specs.Prelude.{◌≡◌, ℕ, ◌≤◌, Bool, List, length, Option, Some, Result, Ok, String}
 use Rattle.std.specs.declared.alloc.Global.{Global}
 use Rattle.echo_base.specs.Outside.{IsTaken, IsAtEnd}
-use Rattle.echo_run.specs.declared.command.Command.{Command}
-use Rattle.echo_run.specs.Command.{command_of}
+use Rattle.command_words.specs.declared.command.Command.{Command}
+use Rattle.command_words.specs.Command.{command_of}
 use Rattle.device_types.specs.declared.finals.DeviceEnd.{DeviceEnd}
 use Rattle.schedule_laws.specs.Counts.{Turn}
 use Rattle.schedule_laws.specs.Setting.{Setting}

@@ -7,11 +7,11 @@ ghost use Rattle.device_types.specs.Numbers.{IsWithin};
 ghost use Rattle.case_form.specs.Case.{most_lines};
 ghost use Rattle.entry_edge.specs.Trace.{history};
 ghost use Rattle.echo_run.specs.Answer.{IsAdmitted, plain_of, replay_of, text_of, answer_of, text_on, told_by, RunsOn, Ran, IsWithoutFloor, IsAnswer, IsOfLine};
-ghost use Rattle.echo_run.specs.Command.{IsInLimits};
+ghost use Rattle.command_words.specs.Command.{IsInLimits};
 ghost use Rattle.echo_run.specs.Replay.{told_of, IsRun};
 ghost use Rattle.echo_run.specs.declared.answer.NoText.TheVariants as no_text;
 
-use crate::command::Command;
+use command_words::Command;
 use crate::ends::finals_of;
 use crate::replay::transcript;
 use case_form::{Case, CaseBad, read_case};

@@ -2,9 +2,7 @@
 #![tactic(auto)]
 
 mod answer;
-mod command;
 mod ends;
-mod options;
 mod own;
 mod replay;
 mod top;

@@ -3,9 +3,9 @@
 ghost use Rattle.std.specs.Prelude.{◌≡◌, ◌≢◌, ◌↔◌, ◌⊎◌, ◌+◌, ◌≤◌, ◌++◌, ℕ, List, length, Some, None, Ok, Err};
 ghost use Rattle.echo_base.specs.Outside.{IsTakenBy, IsPut, Rose};
 ghost use Rattle.echo_run.specs.Answer.{IsWithoutFloor};
-ghost use Rattle.echo_run.specs.Command.{command_of};
+ghost use Rattle.command_words.specs.Command.{command_of};
 ghost use Rattle.echo_run.specs.Top.{most_octets, ReadWhole, Answers};
-ghost use Rattle.echo_run.specs.declared.command.Command.{Command};
+ghost use Rattle.command_words.specs.declared.command.Command.{Command};
 ghost use Rattle.link_schedule.specs.Own.{IsWhole};
 
 use crate::top::replay_top;

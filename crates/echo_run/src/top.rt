@@ -2,14 +2,14 @@
 
 ghost use Rattle.std.specs.Prelude.{◌≡◌, ◌≢◌, ◌↔◌, ◌⊎◌, ◌+◌, ◌≤◌, ◌++◌, ℕ, List, length, true, Some, None, Ok, Err};
 ghost use Rattle.echo_base.specs.Outside.{IsTakenBy, IsPut, Rose};
-ghost use Rattle.echo_run.specs.Command.{command_of};
+ghost use Rattle.command_words.specs.Command.{command_of};
 ghost use Rattle.echo_run.specs.Top.{most_octets, ReadWhole, Answers, Tells};
 ghost use Rattle.echo_run.specs.Answer.{IsWithoutFloor};
-ghost use Rattle.echo_run.specs.declared.command.Command.{Command};
+ghost use Rattle.command_words.specs.declared.command.Command.{Command};
 
 use crate::answer::{NoText, answer};
-use crate::command::command_of;
-use echo_base::{ReadAll, Sink, Source, Status, read_all, write_all};
+use command_words::command_of;
+use echo_base::{OutOfMemory, ReadAll, Sink, Source, Status, read_all, write_all};
 use link_schedule::Floor;
 use std::alloc::Global;
 
@@ -95,8 +95,10 @@ pub fn replay_top<S: Source, K: Sink, F: Floor>(
         → ¬ Rose (S.faults input.old) (S.faults input.new)
         → (result ≡ Status.OutOfMemory) ⊎ (result ≡ Status.CaseRefused number line) }
 {
-    let Some(command) = command_of(words) else {
-        return Status::Usage;
+    let command = match command_of(alloc, words) {
+        Ok(Some(command)) => command,
+        Ok(None) => return Status::Usage,
+        Err(OutOfMemory) => return Status::OutOfMemory,
     };
     let octets = match read_all(alloc, input, MOST_OCTETS) {
         Ok(octets) => octets,

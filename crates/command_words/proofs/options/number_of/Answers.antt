@@ -1,6 +1,6 @@
 use Rattle.std.proofs.Common.{sym, arith}
-use Rattle.echo_run.proofs.Words.{value_is_text, too_large}
-use Rattle.echo_run.proofs.options.number_of.Goals as goal
+use Rattle.command_words.proofs.Words.{value_is_text, too_large}
+use Rattle.command_words.proofs.options.number_of.Goals as goal
 
 pub returns-in_default-clause-value : goal.returns-in_default-clause-value
 returns-in_default-clause-value c = absurd (c.in_default.ensures.cases.0 (value_is_text _ (sym c.if-not-is_value.ensures)))

@@ -1,0 +1,6 @@
+pub mod Accepted
+pub mod Clap
+pub mod Commands
+pub mod Found
+pub mod Spelling
+pub mod Words

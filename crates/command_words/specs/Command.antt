@@ -1,0 +1,54 @@
+-- The words of a command.
+use Rattle.std.specs.Prelude.{ℕ, Bool, List, [], ◌∷◌, codes, map, string_bytes, String, Option, Some, None, option_and_then, if◌then◌else◌}
+use Rattle.std.specs.Str.{bytes_eq}
+use Rattle.std.specs.declared.alloc.Global.{Global}
+use Rattle.device_types.specs.Numbers.{IsWithin}
+use Rattle.command_words.specs.declared.command.Command.{Command}
+use Rattle.command_words.specs.declared.command.Command.TheVariants as command
+use Rattle.command_words.specs.declared.command.Word.{Word}
+use Rattle.command_words.specs.declared.command.Word.TheVariants.{Plain, Replay, Show}
+use Rattle.command_words.specs.declared.options.Name.{Name}
+use Rattle.command_words.specs.declared.options.Name.TheVariants.{Replicas}
+use Rattle.command_words.specs.Options.{are_options, number_in}
+
+-- the word of a command
+abbrev pub word_of : List ℕ → Option Word
+word_of name =
+    if bytes_eq name (codes "plain") then Some Plain
+    else if bytes_eq name (codes "replay") then Some Replay
+    else if bytes_eq name (codes "show") then Some Show
+    else None
+
+-- the options that a command may have
+abbrev pub options_of : Word → List Name
+options_of Plain = []
+options_of Replay = Replicas ∷ []
+options_of Show = []
+
+-- the command of that word, with its options
+unfoldable pub command_by : Word → List (List ℕ) → Command
+command_by Plain words = command.Plain
+command_by Replay words = command.Replay (number_in words Replicas)
+command_by Show words = command.Show
+
+-- the words behind that word are its options
+unfoldable pub are_of : Word → List (List ℕ) → Bool
+are_of word words = are_options (options_of word) words
+
+abbrev pub command_with : List (List ℕ) → Word → Option Command
+command_with words word = if are_of word words then Some (command_by word words) else None
+
+-- the first word is the command, and all others are of its options
+abbrev pub command_in : List (List ℕ) → Option Command
+command_in [] = None
+command_in (name ∷ words) = option_and_then (command_with words) (word_of name)
+
+-- the command that words are
+unfoldable pub command_of : List (String Global) → Option Command
+command_of words = command_in (map string_bytes words)
+
+-- the numbers of a command are in their limits
+abbrev pub IsInLimits : Command → Type 0
+IsInLimits command.Plain = Unit {0}
+IsInLimits (command.Replay replicas) = IsWithin 16 replicas
+IsInLimits command.Show = Unit {0}

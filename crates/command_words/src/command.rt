@@ -1,0 +1,115 @@
+//! The words of a command.
+
+ghost use Rattle.std.specs.Prelude.{◌≡◌, ℕ, List, true, Ok, None, map, string_bytes, IfSome, IfOk};
+ghost use Rattle.std.specs.Str.{bytes_eq};
+ghost use Rattle.command_words.specs.Matches.{HasRead};
+ghost use Rattle.command_words.specs.Command.{word_of, options_of, command_by, are_of, command_of, IsInLimits};
+
+use crate::matches::{number, read};
+use crate::options::{Name, are_options};
+use clap::ArgMatches;
+use echo_base::OutOfMemory;
+use std::alloc::Global;
+
+/// A command.
+#[derive(Clone, Copy, Debug, PartialEq, Eq)]
+pub enum Command {
+    /// What becomes of the devices.
+    Plain,
+    /// What the events of the schedule come to, and what becomes of the devices.
+    Replay {
+        /// How many replicas there are, 1 to 16.
+        replicas: u32,
+    },
+    /// What the lines of the trace are.
+    Show,
+}
+
+/// The first word of a command.
+#[derive(Clone, Copy, Debug, PartialEq, Eq)]
+enum Word {
+    Plain,
+    Replay,
+    Show,
+}
+
+/// The command of that name.
+fn word_of(name: &str) -> Option<Word>
+    ensures { result ≡ word_of name.now }
+{
+    match name {
+        "plain" => Some(Word::Plain),
+        "replay" => Some(Word::Replay),
+        "show" => Some(Word::Show),
+        _ => None,
+    }
+}
+
+/// The options that a command may have.
+fn options_of(word: Word) -> &'static [Name]
+    ensures { result.now ≡ options_of word }
+{
+    match word {
+        Word::Plain | Word::Show => &[],
+        Word::Replay => &[Name::Replicas],
+    }
+}
+
+/// Are the words behind that word its options?
+#[tactic(auto, unfolding(crate::specs::Command::are_of))]
+fn are_of(word: Word, words: &[String]) -> bool
+    ensures { result ≡ are_of word (map string_bytes words.now) }
+{
+    are_options(options_of(word), words)
+}
+
+/// The command of that word, whose options `clap` has read.
+#[tactic(auto, unfolding(crate::specs::Command::command_by, crate::specs::Options::number_in))]
+fn command_from(word: Word, matches: &ArgMatches<'_>) -> Command
+    ensures { (words : List (List ℕ)) → HasRead (options_of word) words matches.now → result ≡ command_by word words }
+{
+    match word {
+        Word::Plain => Command::Plain,
+        Word::Replay => Command::Replay {
+            replicas: number(matches, Name::Replicas),
+        },
+        Word::Show => Command::Show,
+    }
+}
+
+/// The command of that name and word, with its options.
+#[tactic(auto, unfolding(crate::specs::Command::are_of))]
+fn command_by(
+    alloc: Global,
+    name: &str,
+    word: Word,
+    words: &[String],
+) -> Result<Command, OutOfMemory>
+    requires { are_of word (map string_bytes words.now) ≡ true }
+    ensures { IfOk result (λ command. command ≡ command_by word (map string_bytes words.now)) }
+{
+    let Ok(matches) = read(alloc, name, options_of(word), words) else {
+        return Err(OutOfMemory);
+    };
+    Ok(command_from(word, &matches))
+}
+
+/// The command that words are. None where they are no command, which takes no memory to find.
+#[tactic(auto, unfolding(crate::specs::Command::command_of))]
+pub fn command_of(alloc: Global, words: &[String]) -> Result<Option<Command>, OutOfMemory>
+    ensures value { IfOk result (λ command. command ≡ command_of words.now) }
+    ensures usage { command_of words.now ≡ None → result ≡ Ok None }
+    ensures limits { IfOk result (λ command. IfSome command IsInLimits) }
+{
+    let [name, words @ ..] = words else {
+        return Ok(None);
+    };
+    let Some(word) = word_of(name.as_str()) else {
+        return Ok(None);
+    };
+    if !are_of(word, words) {
+        return Ok(None);
+    }
+    let command = command_by(alloc, name.as_str(), word, words)?;
+    Ok(Some(command))
+}
