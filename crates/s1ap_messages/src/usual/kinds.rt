@@ -1,6 +1,7 @@
 //! The IEs of each kind of message, read from their octets.
 
-ghost use Rattle.std.specs.Prelude.{IfSome};
+ghost use Rattle.std.specs.Prelude.{◌≡◌, IfSome, length};
+ghost use Rattle.s1ap_ies.specs.Tables.{rows_of};
 ghost use Rattle.s1ap_ies.specs.declared.tables.MessageKind.TheVariants as kind;
 ghost use Rattle.s1ap_messages.specs.Usual.{AreFieldsOf, BeginsAs};
 
@@ -173,10 +174,29 @@ fn ue_capability_info_indication(alloc: Global, octets: &[u8], count: u8) -> Opt
     Some(Pdu::UeCapabilityInfoIndication { mme, enb, radio })
 }
 
-/// The IEs of a kind of message.
+/// How many IEs the table of a kind of message has.
+const fn rows_in(kind: MessageKind) -> u8
+    ensures { result ≡ length (rows_of kind) }
+{
+    match kind {
+        MessageKind::InitialUeMessage | MessageKind::InitialContextSetupRequest => 6,
+        MessageKind::UplinkNasTransport => 5,
+        MessageKind::DownlinkNasTransport
+        | MessageKind::InitialContextSetupResponse
+        | MessageKind::InitialContextSetupFailure
+        | MessageKind::UeContextReleaseRequest
+        | MessageKind::UeCapabilityInfoIndication => 3,
+        MessageKind::UeContextReleaseCommand | MessageKind::UeContextReleaseComplete => 2,
+    }
+}
+
+/// The IEs of a kind of message. Where there are more than its table has, others are among them.
 pub fn fields(alloc: Global, kind: MessageKind, octets: &[u8], count: u8) -> Option<Pdu>
     ensures { IfSome result (AreFieldsOf kind octets.now count) }
 {
+    if count > rows_in(kind) {
+        return None;
+    }
     match kind {
         MessageKind::InitialUeMessage => initial_ue_message(alloc, octets, count),
         MessageKind::UplinkNasTransport => uplink_nas_transport(alloc, octets, count),
