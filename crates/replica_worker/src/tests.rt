@@ -1,19 +1,17 @@
 //! Replicas over the store of one device, whose one message is a Service Request of a device that is not attached.
 ghost use Rattle.std.specs.Prelude.{◌≡◌, ◌∷◌, ℕ, [], length, refl, IfOk, OnOk};
-ghost use Rattle.std.specs.Arc.{arc_value};
 ghost use Rattle.device_types.specs.declared.message.Body.TheVariants as bodies;
 ghost use Rattle.device_types.specs.Subscriber.{IsSubscriber};
 ghost use Rattle.replica_worker.specs.Writes.{MayWrite};
 ghost use Rattle.session_store.specs.Rows.{Begins, journal_of};
 
-use crate::{Hand, Looked, Replica, Wrote};
+use crate::{Hand, Replica};
 use device_types::{
     Body, Book, DeviceId, Entry, Input, ListOf, Message, NoRoom, Subscriber, TryCopy,
 };
 use session_row::Commit;
 use session_store::{Asked, EchoLaw, RowStore, Seen, Store};
 use std::alloc::{AllocError, Global};
-use std::fmt::Debug;
 use std::test::Fail;
 use subs_table::{SubsTable, read_row};
 
@@ -23,25 +21,27 @@ const ROW: &str =
 /// A replica reads, stops, and has nothing to write; then it reads again, writes, and reads once more.
 const STOPPED: &str = "\
 Looked { look: Ready, reply: None }
-None
+nothing to write
 Looked { look: Ready, reply: None }
-Some(Wrote { commit: Committed(1), reply: Some(Reply { number: 1, version: 1, downs: ListOf { items: [Down(Nas { station: 1, enb: 7, nas: ServiceReject { cause: 10 } })] } }) })
+Wrote { commit: Committed(1), reply: Some(Reply { number: 1, version: 1, downs: ListOf { items: [Down(Nas { station: 1, enb: 7, nas: ServiceReject { cause: 10 } })] } }) }
 Looked { look: Repeat(1), reply: Some(Reply { number: 1, version: 1, downs: ListOf { items: [Down(Nas { station: 1, enb: 7, nas: ServiceReject { cause: 10 } })] } }) }
 ";
 
 /// The same where another writes first.
 const WRITTEN_FIRST: &str = "\
 Looked { look: Ready, reply: None }
-None
+nothing to write
 Looked { look: Ready, reply: None }
-Some(Wrote { commit: Stale { read: 0, current: 1 }, reply: None })
+Wrote { commit: Stale { read: 0, current: 1 }, reply: None }
 Looked { look: Repeat(1), reply: Some(Reply { number: 1, version: 1, downs: ListOf { items: [Down(Nas { station: 1, enb: 7, nas: ServiceReject { cause: 10 } })] } }) }
 ";
 
 /// Two replicas read; then the second writes, and the first.
 const RACED: &str = "\
-Some(Wrote { commit: Committed(1), reply: Some(Reply { number: 1, version: 1, downs: ListOf { items: [Down(Nas { station: 1, enb: 7, nas: ServiceReject { cause: 10 } })] } }) })
-Some(Wrote { commit: Stale { read: 0, current: 1 }, reply: None })
+Looked { look: Ready, reply: None }
+Looked { look: Ready, reply: None }
+Wrote { commit: Committed(1), reply: Some(Reply { number: 1, version: 1, downs: ListOf { items: [Down(Nas { station: 1, enb: 7, nas: ServiceReject { cause: 10 } })] } }) }
+Wrote { commit: Stale { read: 0, current: 1 }, reply: None }
 ";
 
 /// A store in which another writes each entry first.
@@ -88,24 +88,26 @@ fn message() -> Message
     }
 }
 
-/// The law of that device, with a copy of its row.
-fn law(alloc: Global, row: &Subscriber) -> Result<EchoLaw, Fail>
+/// A table with a copy of the row.
+fn table_of(alloc: Global, row: &Subscriber) -> Result<SubsTable, Fail>
     requires number { row.now.number ≡ 1 }
     requires range { IsSubscriber row.now }
-    ensures { IfOk result (λ law. arc_value law.charter ≡ record { rows = row.now ∷ []; lines = (record { number = 1; station = 1; enb = 7; body = bodies.Service } ∷ []) ∷ [] }) }
+    ensures { IfOk result (λ table. table ≡ row.now ∷ []) }
 {
     let mut table = SubsTable::new(alloc);
     table.add(row.copy()?)?;
+    Ok(table)
+}
+
+/// The book of that device.
+fn book_of(alloc: Global) -> Result<Book, AllocError>
+    ensures { IfOk result (λ book. book ≡ (record { number = 1; station = 1; enb = 7; body = bodies.Service } ∷ []) ∷ []) }
+{
     let mut line = ListOf::new(alloc);
     line.push(message())?;
     let mut book = Book::new(alloc);
     book.push(line)?;
-    Ok(EchoLaw::new(alloc, &table, &book)?)
-}
-
-fn put<T: Debug>(told: &mut String, value: &T) -> Result<(), AllocError> {
-    writeln!(told, "{value:?}")?;
-    Ok(())
+    Ok(book)
 }
 
 /// The replica takes the message of the device, and reads.
@@ -113,7 +115,8 @@ fn read<S: RowStore<Law = EchoLaw>>(
     row: &Subscriber,
     replica: &mut Replica,
     store: &mut S,
-) -> Result<Looked, AllocError>
+    told: &mut String,
+) -> Result<(), AllocError>
     requires charter { S.charter store.old ≡ record { rows = row.now ∷ []; lines = (record { number = 1; station = 1; enb = 7; body = bodies.Service } ∷ []) ∷ [] } }
     requires devices { S.devices store.old ≡ 1 }
     ensures charter { S.charter store.new ≡ S.charter store.old }
@@ -122,23 +125,29 @@ fn read<S: RowStore<Law = EchoLaw>>(
     ensures may { OnOk result (MayWrite (S.charter store.new) (S.devices store.new) (S.known store.new) replica.new) }
 {
     replica.take(DeviceId(1), Input::Message(message()));
-    replica.read(row, store)
+    let looked = replica.read(row, store)?;
+    writeln!(told, "{looked:?}")?;
+    Ok(())
 }
 
 /// The replica writes, if it has a step.
 fn write<S: RowStore<Law = EchoLaw>>(
     replica: &mut Replica,
     store: &mut S,
-) -> Result<Option<Wrote>, AllocError>
+    told: &mut String,
+) -> Result<(), AllocError>
     requires { MayWrite (S.charter store.old) (S.devices store.old) (S.known store.old) replica.old }
     ensures charter { S.charter store.new ≡ S.charter store.old }
     ensures devices { S.devices store.new ≡ S.devices store.old }
     ensures extends { (i : ℕ) → Begins (S.known store.old i) (S.known store.new i) }
 {
     let Hand::Ready { .. } = replica.hand() else {
-        return Ok(None);
+        writeln!(told, "nothing to write")?;
+        return Ok(());
     };
-    Ok(Some(replica.write(store)?))
+    let wrote = replica.write(store)?;
+    writeln!(told, "{wrote:?}")?;
+    Ok(())
 }
 
 /// A replica reads, stops, and writes; then it reads, writes and reads.
@@ -151,12 +160,12 @@ fn stopped<S: RowStore<Law = EchoLaw>>(
     requires charter { S.charter store.old ≡ record { rows = row.now ∷ []; lines = (record { number = 1; station = 1; enb = 7; body = bodies.Service } ∷ []) ∷ [] } }
     requires devices { S.devices store.old ≡ 1 }
 {
-    put(told, &read(row, replica, store)?)?;
+    read(row, replica, store, told)?;
     replica.stop();
-    put(told, &write(replica, store)?)?;
-    put(told, &read(row, replica, store)?)?;
-    put(told, &write(replica, store)?)?;
-    put(told, &read(row, replica, store)?)
+    write(replica, store, told)?;
+    read(row, replica, store, told)?;
+    write(replica, store, told)?;
+    read(row, replica, store, told)
 }
 
 /// Two replicas read; then the second writes, and the first.
@@ -170,10 +179,10 @@ fn raced<S: RowStore<Law = EchoLaw>>(
     requires charter { S.charter store.old ≡ record { rows = row.now ∷ []; lines = (record { number = 1; station = 1; enb = 7; body = bodies.Service } ∷ []) ∷ [] } }
     requires devices { S.devices store.old ≡ 1 }
 {
-    let _ = read(row, first, store)?;
-    let _ = read(row, second, store)?;
-    put(told, &write(second, store)?)?;
-    put(told, &write(first, store)?)
+    read(row, first, store, told)?;
+    read(row, second, store, told)?;
+    write(second, store, told)?;
+    write(first, store, told)
 }
 
 /// A store of that device.
@@ -183,7 +192,7 @@ fn opened(alloc: Global, row: &Subscriber) -> Result<Store<EchoLaw>, Fail>
     ensures charter { IfOk result (λ store. store.charter ≡ record { rows = row.now ∷ []; lines = (record { number = 1; station = 1; enb = 7; body = bodies.Service } ∷ []) ∷ [] }) }
     ensures devices { IfOk result (λ store. length store.rows ≡ 1) }
 {
-    let law = law(alloc, row)?;
+    let law = EchoLaw::new(alloc, &table_of(alloc, row)?, &book_of(alloc)?)?;
     Ok(Store::new(alloc, law, 1)?)
 }
 
