@@ -11,10 +11,10 @@ ghost use Rattle.command_words.specs.Command.{IsInLimits};
 ghost use Rattle.echo_run.specs.Replay.{told_of, IsRun};
 ghost use Rattle.echo_run.specs.declared.answer.NoText.TheVariants as no_text;
 
-use command_words::Command;
 use crate::ends::finals_of;
 use crate::replay::transcript;
 use case_form::{Case, CaseBad, read_case};
+use command_words::Command;
 use device_types::Octets;
 use echo_base::{OutOfMemory, Reason};
 use entry_edge::{Admitted, admit};
