@@ -151,6 +151,17 @@ chunk_more n l k v h w =
     let back : l - k + k ≡ l = omega arith in
     rw (sum, bits-add (n - l) k (v / 2 ^ (l - k)), shr-shr v (l - k) k, back) refl
 
+-- a number in one more octet, of which the last bits are free
+pub octet_more : (octets : List ℕ) (y k v : ℕ) → bits 8 y ≡ bits (8 - 8) (0 / 2 ^ 8) ++ bits k v ++ zeros (8 - k) → FreeBehind (bits_of octets ++ bits k v) (octets ++ y ∷ []) (8 - k)
+unfolding bits bits_of
+octet_more octets y k v new = bits_of-append octets (y ∷ []) ∙ rw new (simp append_assoc)
+
+-- a number in two more octets
+pub two_more : (octets : List ℕ) (v : ℕ) → FreeBehind (bits_of octets ++ bits 16 v) (octets ++ v / 2 ^ 8 ∷ v % 2 ^ 8 ∷ []) 0
+unfolding bits_of
+two_more octets v =
+    bits_of-append octets (v / 2 ^ 8 ∷ v % 2 ^ 8 ∷ []) ∙ rw (bits-mod 8 v, bits-add 8 8 v) (simp (append_assoc, append-nil))
+
 -- ---- what was written is cut off
 
 bits-clear : (f x : ℕ) → f ≤ 8 → bits 8 (x / 2 ^ f * 2 ^ f % 256) ≡ bits (8 - f) (x / 2 ^ f) ++ zeros f

@@ -1,13 +1,15 @@
 -- One step of a reader.
-use Rattle.std.proofs.Common.{◌≡◌, ℕ, ◌+◌, ◌*◌, ◌/◌, ◌%◌, ◌^◌, ◌<◌, ◌≤◌, Bool, true, false, cond, ltb, List, [], ◌∷◌, ◌++◌, length, take, drop, Ok, Err, refl, sym, ap, subst, arith}
+use Rattle.std.proofs.Common.{◌≡◌, ℕ, ◌+◌, ◌*◌, ◌/◌, ◌%◌, ◌^◌, ◌<◌, ◌≤◌, Bool, true, false, cond, ltb, List, [], ◌∷◌, ◌++◌, length, take, drop, Ok, Err, refl, sym, ap, ◌∙◌, subst, arith}
 use Rattle.std.proofs.Math.Seq.{take-add}
+use Rattle.std.proofs.lemmas.Bool.{le-ltb}
 use Rattle.std.proofs.lemmas.Nat.{pow-add, shl_whole, or_shifted}
 use Rattle.std.specs.Prelude.{bit_or}
 use Rattle.std.proofs.lemmas.List.{length-append, length-take, length-drop, drop-drop}
 use Rattle.echo_base.specs.declared.reason.Reason.TheVariants.{Truncated}
 use Rattle.echo_base.specs.declared.refusal.Refusal.{Refusal}
 use Rattle.aper_fields.specs.Bits.{number_of}
-use Rattle.aper_fields.specs.Reading.{Input, forward, bits_at}
+use Rattle.aper_fields.specs.Bits.{gap}
+use Rattle.aper_fields.specs.Reading.{Input, Read, forward, bits_at, padding_at}
 use Rattle.aper_fields.proofs.BitLaws.{number_of-lt}
 use Rattle.aper_fields.proofs.Octet.{same_input}
 
@@ -53,3 +55,27 @@ guard_ok false d x y e = (refl, cc)
 pub bits_at-offset : (n : ℕ) (i : Input) (v : ℕ) (j : Input) → bits_at n i ≡ Ok (v, j) → j.offset ≡ i.offset + n
 unfolding bits_at
 bits_at-offset n i v j e = ap (λ (x : ℕ × Input). x.1.offset) (sym (guard_ok (ltb (length i.left) n) (record { reason = Truncated; place = i.offset / 8 }) (number_of (take n i.left), forward n i) (v, j) e).1)
+
+abbrev found : ℕ → Input → Read ℕ
+found v j = Ok (v, j)
+
+pub bits_at-found : (n : ℕ) (i : Input) → n ≤ length i.left → bits_at n i ≡ found (number_of (take n i.left)) (forward n i)
+unfolding bits_at
+bits_at-found n i h = ap (λ (b : Bool). cond b (Err (record { reason = Truncated; place = i.offset / 8 })) (found (number_of (take n i.left)) (forward n i))) (le-ltb (length i.left) n h)
+
+-- there is no padding where an octet begins
+pub padding_none : (i : Input) → gap i.offset ≡ 0 → padding_at i ≡ Ok (tt, i)
+unfolding padding_at number_of
+padding_none i h = rw (h, bits_at-found 0 i (omega arith), forward-zero i) refl
+
+-- two octets one behind the other
+pub two_value : (i j : Input) (high low : ℕ) → 16 ≤ length i.left → high ≡ number_of (take 8 i.left) → j ≡ forward 8 i → low ≡ number_of (take 8 j.left) → bit_or (high * 2 ^ 8 % 2 ^ 64) low ≡ number_of (take 16 i.left)
+two_value i j high low h first moved second =
+    let behind : j.left ≡ drop 8 i.left = ap (λ x. x.left) moved in
+    rw (first, second, behind) (gathered 8 8 i.left h (omega arith))
+
+pub two_read : (i j k : Input) (high low : ℕ) → 16 ≤ length i.left → high ≡ number_of (take 8 i.left) → j ≡ forward 8 i → low ≡ number_of (take 8 j.left) → k ≡ forward 8 j → bits_at 16 i ≡ Ok (bit_or (high * 2 ^ 8 % 2 ^ 64) low, k)
+two_read i j k high low h first moved second again =
+    let value = two_value i j high low h first moved second in
+    let end : k ≡ forward 16 i = again ∙ ap (forward 8) moved ∙ forward-add 8 8 i in
+    rw (value, end) (bits_at-found 16 i h)

@@ -175,6 +175,10 @@ impl<'a> BitReader<'a> {
         if 1 <= count && count <= self.room() {
             return Ok(self.take_bits(count));
         }
+        if count == 16 && self.room() == 8 {
+            let high = self.take_bits(8);
+            return Ok((high << 8) | self.take_bits(8));
+        }
         let mut value = 0;
         let mut wanted = count;
         while wanted > 0 {
@@ -192,6 +196,9 @@ impl<'a> BitReader<'a> {
         ensures read { Gives result self.old self.new (padding_at self.old) }
         ensures aligned { OnOk result (gap self.new.offset ≡ 0) }
     {
+        if self.gap() == 0 {
+            return Ok(());
+        }
         let mut ahead = self.ahead();
         if ahead.read_bits(self.gap())? != 0 {
             return Err(self.refusal(Reason::NonZeroPadding));

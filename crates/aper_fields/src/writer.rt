@@ -78,6 +78,54 @@ fn put_in_octet(octet: u8, free: u32, value: u8, count: u32) -> u8
     octet | (value << (free - count))
 }
 
+/// How many octets a writer has room for at first.
+const FIRST: usize = 64;
+
+/// Takes memory for the first octets, where there is none yet.
+fn begin(bytes: &mut Vec<u8>) -> Result<(), AllocError>
+    ensures { bytes.new.items ≡ bytes.old.items }
+{
+    if bytes.capacity() > 0 {
+        return Ok(());
+    }
+    bytes.reserve(FIRST)
+}
+
+/// Writes a number of so many bits into the last octet, of which more bits are free.
+fn fill_octet(bytes: &mut Vec<u8>, free: u32, value: u64, count: u32)
+    requires full { FreeBehind (before_free bytes.old.items free) bytes.old.items free }
+    requires few { free < 8 }
+    requires fits { value < 2 ^ count }
+    requires some { 1 ≤ count }
+    requires most { count ≤ free }
+    ensures { FreeBehind (before_free bytes.old.items free ++ bits count value) bytes.new.items (free - count) }
+{
+    let last = bytes.len() - 1;
+    bytes[last] = put_in_octet(bytes[last], free, value as u8, count);
+}
+
+/// Writes a number of so many bits into one more octet.
+fn add_octet(bytes: &mut Vec<u8>, value: u64, count: u32) -> Result<(), AllocError>
+    requires fits { value < 2 ^ count }
+    requires some { 1 ≤ count }
+    requires most { count ≤ 8 }
+    ensures ok { OnOk result (FreeBehind (bits_of bytes.old.items ++ bits count value) bytes.new.items (8 - count)) }
+    ensures err { OnErr result (bytes.new.items ≡ bytes.old.items) }
+{
+    bytes.push(put_in_octet(0, 8, value as u8, count))?;
+    Ok(())
+}
+
+/// Writes two more octets.
+fn add_two(bytes: &mut Vec<u8>, value: u64) -> Result<(), AllocError>
+    requires { value < 2 ^ 16 }
+    ensures ok { OnOk result (FreeBehind (bits_of bytes.old.items ++ bits 16 value) bytes.new.items 0) }
+    ensures err { OnErr result (bytes.new.items ≡ bytes.old.items) }
+{
+    bytes.extend_from_slice(&[(value >> 8) as u8, (value & 0xff) as u8])?;
+    Ok(())
+}
+
 /// Writes a number of so many bits where bits are free.
 fn put_bits(octets: &mut [u8], free: u32, value: u64, count: u32)
     requires room { free ≤ 8 * length octets.old }
@@ -128,6 +176,19 @@ fn append_bits(bytes: &mut Vec<u8>, free: u32, value: u64, count: u32) -> Result
     ensures full { IfOk result (λ f. FreeBehind (before_free bytes.old.items free ++ bits count value) bytes.new.items f) }
     ensures err { OnErr result (bytes.new.items ≡ bytes.old.items) }
 {
+    begin(bytes)?;
+    if 1 <= count && count <= free {
+        fill_octet(bytes, free, value, count);
+        return Ok(free - count);
+    }
+    if free == 0 && 1 <= count && count <= 8 {
+        add_octet(bytes, value, count)?;
+        return Ok(8 - count);
+    }
+    if free == 0 && count == 16 {
+        add_two(bytes, value)?;
+        return Ok(0);
+    }
     let free = make_room(bytes, free, count)?;
     put_bits(bytes, free, value, count);
     Ok(free - count)
@@ -179,6 +240,7 @@ impl BitWriter {
         ensures ok { OnOk result (self.new ≡ then_written self.old (fixed_octets_run octets.now)) }
         ensures err { OnErr result (self.new ≡ self.old) }
     {
+        begin(&mut self.bytes)?;
         self.bytes.extend_from_slice(octets)?;
         self.free = 0;
         Ok(())

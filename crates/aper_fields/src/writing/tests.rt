@@ -1,84 +1,98 @@
 //! What is written, against octets worked out by hand from ITU-T X.691.
 
+ghost use Rattle.std.specs.Prelude.{◌≡◌, ◌<◌, false};
+
 use super::*;
 use crate::ranged::Ranged;
+use crate::tests::{octets_of, range_of, without_zeros};
+use std::process::Abort;
 use std::test::Fail;
 
-#[test]
-fn numbers(rt: HostRuntime) -> Result<(), Fail> {
-    for (low, high, v, octets) in [
-        (5, 5, 5, b"".as_slice()),
-        (1, 160, 160, b"\x9f".as_slice()),
-        (0, 254, 254, b"\xfe".as_slice()),
-        (0, 255, 7, b"\x07".as_slice()),
-        (1, 256, 256, b"\xff".as_slice()),
-        (0, 256, 256, b"\x01\x00".as_slice()),
-        (0, 65535, 8, b"\x00\x08".as_slice()),
-        (0, 65536, 65536, b"\x80\x01\x00\x00".as_slice()),
-        (0, 16777215, 16777215, b"\x80\xff\xff\xff".as_slice()),
-        (0, 16777215, 0, b"\x00\x00".as_slice()),
-        (0, 16777215, 256, b"\x40\x01\x00".as_slice()),
-        (0, 4294967295, 1, b"\x00\x01".as_slice()),
-    ] {
-        assert!(rt; low <= v && v <= high);
-        let mut w = BitWriter::new(rt.alloc());
-        write_number(&mut w, low, high, v)?;
-        assert_eq!(rt; w.bytes(), octets, "{v} from {low} to {high}");
+/// A line each: the octets in hexadecimal, the piece, and the value that is written. Numbers from the one to the other, lengths,
+/// enumerations of so many roots without and with an extension mark, and their values beyond the roots.
+const PIECES: &str = "
+ 5..5 5
+9f 1..160 160
+fe 0..254 254
+07 0..255 7
+ff 1..256 256
+0100 0..256 256
+0008 0..65535 8
+80010000 0..65536 65536
+80ffffff 0..16777215 16777215
+0000 0..16777215 0
+400100 0..16777215 256
+0001 0..4294967295 1
+00 length 0
+7f length 127
+8080 length 128
+bfff length 16383
+30 5 roots .. 3
+60 5 roots 3
+82 5 roots .. beyond 2
+00 1 root .. 0
+ 1 root 0
+";
+
+/// A value of an enumeration that is one of its roots.
+fn root(index: u64) -> EnumValue
+    requires { index < 64 }
+    ensures extended { result.extended ≡ false }
+    ensures index { result.index ≡ index }
+{
+    EnumValue {
+        extended: false,
+        index: index as u8,
     }
-    Ok(())
 }
 
-#[test]
-fn lengths(rt: HostRuntime) -> Result<(), Fail> {
-    for (n, octets) in [
-        (0, b"\x00".as_slice()),
-        (127, b"\x7f".as_slice()),
-        (128, b"\x80\x80".as_slice()),
-        (16383, b"\xbf\xff".as_slice()),
-    ] {
-        assert!(rt; n < 16384);
-        let mut w = BitWriter::new(rt.alloc());
-        write_len(&mut w, n)?;
-        assert_eq!(rt; w.bytes(), octets, "{n}");
+/// Writes a number of a range that the table names.
+fn write_in_range(w: &mut BitWriter, piece: &str, value: u64) -> Result<(), Fail> {
+    let Some((low, high)) = range_of(piece) else {
+        return Err(Fail::new("no piece"));
+    };
+    if value < low || high < value {
+        return Err(Fail::new("no value"));
     }
-    Ok(())
+    Ok(write_number(w, low, high, value)?)
 }
 
-#[test]
-fn enumerations(rt: HostRuntime) -> Result<(), Fail> {
-    for (roots, extensible, extended, index, octets) in [
-        (5, true, false, 3, b"\x30".as_slice()),
-        (5, false, false, 3, b"\x60".as_slice()),
-        (5, true, true, 2, b"\x82".as_slice()),
-        (1, true, false, 0, b"\x00".as_slice()),
-        (1, false, false, 0, b"".as_slice()),
-    ] {
-        assert!(rt; 1 <= roots && roots <= 64);
-        let mut w = BitWriter::new(rt.alloc());
-        if extended {
-            assert!(rt; extensible && index < 64);
-            write_enum(
-                &mut w,
-                roots,
-                extensible,
-                EnumValue {
-                    extended: true,
-                    index,
-                },
-            )?;
-        } else {
-            assert!(rt; u32::from(index) < roots);
-            write_enum(
-                &mut w,
-                roots,
-                extensible,
-                EnumValue {
-                    extended: false,
-                    index,
-                },
-            )?;
+/// Writes a value of a piece that the table names.
+fn write_piece(w: &mut BitWriter, piece: &str, value: u64) -> Result<(), Fail> {
+    match piece {
+        "length" if value < 16384 => Ok(write_len(w, value as usize)?),
+        "5 roots" if value < 5 => Ok(write_enum(w, 5, false, root(value))?),
+        "5 roots .." if value < 5 => Ok(write_enum(w, 5, true, root(value))?),
+        "5 roots .. beyond" if value < 64 => {
+            let beyond = EnumValue {
+                extended: true,
+                index: value as u8,
+            };
+            Ok(write_enum(w, 5, true, beyond)?)
         }
-        assert_eq!(rt; w.bytes(), octets, "{index} of {roots}");
+        "1 root" if value == 0 => Ok(write_enum(w, 1, false, root(0))?),
+        "1 root .." if value == 0 => Ok(write_enum(w, 1, true, root(0))?),
+        _ => write_in_range(w, piece, value),
+    }
+}
+
+/// The octets of a line, its piece, and its value.
+fn parts_of(line: &str) -> Option<(&str, &str, u64)> {
+    let (text, rest) = line.split_once(' ')?;
+    let (piece, value) = rest.rsplit_once(' ')?;
+    Some((text, piece, value.parse().ok()?))
+}
+
+#[test]
+fn pieces(rt: HostRuntime) -> Result<(), Fail> {
+    for line in PIECES.lines().skip(1) {
+        let Some((text, piece, value)) = parts_of(line) else {
+            panic!(rt; "{line}");
+        };
+        let mut w = BitWriter::new(rt.alloc());
+        write_piece(&mut w, piece, value)?;
+        let octets = octets_of(text)?;
+        assert_eq!(rt; w.bytes(), without_zeros(&octets, text), "{line}");
     }
     Ok(())
 }

@@ -15,4 +15,4 @@ returns-clause-full c =
     let items = with_items_is c.make_room.new.bytes ws (omega arith) in
     let old = before_free-is _ _ _ c.in_ok-free.ensures.full in
     let full = rw (c.deref_mut.ensures.value, old) at c.put_bits.ensures in
-    rw items full
+    rw (items, ← c.begin.ensures) full

@@ -1,6 +1,6 @@
 use Rattle.std.proofs.Common.{◌≡◌, ◌+◌, ◌-◌, ◌≤◌, length, drop, ap, sym, ◌∙◌, arith}
 use Rattle.aper_fields.specs.Reading.{forward}
-use Rattle.aper_fields.proofs.Steps.{forward-zero, forward-add, gathered, number_of-none, number_of-take-lt}
+use Rattle.aper_fields.proofs.Steps.{forward-zero, forward-add, gathered, number_of-none, number_of-take-lt, two_value, two_read}
 use Rattle.aper_fields.proofs.reader.BitReader.read_bits.Goals as goal
 
 pub loop-wanted-init : goal.loop-wanted-init
@@ -32,3 +32,16 @@ returns-clause-fits c =
 pub returns-then-count-room-clause-fits : goal.returns-then-count-room-clause-fits
 returns-then-count-room-clause-fits c =
     rw c.take_bits.ensures.value (number_of-take-lt c.args.count c.args.self.now.left (omega (arith, c.if-not-has.ensures)))
+
+pub returns-then-room-eq8-clause-read : goal.returns-then-room-eq8-clause-read
+returns-then-room-eq8-clause-read c =
+    let high = c.take_bits-high.ensures in
+    let low = c.take_bits-then-room-eq8.ensures in
+    rw c.if-count-eq16.true (two_read c.args.self.now _ _ _ _ (omega (arith, c.if-not-has.ensures)) high.value high.moved low.value low.moved)
+
+pub returns-then-room-eq8-clause-fits : goal.returns-then-room-eq8-clause-fits
+returns-then-room-eq8-clause-fits c =
+    let i = c.args.self.now in
+    let here : 16 ≤ length i.left = omega (arith, c.if-not-has.ensures) in
+    let high = c.take_bits-high.ensures in
+    rw (c.if-count-eq16.true, two_value i _ _ _ here high.value high.moved c.take_bits-then-room-eq8.ensures.value) (number_of-take-lt 16 i.left here)
