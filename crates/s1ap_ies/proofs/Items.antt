@@ -1,9 +1,9 @@
 -- The items of lists in their ranges, as their types and as their callers say it.
-use Rattle.std.proofs.Common.{ℕ, ◌*◌, ◌^◌, ◌<◌, ◌≤◌, List, [], ◌∷◌, length, Option, Some, None, IfSome, refl, arith}
+use Rattle.std.proofs.Common.{ℕ, ◌*◌, ◌≤◌, List, [], ◌∷◌, length, Option, Some, None, IfSome, refl, arith}
 use Rattle.s1ap_ies.specs.declared.erab_to_setup.ErabToSetup.{ErabToSetup}
 use Rattle.s1ap_ies.specs.declared.erab_done.ErabDone.{ErabDone}
 use Rattle.std.specs.List.{AllByRecursion}
-use Rattle.s1ap_ies.specs.Asn1.{run, Fits, CanBeWritten, IsItem, IsSound, most_bits}
+use Rattle.s1ap_ies.specs.Asn1.{Fits, IsItem, IsSound, most_bits}
 use Rattle.s1ap_ies.specs.Values.{erab_id, address, arp, qos, erab_done, erab_to_setup, erabs_done, erabs_to_setup}
 use Rattle.s1ap_ies.specs.Run.{IsNas, IsErabDone, IsErabToSetup}
 use Rattle.s1ap_ies.proofs.Sizes.{takes}

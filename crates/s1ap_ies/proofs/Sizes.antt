@@ -1,5 +1,5 @@
 -- How many bits are written for a value: at least one, and at most so many.
-use Rattle.std.proofs.Common.{ℕ, ◌≡◌, ◌+◌, ◌-◌, ◌*◌, ◌^◌, ◌<◌, ◌≤◌, Bool, true, false, cond, List, [], ◌∷◌, length, eqb, ltb, refl, inl, inr, arith, Option, Some, None, is_some, IfSome}
+use Rattle.std.proofs.Common.{ℕ, ◌≡◌, ◌+◌, ◌-◌, ◌*◌, ◌^◌, ◌<◌, ◌≤◌, Bool, true, false, cond, List, [], ◌∷◌, length, eqb, ltb, refl, inl, inr, arith, Some, None, is_some}
 use Rattle.std.specs.List.{AllByRecursion}
 use Rattle.std.proofs.lemmas.List.{length-append}
 use Rattle.std.proofs.lemmas.Bool.{cases_lt, lt-ltb, le-ltb, ne_eqb, ltb-true, ltb-false}
@@ -12,7 +12,7 @@ use Rattle.aper_fields.proofs.BitLaws.{length-bits}
 use Rattle.aper_fields.proofs.Counts.{octet_count_more, octet_count_few}
 use Rattle.aper_fields.proofs.Widths.{width_some}
 use Rattle.aper_fields.proofs.Lengths.{Takes, then_takes, number_takes, fixed_bits_takes, octet_string_takes, enumerated_takes, open_takes}
-use Rattle.s1ap_ies.specs.Asn1.{AsnType, Fields, part_run, bit_string, integer, only, enumerated, octet_string, choice_index, extensible, on, choice, sequence, sequence_of, container, named, needed, optional, absent, also, run, fields_run, flags_run, each_run, list_run, item_run, present_run, index_run, Fits, FieldsFit, most_bits, most_flags, most_fields, takes_some, IsSound, AreSound}
+use Rattle.s1ap_ies.specs.Asn1.{AsnType, Fields, bit_string, integer, only, enumerated, octet_string, choice_index, extensible, on, choice, sequence, sequence_of, container, named, needed, optional, absent, also, run, fields_run, flags_run, each_run, list_run, item_run, present_run, index_run, Fits, FieldsFit, most_bits, most_flags, most_fields, takes_some, IsSound, AreSound}
 use Rattle.s1ap_ies.proofs.Types.{small_top}
 
 -- ---- at least a bit

@@ -1,11 +1,11 @@
 -- What is written for a value in its range spells it.
-use Rattle.std.proofs.Common.{ℕ, zero, suc, ◌≡◌, ◌+◌, ◌-◌, ◌*◌, ◌^◌, ◌<◌, ◌≤◌, Bool, true, false, ◌&&◌, List, [], ◌∷◌, ◌++◌, length, refl, sym, leb, inl, inr, arith, Option, Some, None, is_some}
+use Rattle.std.proofs.Common.{ℕ, zero, suc, ◌+◌, ◌^◌, ◌<◌, ◌≤◌, Bool, true, false, ◌&&◌, List, [], ◌∷◌, ◌++◌, length, refl, sym, leb, inl, inr, arith, Some, None, is_some}
 use Rattle.std.specs.List.{AllByRecursion}
 use Rattle.std.proofs.lemmas.List.{append-nil}
 use Rattle.std.proofs.lemmas.Bool.{leb-true, lt-ltb, le-leb, and_parts, eq-eqb}
 use Rattle.echo_base.specs.declared.reason.Reason.{Reason}
 use Rattle.echo_base.specs.declared.reason.Reason.TheVariants as reasons
-use Rattle.aper_fields.specs.Run.{Run, ◌▸◌, fixed_bits_run, number_run, open_run}
+use Rattle.aper_fields.specs.Run.{Run, fixed_bits_run, number_run, open_run}
 use Rattle.aper_fields.specs.Spelling.{IsOctets}
 use Rattle.aper_fields.specs.Format.{Format, ◌>>=◌, just}
 use Rattle.aper_fields.proofs.Periodic.{IsPeriodic}

@@ -4,7 +4,7 @@ use Rattle.echo_base.specs.declared.refusal.Refusal.{Refusal}
 use Rattle.aper_fields.specs.Reading as pieces
 use Rattle.aper_fields.specs.Reading.{Input, whole_at}
 use Rattle.aper_fields.specs.Spelling.{Holds}
-use Rattle.aper_fields.specs.Format.{Format, Stands, WholeRefuses}
+use Rattle.aper_fields.specs.Format.{Format, WholeRefuses}
 use Rattle.s1ap_ies.specs.Reading.{Reader}
 
 -- ---- values one behind another, where each may depend on those before it

@@ -3,7 +3,7 @@ use Rattle.std.specs.Prelude.{◌≡◌, ℕ, ◌==◌, nat_le, nat_lt, ◌^◌,
 use Rattle.std.proofs.Common.{inl, inr}
 use Rattle.echo_base.specs.declared.reason.Reason.TheVariants as reasons
 use Rattle.device_types.specs.Cause.{cause_roots}
-use Rattle.s1ap_ies.specs.Asn1.{AsnType, Fields, Same, bit_string, integer, only, octet_string, enumerated, choice_index, extensible, on, choice, sequence, needed, optional, absent, also, named, container, sequence_of}
+use Rattle.s1ap_ies.specs.Asn1.{AsnType, bit_string, integer, only, octet_string, enumerated, choice_index, extensible, on, choice, sequence, needed, optional, absent, also, named, container, sequence_of}
 use Rattle.s1ap_ies.specs.Names.{most_octets_of_nas, most_erabs, erab_to_setup_item, erab_setup_item, reject, ignore}
 use Rattle.s1ap_ies.specs.declared.tai.Tai.{Tai}
 use Rattle.s1ap_ies.specs.declared.cgi.Cgi.{Cgi}

@@ -9,6 +9,7 @@ ghost use Rattle.s1ap_ies.specs.Values.{erab_to_setup, qos, address, nas_pdu};
 ghost use Rattle.s1ap_ies.specs.Lent.{item_of};
 
 use crate::bearer::{Qos, read_address, read_erab_id, write_address, write_erab_id};
+use crate::names::MOST_OCTETS_OF_NAS;
 use crate::pieces::read_zero_bit;
 use crate::sequence::{read_present, skip_extensions, write_present};
 use crate::value::{OwnedValue, PlainValue};
@@ -55,7 +56,7 @@ fn read_nas<'a>(r: &mut BitReader<'a>, present: bool) -> Result<Option<&'a [u8]>
         return Ok(None);
     }
     let mut ahead = r.ahead();
-    let nas = read_octet_string(&mut ahead, 2048)?;
+    let nas = read_octet_string(&mut ahead, MOST_OCTETS_OF_NAS)?;
     *r = ahead;
     Ok(Some(nas))
 }

@@ -3,8 +3,6 @@
 #![tactic(auto)]
 
 mod bearer;
-#[cfg(test)]
-mod bearer_tests;
 mod bit_rates;
 mod cause;
 mod cgi;
@@ -12,6 +10,7 @@ mod erab_done;
 mod erab_to_setup;
 mod item;
 mod laws;
+pub mod names;
 mod pieces;
 mod sec_caps;
 mod sequence;

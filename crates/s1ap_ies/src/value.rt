@@ -42,9 +42,9 @@ pub trait PlainValue: Copy {
         ensures ok { OnOk result (w.new ≡ then_written w.old (run asn1 self)) }
         ensures err { OnErr result (w.new ≡ w.old) }
     {
-        let mark = w.mark();
+        let start = w.mark();
         if let Err(error) = self.write_pieces(w) {
-            w.back_to(mark);
+            w.back_to(start);
             return Err(error);
         }
         Ok(())

@@ -16,7 +16,7 @@ ghost use Rattle.s1ap_messages.specs.Run.{AreSome};
 use aper_fields::{BitReader, BitWriter, Ranged, close};
 use device_types::ListOf;
 use echo_base::{Bad, OutOfMemory, Refusal};
-use s1ap_ies::{ErabDone, ErabToSetup, OwnedValue, read_item, write_item};
+use s1ap_ies::{ErabDone, ErabToSetup, OwnedValue, names, read_item, write_item};
 use std::alloc::Global;
 use std::marker::{Model, PhantomData};
 
@@ -212,10 +212,12 @@ fn find_erabs<'a, T: Erab>(r: &mut BitReader<'a>, id: u16) -> Result<FoundErabs<
 
 /// Finds the E-RAB to Be Setup List of a request (TS 36.413, 9.1.4.1), each item of which has to be right.
 #[tactic(auto, unfolding(s1ap_ies::specs::Asn1::reading, s1ap_ies::specs::Values::erabs_to_setup))]
-pub fn find_erabs_to_setup<'a>(r: &mut BitReader<'a>) -> Result<FoundErabs<'a, ErabToSetup>, Refusal>
+pub fn find_erabs_to_setup<'a>(
+    r: &mut BitReader<'a>,
+) -> Result<FoundErabs<'a, ErabToSetup>, Refusal>
     ensures { Gives result r.old r.new (reading erabs_to_setup r.old) }
 {
-    find_erabs(r, 52)
+    find_erabs(r, names::ERAB_TO_SETUP_ITEM)
 }
 
 /// Finds the E-RAB Setup List of a response (TS 36.413, 9.1.4.3), each item of which has to be right.
@@ -223,7 +225,7 @@ pub fn find_erabs_to_setup<'a>(r: &mut BitReader<'a>) -> Result<FoundErabs<'a, E
 pub fn find_erabs_done<'a>(r: &mut BitReader<'a>) -> Result<FoundErabs<'a, ErabDone>, Refusal>
     ensures { Gives result r.old r.new (reading erabs_done r.old) }
 {
-    find_erabs(r, 50)
+    find_erabs(r, names::ERAB_SETUP_ITEM)
 }
 
 /// Writes an item of a list, with all of its open type.
@@ -292,7 +294,7 @@ pub fn write_erabs_to_setup(
     requires { AreSome IsErabToSetup erabs.now }
     ensures { OnOk result (w.new ≡ then_written w.old (run erabs_to_setup erabs.now)) }
 {
-    write_erabs(alloc, w, 52, 0, erabs)
+    write_erabs(alloc, w, names::ERAB_TO_SETUP_ITEM, names::REJECT, erabs)
 }
 
 /// Writes an E-RAB Setup List.
@@ -305,5 +307,5 @@ pub fn write_erabs_done(
     requires { AreSome IsErabDone erabs.now }
     ensures { OnOk result (w.new ≡ then_written w.old (run erabs_done erabs.now)) }
 {
-    write_erabs(alloc, w, 50, 1, erabs)
+    write_erabs(alloc, w, names::ERAB_SETUP_ITEM, names::IGNORE, erabs)
 }

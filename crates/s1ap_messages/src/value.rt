@@ -9,7 +9,10 @@ use crate::pdu::{ErabsDone, ErabsToSetup};
 use aper_fields::{BitReader, EnumValue, Ranged, read_enum, read_octet_string, read_octets_fixed};
 use device_types::Octets;
 use echo_base::{OutOfMemory, Refusal};
-use s1ap_ies::{BitRates, Cause, Cgi, ErabDone, ErabToSetup, PlainValue, SecCaps, Stmsi, Tai, UeIds};
+use s1ap_ies::names::MOST_OCTETS_OF_NAS;
+use s1ap_ies::{
+    BitRates, Cause, Cgi, ErabDone, ErabToSetup, PlainValue, SecCaps, Stmsi, Tai, UeIds,
+};
 use std::alloc::Global;
 use std::marker::Model;
 
@@ -108,7 +111,7 @@ pub fn find_value<'a>(r: &mut BitReader<'a>, id: u16) -> Result<FoundValue<'a>, 
         2 => Ok(IeValue::Cause(Cause::read(r)?)),
         8 => Ok(IeValue::Enb(Ranged::<0, 16777215>::read(r)? as u32)),
         24 => Ok(IeValue::Bearers(find_erabs_to_setup(r)?)),
-        26 => Ok(IeValue::Nas(find_text(r, 2048)?)),
+        26 => Ok(IeValue::Nas(find_text(r, MOST_OCTETS_OF_NAS)?)),
         51 => Ok(IeValue::Done(find_erabs_done(r)?)),
         66 => Ok(IeValue::Rates(BitRates::read(r)?)),
         67 => Ok(IeValue::Tai(Tai::read(r)?)),
