@@ -18,10 +18,7 @@ use Rattle.s1ap_ies.specs.declared.tables.IeRow.{IeRow}
 use Rattle.s1ap_ies.specs.declared.tables.MessageKind.{MessageKind}
 use Rattle.s1ap_ies.specs.Tables.{rows_of}
 use Rattle.s1ap_ies.specs.Grammar.{zero_bit_in}
-use Rattle.s1ap_ies.specs.Asn1.{format}
 use Rattle.s1ap_ies.specs.Values as types
-use Rattle.s1ap_ies.specs.declared.erab_to_setup.ErabToSetup.{ErabToSetup}
-use Rattle.s1ap_ies.specs.Run.{IsErabDone, IsErabToSetup}
 use Rattle.s1ap_ies.specs.Asn1.{item_run}
 use Rattle.s1ap_ies.proofs.Distinct.{ids_distinct}
 use Rattle.s1ap_ies.proofs.Items.{dones_sound, setups_sound, dones_right, setups_right, setups_strings}
@@ -31,7 +28,7 @@ use Rattle.s1ap_ies.specs.Many.{InOrder, inside}
 use Rattle.s1ap_messages.specs.Values.{FieldValue, value_in}
 use Rattle.s1ap_messages.specs.Messages.{kind_of}
 use Rattle.s1ap_messages.specs.Grammar.{Ie, Named, Other, found, has_ie, fields_of, ie_in, ies_in, pdu_in, Spells}
-use Rattle.s1ap_messages.specs.Run.{value_run, fields_run, count_of, ies_run, IsShort, IsRightValue, AreSome, IsRightField, IsRight, HasOctetsIn, HasOctets}
+use Rattle.s1ap_messages.specs.Run.{value_run, fields_run, count_of, ies_run, IsShort, IsRightValue, IsRightField, IsRight, HasOctetsIn, HasOctets}
 use Rattle.s1ap_messages.specs.Answer.{Answers}
 use Rattle.s1ap_messages.proofs.Cases.{HoldsOfEach, each_value}
 use Rattle.s1ap_ies.proofs.Ends.{EndsBy, front_ends, open_ends}

@@ -1,5 +1,5 @@
 -- What is written for a value: it depends on its offset within an octet alone, and it is something.
-use Rattle.std.proofs.Common.{◌≡◌, ℕ, ◌<◌, ◌≤◌, true, List, length, refl, arith}
+use Rattle.std.proofs.Common.{◌≡◌, ℕ, ◌<◌, true, List, length, refl, arith}
 use Rattle.std.proofs.lemmas.List.{length-append}
 use Rattle.aper_fields.specs.Bits.{bits_of, zeros, gap}
 use Rattle.aper_fields.specs.Run.{fixed_octets_run}

@@ -1,5 +1,5 @@
 -- What is written for a value spells it.
-use Rattle.std.proofs.Common.{ℕ, refl, arith}
+use Rattle.std.proofs.Common.{refl, arith}
 use Rattle.aper_fields.specs.Run.{Run}
 use Rattle.aper_fields.specs.Spelling.{IsOctets}
 use Rattle.aper_fields.specs.Format.{Format, mapped}
