@@ -25,6 +25,7 @@ trait Written: OwnedValue {
 
 impl Written for Tai {
     fn put(&self, w: &mut BitWriter) -> Result<bool, OutOfMemory> {
+        let _tac = self.tac;
         if self.plmn >= 0x0100_0000 {
             return Ok(false);
         }
@@ -45,6 +46,8 @@ impl Written for Cgi {
 
 impl Written for Stmsi {
     fn put(&self, w: &mut BitWriter) -> Result<bool, OutOfMemory> {
+        let _mmec = self.mmec;
+        let _tmsi = self.tmsi;
         PlainValue::write(*self, w)?;
         Ok(true)
     }
@@ -62,6 +65,8 @@ impl Written for BitRates {
 
 impl Written for SecCaps {
     fn put(&self, w: &mut BitWriter) -> Result<bool, OutOfMemory> {
+        let _eea = self.eea;
+        let _eia = self.eia;
         PlainValue::write(*self, w)?;
         Ok(true)
     }
@@ -87,21 +92,31 @@ impl Written for Cause {
     }
 }
 
-impl Written for UeIds {
-    fn put(&self, w: &mut BitWriter) -> Result<bool, OutOfMemory> {
-        if let UeIds::Pair { mme: _, enb } = *self {
+/// Writes the identities where those of the base station have 24 bits.
+fn put_ids(ids: UeIds, w: &mut BitWriter) -> Result<bool, OutOfMemory> {
+    match ids {
+        UeIds::Pair { mme, enb } => {
             if enb >= 0x0100_0000 {
                 return Ok(false);
             }
+            PlainValue::write(UeIds::Pair { mme, enb }, w)?;
         }
-        PlainValue::write(*self, w)?;
-        Ok(true)
+        UeIds::Mme(mme) => PlainValue::write(UeIds::Mme(mme), w)?,
+    }
+    Ok(true)
+}
+
+impl Written for UeIds {
+    fn put(&self, w: &mut BitWriter) -> Result<bool, OutOfMemory> {
+        put_ids(*self, w)
     }
 }
 
 impl Written for ErabDone {
-    #[tactic(auto, using(crate::proofs::Items::done_fits))]
+    #[tactic(auto, unfolding(crate::specs::Values::erab_done, crate::specs::Values::erab_id, crate::specs::Values::address))]
     fn put(&self, w: &mut BitWriter) -> Result<bool, OutOfMemory> {
+        let _address = self.address;
+        let _teid = self.teid;
         if self.id >= 16 {
             return Ok(false);
         }
@@ -111,17 +126,26 @@ impl Written for ErabDone {
 }
 
 impl Written for ErabToSetup {
-    #[tactic(auto, using(crate::proofs::Items::setup_fits, crate::proofs::Items::no_string))]
+    #[tactic(auto, unfolding(crate::specs::Values::erab_to_setup, crate::specs::Values::erab_id, crate::specs::Values::qos, crate::specs::Values::arp, crate::specs::Values::address))]
     fn put(&self, w: &mut BitWriter) -> Result<bool, OutOfMemory> {
-        if self.id >= 16 || self.arp >= 64 {
+        let _qci = self.qci;
+        let _address = self.address;
+        let _teid = self.teid;
+        if self.id >= 16 {
             return Ok(false);
         }
-        if let Some(nas) = &self.nas {
-            if nas.items().len() > 2048 {
-                return Ok(false);
-            }
+        if self.arp >= 64 {
+            return Ok(false);
         }
-        OwnedValue::write(self, w)?;
+        match &self.nas {
+            Some(nas) => {
+                if nas.items().len() > 2048 {
+                    return Ok(false);
+                }
+                OwnedValue::write(self, w)?;
+            }
+            None => OwnedValue::write(self, w)?,
+        }
         Ok(true)
     }
 }
@@ -229,10 +253,8 @@ fn long_item(alloc: Global, high: u8, low: u8, count: usize) -> Result<Octets, F
     let mut octets = Octets::from(hex::decode(alloc, "4500093d0f80c0a8000100000001")?);
     octets.push(high)?;
     octets.push(low)?;
-    let mut left = count;
-    while left > 0 {
+    for _ in 0..count {
         octets.push(0)?;
-        left -= 1;
     }
     Ok(octets)
 }
