@@ -1,4 +1,12 @@
 pub mod Exact
+pub mod Inside
+pub mod Manys
+pub mod Opens
+pub mod Ends
+pub mod Types
+pub mod Sizes
 pub mod Spelled
+pub mod Room
+pub mod Least
+pub mod Items
 pub mod Distinct
-pub mod Ranges

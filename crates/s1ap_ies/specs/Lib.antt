@@ -1,6 +1,11 @@
+pub mod Names
 pub mod Reading
 pub mod Grammar
+pub mod Many
+pub mod Asn1
+pub mod Values
 pub mod Run
 pub mod Memory
+pub mod Lent
 pub mod Tables
 pub mod Kept

@@ -1,17 +1,12 @@
 //! Cell global identities.
 
-ghost use Rattle.std.specs.Prelude.{◌≡◌, OnOk, OnErr, ◌^◌, ◌<◌};
-ghost use Rattle.aper_fields.specs.Reading.{Gives};
-ghost use Rattle.aper_fields.specs.Format.{ReadsExactly};
-ghost use Rattle.aper_fields.specs.Run.{then_written};
-ghost use Rattle.s1ap_ies.specs.Reading.{cgi_at};
-ghost use Rattle.s1ap_ies.specs.Grammar.{cgi_in};
-ghost use Rattle.s1ap_ies.specs.Kept.{Keeps};
-ghost use Rattle.s1ap_ies.specs.Run.{IsCgi, cgi_run};
+ghost use Rattle.std.specs.Prelude.{◌≡◌, OnOk, OnErr};
 
-use crate::sequence::{read_preamble, skip_extensions, write_preamble};
+use crate::pieces::read_zero_bit;
+use crate::sequence::{read_present, skip_extensions, write_preamble};
+use crate::value::PlainValue;
 use aper_fields::{BitReader, BitWriter, read_bits_fixed, write_bits_fixed};
-use echo_base::{OutOfMemory, Refusal};
+use echo_base::{OutOfMemory, Reason, Refusal};
 
 /// An E-UTRAN cell global identity (TS 36.413, 9.2.1.38).
 #[derive(Clone, Copy, Debug, PartialEq, Eq)]
@@ -22,56 +17,32 @@ pub struct Cgi {
     pub cell: u32,
 }
 
-/// Reads the fields, and passes over the iE-Extensions.
-#[tactic(auto, unfolding(crate::specs::Reading::cgi_at))]
-fn read_fields(r: &mut BitReader) -> Result<Cgi, Refusal>
-    ensures { Gives result r.old r.new (cgi_at r.old) }
-{
-    let mut ahead = r.ahead();
-    let more = read_preamble(&mut ahead)?;
-    let plmn = read_bits_fixed(&mut ahead, 24)?;
-    let cell = read_bits_fixed(&mut ahead, 28)?;
-    skip_extensions(&mut ahead, more)?;
-    *r = ahead;
-    Ok(Cgi {
-        plmn: plmn as u32,
-        cell: cell as u32,
-    })
-}
+impl PlainValue for Cgi {
+    ghost use Rattle.s1ap_ies.specs.Values.{cgi};
 
-/// Writes the fields.
-#[tactic(auto, unfolding(crate::specs::Run::cgi_run))]
-fn write_fields(w: &mut BitWriter, cgi: &Cgi) -> Result<(), OutOfMemory>
-    requires { IsCgi cgi.now }
-    ensures ok { OnOk result (w.new ≡ then_written w.old (cgi_run cgi.now)) }
-    ensures kept { OnErr result (Keeps w.old w.new) }
-{
-    write_preamble(w)?;
-    write_bits_fixed(w, u64::from(cgi.plmn), 24)?;
-    write_bits_fixed(w, u64::from(cgi.cell), 28)
-}
+    ghost asn1 = { cgi };
 
-impl Cgi {
-    /// Reads the value. It is refused for the first piece that is wrong: Truncated, NonZeroPadding, SequenceExtension
+    /// It is refused for the first piece that is wrong: Truncated, NonZeroPadding, SequenceExtension
     /// where its extension bit is 1; in its iE-Extensions LongLength, TooLong, BadCriticality too.
-    pub fn read(r: &mut BitReader) -> Result<Cgi, Refusal>
-        ensures read { Gives result r.old r.new (cgi_at r.old) }
-        ensures exact { ReadsExactly cgi_in result r.old r.new }
-    {
-        read_fields(r)
+    #[tactic(auto, unfolding(crate::specs::Asn1::reading, crate::specs::Asn1::flags_at, crate::specs::Asn1::fields_at))]
+    fn read_pieces(r: &mut BitReader) -> Result<Cgi, Refusal> {
+        let mut ahead = r.ahead();
+        read_zero_bit(&mut ahead, Reason::SequenceExtension)?;
+        let more = read_present(&mut ahead)?;
+        let plmn = read_bits_fixed(&mut ahead, 24)?;
+        let cell = read_bits_fixed(&mut ahead, 28)?;
+        skip_extensions(&mut ahead, more)?;
+        *r = ahead;
+        Ok(Cgi {
+            plmn: plmn as u32,
+            cell: cell as u32,
+        })
     }
 
-    /// Writes the value, without iE-Extensions. Where memory runs out, nothing is written.
-    pub fn write(&self, w: &mut BitWriter) -> Result<(), OutOfMemory>
-        requires { IsCgi self.now }
-        ensures ok { OnOk result (w.new ≡ then_written w.old (cgi_run self.now)) }
-        ensures err { OnErr result (w.new ≡ w.old) }
-    {
-        let mark = w.mark();
-        if let Err(error) = write_fields(w, self) {
-            w.back_to(mark);
-            return Err(error);
-        }
-        Ok(())
+    #[tactic(auto, unfolding(crate::specs::Asn1::run, crate::specs::Asn1::flags_run, crate::specs::Asn1::fields_run))]
+    fn write_pieces(self, w: &mut BitWriter) -> Result<(), OutOfMemory> {
+        write_preamble(w)?;
+        write_bits_fixed(w, u64::from(self.plmn), 24)?;
+        write_bits_fixed(w, u64::from(self.cell), 28)
     }
 }

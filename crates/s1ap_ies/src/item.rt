@@ -7,7 +7,7 @@ ghost use Rattle.aper_fields.specs.Run.{content_of, then_written};
 ghost use Rattle.s1ap_ies.specs.Reading.{item_at};
 ghost use Rattle.s1ap_ies.specs.Grammar.{item_in};
 ghost use Rattle.s1ap_ies.specs.Kept.{Keeps};
-ghost use Rattle.s1ap_ies.specs.Run.{item_run};
+ghost use Rattle.s1ap_ies.specs.Asn1.{item_run};
 
 use crate::pieces::read_criticality;
 use aper_fields::{BitReader, BitWriter, Ranged, read_open, write_bits_fixed, write_open};
@@ -39,7 +39,7 @@ pub fn read_item<'a>(r: &mut BitReader<'a>, id: u16) -> Result<BitReader<'a>, Re
 }
 
 /// Writes the id of an item, its criticality, and what it contains.
-#[tactic(auto, unfolding(crate::specs::Run::item_run))]
+#[tactic(auto, unfolding(crate::specs::Asn1::item_run))]
 fn write_fields(
     w: &mut BitWriter,
     id: u16,

@@ -3,8 +3,6 @@
 #![tactic(auto)]
 
 mod bearer;
-#[cfg(test)]
-mod bearer_tests;
 mod bit_rates;
 mod cause;
 mod cgi;
@@ -12,6 +10,7 @@ mod erab_done;
 mod erab_to_setup;
 mod item;
 mod laws;
+pub mod names;
 mod pieces;
 mod sec_caps;
 mod sequence;
@@ -23,6 +22,7 @@ mod tai;
 #[cfg(test)]
 mod tests;
 mod ue_ids;
+mod value;
 
 pub use bit_rates::BitRates;
 pub use cause::Cause;
@@ -30,10 +30,11 @@ pub use cgi::Cgi;
 pub use erab_done::ErabDone;
 pub use erab_to_setup::ErabToSetup;
 pub use item::{read_item, write_item};
-pub use laws::written_is_spelled;
+pub use laws::{spelled_is_right, written_is_spelled};
 pub use pieces::{read_choice, read_criticality, read_zero_bit, write_choice};
 pub use sec_caps::SecCaps;
 pub use stmsi::Stmsi;
 pub use tables::{IeRow, IeTable, MessageKind, ies_of};
 pub use tai::Tai;
 pub use ue_ids::UeIds;
+pub use value::{OwnedValue, PlainValue};

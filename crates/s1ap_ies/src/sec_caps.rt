@@ -2,15 +2,14 @@
 
 ghost use Rattle.std.specs.Prelude.{◌≡◌, IfOk, OnOk, OnErr, ◌^◌, ◌<◌};
 ghost use Rattle.aper_fields.specs.Reading.{Gives};
-ghost use Rattle.aper_fields.specs.Format.{ReadsExactly};
 ghost use Rattle.aper_fields.specs.Run.{then_written};
-ghost use Rattle.s1ap_ies.specs.Reading.{algorithms_at, sec_caps_at};
-ghost use Rattle.s1ap_ies.specs.Grammar.{sec_caps_in};
+ghost use Rattle.s1ap_ies.specs.Asn1.{reading, run};
 ghost use Rattle.s1ap_ies.specs.Kept.{Keeps};
-ghost use Rattle.s1ap_ies.specs.Run.{IsSecCaps, algorithms_run, sec_caps_run};
+ghost use Rattle.s1ap_ies.specs.Values.{algorithms};
 
 use crate::pieces::read_zero_bit;
-use crate::sequence::{read_preamble, skip_extensions, write_preamble};
+use crate::sequence::{read_present, skip_extensions, write_preamble};
+use crate::value::PlainValue;
 use aper_fields::{BitReader, BitWriter, read_bits_fixed, write_bits_fixed};
 use echo_base::{OutOfMemory, Reason, Refusal};
 
@@ -24,9 +23,9 @@ pub struct SecCaps {
 }
 
 /// Reads a bit string of 16 algorithms, behind its extension bit.
-#[tactic(auto, unfolding(crate::specs::Reading::algorithms_at))]
+#[tactic(auto, unfolding(crate::specs::Asn1::reading))]
 fn read_algorithms(r: &mut BitReader) -> Result<u64, Refusal>
-    ensures read { Gives result r.old r.new (algorithms_at r.old) }
+    ensures read { Gives result r.old r.new (reading algorithms r.old) }
     ensures fits { IfOk result (λ v. v < 2 ^ 16) }
 {
     let mut ahead = r.ahead();
@@ -37,65 +36,42 @@ fn read_algorithms(r: &mut BitReader) -> Result<u64, Refusal>
 }
 
 /// Writes a bit string of 16 algorithms, behind its extension bit.
+#[tactic(auto, unfolding(crate::specs::Asn1::run))]
 fn write_algorithms(w: &mut BitWriter, bits: u16) -> Result<(), OutOfMemory>
-    ensures ok { OnOk result (w.new ≡ then_written w.old (algorithms_run bits)) }
+    ensures ok { OnOk result (w.new ≡ then_written w.old (run algorithms bits)) }
     ensures kept { OnErr result (Keeps w.old w.new) }
 {
     write_bits_fixed(w, 0, 1)?;
     write_bits_fixed(w, u64::from(bits), 16)
 }
 
-/// Reads the fields, and passes over the iE-Extensions.
-#[tactic(auto, unfolding(crate::specs::Reading::sec_caps_at))]
-fn read_fields(r: &mut BitReader) -> Result<SecCaps, Refusal>
-    ensures { Gives result r.old r.new (sec_caps_at r.old) }
-{
-    let mut ahead = r.ahead();
-    let more = read_preamble(&mut ahead)?;
-    let eea = read_algorithms(&mut ahead)?;
-    let eia = read_algorithms(&mut ahead)?;
-    skip_extensions(&mut ahead, more)?;
-    *r = ahead;
-    Ok(SecCaps {
-        eea: eea as u16,
-        eia: eia as u16,
-    })
-}
+impl PlainValue for SecCaps {
+    ghost use Rattle.s1ap_ies.specs.Values.{sec_caps};
 
-/// Writes the fields.
-#[tactic(auto, unfolding(crate::specs::Run::sec_caps_run))]
-fn write_fields(w: &mut BitWriter, caps: &SecCaps) -> Result<(), OutOfMemory>
-    requires { IsSecCaps caps.now }
-    ensures ok { OnOk result (w.new ≡ then_written w.old (sec_caps_run caps.now)) }
-    ensures kept { OnErr result (Keeps w.old w.new) }
-{
-    write_preamble(w)?;
-    write_algorithms(w, caps.eea)?;
-    write_algorithms(w, caps.eia)
-}
+    ghost asn1 = { sec_caps };
 
-impl SecCaps {
-    /// Reads the value. It is refused for the first piece that is wrong: Truncated, NonZeroPadding, SequenceExtension
+    /// It is refused for the first piece that is wrong: Truncated, NonZeroPadding, SequenceExtension
     /// where its extension bit is 1, OutOfRange where one of a bit string is 1; in its iE-Extensions LongLength,
     /// TooLong, BadCriticality too.
-    pub fn read(r: &mut BitReader) -> Result<SecCaps, Refusal>
-        ensures read { Gives result r.old r.new (sec_caps_at r.old) }
-        ensures exact { ReadsExactly sec_caps_in result r.old r.new }
-    {
-        read_fields(r)
+    #[tactic(auto, unfolding(crate::specs::Asn1::reading, crate::specs::Asn1::flags_at, crate::specs::Asn1::fields_at))]
+    fn read_pieces(r: &mut BitReader) -> Result<SecCaps, Refusal> {
+        let mut ahead = r.ahead();
+        read_zero_bit(&mut ahead, Reason::SequenceExtension)?;
+        let more = read_present(&mut ahead)?;
+        let eea = read_algorithms(&mut ahead)?;
+        let eia = read_algorithms(&mut ahead)?;
+        skip_extensions(&mut ahead, more)?;
+        *r = ahead;
+        Ok(SecCaps {
+            eea: eea as u16,
+            eia: eia as u16,
+        })
     }
 
-    /// Writes the value, without iE-Extensions. Where memory runs out, nothing is written.
-    pub fn write(&self, w: &mut BitWriter) -> Result<(), OutOfMemory>
-        requires { IsSecCaps self.now }
-        ensures ok { OnOk result (w.new ≡ then_written w.old (sec_caps_run self.now)) }
-        ensures err { OnErr result (w.new ≡ w.old) }
-    {
-        let mark = w.mark();
-        if let Err(error) = write_fields(w, self) {
-            w.back_to(mark);
-            return Err(error);
-        }
-        Ok(())
+    #[tactic(auto, unfolding(crate::specs::Asn1::run, crate::specs::Asn1::flags_run, crate::specs::Asn1::fields_run))]
+    fn write_pieces(self, w: &mut BitWriter) -> Result<(), OutOfMemory> {
+        write_preamble(w)?;
+        write_algorithms(w, self.eea)?;
+        write_algorithms(w, self.eia)
     }
 }

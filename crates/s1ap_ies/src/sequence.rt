@@ -2,27 +2,14 @@
 
 ghost use Rattle.std.specs.Prelude.{◌≡◌, OnOk, OnErr};
 ghost use Rattle.aper_fields.specs.Reading.{Gives};
-ghost use Rattle.aper_fields.specs.Run.{then_written};
+ghost use Rattle.aper_fields.specs.Run.{then_written, ◌▸◌, fixed_bits_run};
 ghost use Rattle.s1ap_ies.specs.Kept.{Keeps};
-ghost use Rattle.s1ap_ies.specs.Run.{preamble_run};
-ghost use Rattle.s1ap_ies.specs.Reading.{preamble_at, entry_at, entries_at, extensions_at, present_at};
+ghost use Rattle.s1ap_ies.specs.Asn1.{present_run};
+ghost use Rattle.s1ap_ies.specs.Reading.{present_at, entry_at, entries_at, extensions_at};
 
-use crate::pieces::{read_criticality, read_zero_bit};
+use crate::pieces::read_criticality;
 use aper_fields::{BitReader, BitWriter, Ranged, read_bits_fixed, read_open, write_bits_fixed};
-use echo_base::{OutOfMemory, Reason, Refusal};
-
-/// Reads the bits before the fields: the extension bit, which has to be 0, and whether there are iE-Extensions.
-#[tactic(auto, unfolding(crate::specs::Reading::preamble_at))]
-#[inline(always)]
-pub fn read_preamble(r: &mut BitReader) -> Result<bool, Refusal>
-    ensures { Gives result r.old r.new (preamble_at r.old) }
-{
-    let mut ahead = r.ahead();
-    read_zero_bit(&mut ahead, Reason::SequenceExtension)?;
-    let present = read_bits_fixed(&mut ahead, 1)?;
-    *r = ahead;
-    Ok(present == 1)
-}
+use echo_base::{OutOfMemory, Refusal};
 
 /// Reads a bit that says whether an optional part is there.
 #[tactic(auto, unfolding(crate::specs::Reading::present_at))]
@@ -30,15 +17,25 @@ pub fn read_preamble(r: &mut BitReader) -> Result<bool, Refusal>
 pub fn read_present(r: &mut BitReader) -> Result<bool, Refusal>
     ensures { Gives result r.old r.new (present_at r.old) }
 {
-    let mut ahead = r.ahead();
-    let bit = read_bits_fixed(&mut ahead, 1)?;
-    *r = ahead;
-    Ok(bit == 1)
+    Ok(read_bits_fixed(r, 1)? == 1)
+}
+
+/// Writes a bit that says whether an optional part is there.
+#[tactic(auto, unfolding(crate::specs::Asn1::present_run))]
+pub fn write_present(w: &mut BitWriter, present: bool) -> Result<(), OutOfMemory>
+    ensures ok { OnOk result (w.new ≡ then_written w.old (present_run present)) }
+    ensures kept { OnErr result (Keeps w.old w.new) }
+{
+    if present {
+        write_bits_fixed(w, 1, 1)
+    } else {
+        write_bits_fixed(w, 0, 1)
+    }
 }
 
 /// Writes the bits before the fields: no extension, no iE-Extensions.
 pub fn write_preamble(w: &mut BitWriter) -> Result<(), OutOfMemory>
-    ensures ok { OnOk result (w.new ≡ then_written w.old preamble_run) }
+    ensures ok { OnOk result (w.new ≡ then_written w.old (fixed_bits_run 1 0 ▸ fixed_bits_run 1 0)) }
     ensures kept { OnErr result (Keeps w.old w.new) }
 {
     write_bits_fixed(w, 0, 1)?;

@@ -3,6 +3,8 @@ ghost use Rattle.std.specs.Prelude.{◌≡◌, ◌-◌, ◌++◌, map, length, r
 ghost use Rattle.std.specs.List.{IsDistinct};
 ghost use Rattle.s1ap_ies.specs.Tables.{reject, ignore, optional, no_row, rows_of};
 
+use crate::names;
+
 /// A kind of message (3GPP TS 36.413, 9.1).
 #[derive(Clone, Copy, Debug, PartialEq, Eq)]
 pub enum MessageKind {
@@ -54,7 +56,7 @@ const fn reject(id: u16) -> IeRow
 {
     IeRow {
         id,
-        criticality: 0,
+        criticality: names::REJECT,
         needed: true,
     }
 }
@@ -65,7 +67,7 @@ const fn ignore(id: u16) -> IeRow
 {
     IeRow {
         id,
-        criticality: 1,
+        criticality: names::IGNORE,
         needed: true,
     }
 }
@@ -76,7 +78,7 @@ const fn optional(id: u16) -> IeRow
 {
     IeRow {
         id,
-        criticality: 0,
+        criticality: names::REJECT,
         needed: false,
     }
 }
@@ -114,15 +116,15 @@ pub fn ies_of(kind: MessageKind) -> IeTable
 {
     use MessageKind::*;
     match kind {
-        InitialUeMessage => table!(reject(8), reject(26), reject(67), ignore(100), ignore(134), optional(96)),
-        UplinkNasTransport => table!(reject(0), reject(8), reject(26), ignore(100), ignore(67)),
-        DownlinkNasTransport => table!(reject(0), reject(8), reject(26)),
-        InitialContextSetupRequest => table!(reject(0), reject(8), reject(66), reject(24), reject(107), reject(73)),
-        InitialContextSetupResponse => table!(ignore(0), ignore(8), ignore(51)),
-        InitialContextSetupFailure => table!(ignore(0), ignore(8), ignore(2)),
-        UeContextReleaseRequest => table!(reject(0), reject(8), ignore(2)),
-        UeContextReleaseCommand => table!(reject(99), ignore(2)),
-        UeContextReleaseComplete => table!(ignore(0), ignore(8)),
-        UeCapabilityInfoIndication => table!(reject(0), reject(8), ignore(74)),
+        InitialUeMessage => table!(reject(names::ENB_UE_S1AP_ID), reject(names::NAS_PDU), reject(names::TAI), ignore(names::CGI), ignore(names::RRC_CAUSE), optional(names::STMSI)),
+        UplinkNasTransport => table!(reject(names::MME_UE_S1AP_ID), reject(names::ENB_UE_S1AP_ID), reject(names::NAS_PDU), ignore(names::CGI), ignore(names::TAI)),
+        DownlinkNasTransport => table!(reject(names::MME_UE_S1AP_ID), reject(names::ENB_UE_S1AP_ID), reject(names::NAS_PDU)),
+        InitialContextSetupRequest => table!(reject(names::MME_UE_S1AP_ID), reject(names::ENB_UE_S1AP_ID), reject(names::BIT_RATES), reject(names::ERABS_TO_SETUP), reject(names::SEC_CAPS), reject(names::SECURITY_KEY)),
+        InitialContextSetupResponse => table!(ignore(names::MME_UE_S1AP_ID), ignore(names::ENB_UE_S1AP_ID), ignore(names::ERABS_DONE)),
+        InitialContextSetupFailure => table!(ignore(names::MME_UE_S1AP_ID), ignore(names::ENB_UE_S1AP_ID), ignore(names::CAUSE)),
+        UeContextReleaseRequest => table!(reject(names::MME_UE_S1AP_ID), reject(names::ENB_UE_S1AP_ID), ignore(names::CAUSE)),
+        UeContextReleaseCommand => table!(reject(names::UE_IDS), ignore(names::CAUSE)),
+        UeContextReleaseComplete => table!(ignore(names::MME_UE_S1AP_ID), ignore(names::ENB_UE_S1AP_ID)),
+        UeCapabilityInfoIndication => table!(reject(names::MME_UE_S1AP_ID), reject(names::ENB_UE_S1AP_ID), ignore(names::RADIO_CAPABILITY)),
     }
 }

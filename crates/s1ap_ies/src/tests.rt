@@ -1,536 +1,506 @@
-//! Octets worked out by hand from ITU-T X.691, aligned PER: the values that they spell, and why others are refused.
+//! Octets worked out by hand from ITU-T X.691, aligned PER, in hexadecimal, and behind a space the value that they spell, or why they
+//! are refused. A value is written as the octets that it was read from; where these have iE-Extensions, `as` says how it is written, and
+//! `then` what stands behind it, which is the MME UE S1AP ID 42 alone, 402a. In the comments e is an extension bit and o the bit of the
+//! iE-Extensions, both 0 unless shown; p is padding. An entry of the extensions is its id in two octets, the criticality (00, 40 or
+//! 80), the length, and so many octets.
 
 use crate::cause::roots_of;
-use crate::{BitRates, Cause, Cgi, ErabDone, SecCaps, Stmsi, Tai, UeIds};
-use aper_fields::{BitReader, BitWriter, end};
-use echo_base::Reason::{
-    BadChoice, BadCriticality, LongLength, NonZeroPadding, NotMinimal, OutOfRange,
-    SequenceExtension, TooLong, Truncated,
+use crate::{
+    BitRates, Cause, Cgi, ErabDone, ErabToSetup, OwnedValue, PlainValue, SecCaps, Stmsi, Tai,
+    UeIds, read_item,
 };
-use echo_base::{Reason, Refusal};
-use std::alloc::Global;
+use aper_fields::{BitReader, BitWriter, end};
+use device_types::Octets;
+use echo_base::{Bad, OutOfMemory};
+use std::alloc::{AllocError, Global};
+use std::fmt::Debug;
 use std::process::Abort;
 use std::test::Fail;
 
-/// A type of the crate.
-#[derive(Clone, Copy, Debug, PartialEq, Eq)]
-enum Kind {
-    Tai,
-    Cgi,
-    Stmsi,
-    BitRates,
-    SecCaps,
-    Cause,
-    UeIds,
-    ErabDone,
+/// A value that is written where its fields are in their ranges.
+trait Written: OwnedValue {
+    /// Are they?
+    fn put(&self, w: &mut BitWriter) -> Result<bool, OutOfMemory>;
 }
 
-/// A value of one of the types.
-#[derive(Clone, Copy, Debug, PartialEq, Eq)]
-enum Value {
-    Tai(Tai),
-    Cgi(Cgi),
-    Stmsi(Stmsi),
-    BitRates(BitRates),
-    SecCaps(SecCaps),
-    Cause(Cause),
-    UeIds(UeIds),
-    ErabDone(ErabDone),
-}
-
-fn tai(plmn: u32, tac: u16) -> Value {
-    Value::Tai(Tai { plmn, tac })
-}
-
-fn cgi(plmn: u32, cell: u32) -> Value {
-    Value::Cgi(Cgi { plmn, cell })
-}
-
-fn stmsi(mmec: u8, tmsi: u32) -> Value {
-    Value::Stmsi(Stmsi { mmec, tmsi })
-}
-
-fn rates(dl: u64, ul: u64) -> Value {
-    Value::BitRates(BitRates { dl, ul })
-}
-
-fn caps(eea: u16, eia: u16) -> Value {
-    Value::SecCaps(SecCaps { eea, eia })
-}
-
-fn cause(group: u8, extended: bool, index: u8) -> Value {
-    Value::Cause(Cause {
-        group,
-        extended,
-        index,
-    })
-}
-
-fn pair(mme: u32, enb: u32) -> Value {
-    Value::UeIds(UeIds::Pair { mme, enb })
-}
-
-fn mme(id: u32) -> Value {
-    Value::UeIds(UeIds::Mme(id))
-}
-
-fn done(id: u8, address: u32, teid: u32) -> Value {
-    Value::ErabDone(ErabDone { id, address, teid })
-}
-
-fn kind_of(value: Value) -> Kind {
-    match value {
-        Value::Tai(_) => Kind::Tai,
-        Value::Cgi(_) => Kind::Cgi,
-        Value::Stmsi(_) => Kind::Stmsi,
-        Value::BitRates(_) => Kind::BitRates,
-        Value::SecCaps(_) => Kind::SecCaps,
-        Value::Cause(_) => Kind::Cause,
-        Value::UeIds(_) => Kind::UeIds,
-        Value::ErabDone(_) => Kind::ErabDone,
+impl Written for Tai {
+    fn put(&self, w: &mut BitWriter) -> Result<bool, OutOfMemory> {
+        let _tac = self.tac;
+        if self.plmn >= 0x0100_0000 {
+            return Ok(false);
+        }
+        PlainValue::write(*self, w)?;
+        Ok(true)
     }
 }
 
-fn read(kind: Kind, r: &mut BitReader) -> Result<Value, Refusal> {
-    Ok(match kind {
-        Kind::Tai => Value::Tai(Tai::read(r)?),
-        Kind::Cgi => Value::Cgi(Cgi::read(r)?),
-        Kind::Stmsi => Value::Stmsi(Stmsi::read(r)?),
-        Kind::BitRates => Value::BitRates(BitRates::read(r)?),
-        Kind::SecCaps => Value::SecCaps(SecCaps::read(r)?),
-        Kind::Cause => Value::Cause(Cause::read(r)?),
-        Kind::UeIds => Value::UeIds(UeIds::read(r)?),
-        Kind::ErabDone => Value::ErabDone(ErabDone::read(r)?),
-    })
+impl Written for Cgi {
+    fn put(&self, w: &mut BitWriter) -> Result<bool, OutOfMemory> {
+        if self.plmn >= 0x0100_0000 || self.cell >= 0x1000_0000 {
+            return Ok(false);
+        }
+        PlainValue::write(*self, w)?;
+        Ok(true)
+    }
 }
 
-/// What is written of a value whose fields are in their ranges.
-fn written(rt: &impl Abort, alloc: Global, value: Value) -> Result<BitWriter, Fail> {
-    let mut w = BitWriter::new(alloc);
-    match value {
-        Value::Tai(v) => {
-            assert!(rt; v.plmn < 0x0100_0000);
-            v.write(&mut w)?;
+impl Written for Stmsi {
+    fn put(&self, w: &mut BitWriter) -> Result<bool, OutOfMemory> {
+        let _mmec = self.mmec;
+        let _tmsi = self.tmsi;
+        PlainValue::write(*self, w)?;
+        Ok(true)
+    }
+}
+
+impl Written for BitRates {
+    fn put(&self, w: &mut BitWriter) -> Result<bool, OutOfMemory> {
+        if self.dl > 10_000_000_000 || self.ul > 10_000_000_000 {
+            return Ok(false);
         }
-        Value::Cgi(v) => {
-            assert!(rt; v.plmn < 0x0100_0000 && v.cell < 0x1000_0000);
-            v.write(&mut w)?;
+        PlainValue::write(*self, w)?;
+        Ok(true)
+    }
+}
+
+impl Written for SecCaps {
+    fn put(&self, w: &mut BitWriter) -> Result<bool, OutOfMemory> {
+        let _eea = self.eea;
+        let _eia = self.eia;
+        PlainValue::write(*self, w)?;
+        Ok(true)
+    }
+}
+
+impl Written for Cause {
+    fn put(&self, w: &mut BitWriter) -> Result<bool, OutOfMemory> {
+        if self.group >= 5 {
+            return Ok(false);
         }
-        Value::Stmsi(v) => v.write(&mut w)?,
-        Value::BitRates(v) => {
-            assert!(rt; v.dl <= 10_000_000_000 && v.ul <= 10_000_000_000);
-            v.write(&mut w)?;
-        }
-        Value::SecCaps(v) => v.write(&mut w)?,
-        Value::Cause(v) => write_cause(rt, v, &mut w)?,
-        Value::UeIds(v) => {
-            if let UeIds::Pair { mme: _, enb } = v {
-                assert!(rt; enb < 0x0100_0000);
+        if self.extended {
+            if self.index >= 64 {
+                return Ok(false);
             }
-            v.write(&mut w)?;
+            PlainValue::write(*self, w)?;
+            return Ok(true);
         }
-        Value::ErabDone(v) => {
-            assert!(rt; v.id < 16);
-            v.write(&mut w)?;
+        if u32::from(self.index) >= roots_of(u64::from(self.group)) {
+            return Ok(false);
+        }
+        PlainValue::write(*self, w)?;
+        Ok(true)
+    }
+}
+
+/// Writes the identities where those of the base station have 24 bits.
+fn put_ids(ids: UeIds, w: &mut BitWriter) -> Result<bool, OutOfMemory> {
+    match ids {
+        UeIds::Pair { mme, enb } => {
+            if enb >= 0x0100_0000 {
+                return Ok(false);
+            }
+            PlainValue::write(UeIds::Pair { mme, enb }, w)?;
+        }
+        UeIds::Mme(mme) => PlainValue::write(UeIds::Mme(mme), w)?,
+    }
+    Ok(true)
+}
+
+impl Written for UeIds {
+    fn put(&self, w: &mut BitWriter) -> Result<bool, OutOfMemory> {
+        put_ids(*self, w)
+    }
+}
+
+impl Written for ErabDone {
+    #[tactic(auto, unfolding(crate::specs::Values::erab_done, crate::specs::Values::erab_id, crate::specs::Values::address))]
+    fn put(&self, w: &mut BitWriter) -> Result<bool, OutOfMemory> {
+        let _address = self.address;
+        let _teid = self.teid;
+        if self.id >= 16 {
+            return Ok(false);
+        }
+        PlainValue::write(*self, w)?;
+        Ok(true)
+    }
+}
+
+impl Written for ErabToSetup {
+    #[tactic(auto, unfolding(crate::specs::Values::erab_to_setup, crate::specs::Values::erab_id, crate::specs::Values::qos, crate::specs::Values::arp, crate::specs::Values::address))]
+    fn put(&self, w: &mut BitWriter) -> Result<bool, OutOfMemory> {
+        let _qci = self.qci;
+        let _address = self.address;
+        let _teid = self.teid;
+        if self.id >= 16 {
+            return Ok(false);
+        }
+        if self.arp >= 64 {
+            return Ok(false);
+        }
+        match &self.nas {
+            Some(nas) => {
+                if nas.items().len() > 2048 {
+                    return Ok(false);
+                }
+                OwnedValue::write(self, w)?;
+            }
+            None => OwnedValue::write(self, w)?,
+        }
+        Ok(true)
+    }
+}
+
+/// What the value is written as, where that is not the octets.
+fn other_octets<T: Written>(
+    alloc: Global,
+    value: &T,
+    octets: &[u8],
+    text: &mut String,
+) -> Result<(), OutOfMemory> {
+    let mut w = BitWriter::new(alloc);
+    if !value.put(&mut w)? {
+        text.push_str(" out of range")?;
+    } else if w.bytes() != octets {
+        let digits = hex::encode(alloc, w.bytes())?;
+        text.push_str(" as ")?;
+        text.push_str(&digits)?;
+    }
+    Ok(())
+}
+
+/// What the octets are read as: the value, how it is written, and what stands behind it; or the refusal.
+fn told<T: Written + Debug>(alloc: Global, octets: &[u8]) -> Result<String, OutOfMemory> {
+    let mut r = BitReader::new(octets, 0);
+    match <T as OwnedValue>::read(alloc, &mut r) {
+        Ok(value) => {
+            let mut text = format!(in alloc; "{value:?}")?;
+            other_octets(alloc, &value, octets, &mut text)?;
+            if end(&r).is_err() {
+                let next = <UeIds as PlainValue>::read(&mut r);
+                let next = format!(in alloc; ", then {next:?}")?;
+                text.push_str(&next)?;
+            }
+            Ok(text)
+        }
+        Err(Bad::Refused(refusal)) => Ok(format!(in alloc; "{refusal}")?),
+        Err(Bad::OutOfMemory) => Err(OutOfMemory),
+    }
+}
+
+/// The cases of a table: of each line what stands before its first space, and what stands behind it. A line whose first word
+/// is `#` is a comment.
+fn cases(alloc: Global, table: &str) -> Result<Vec<(&str, &str)>, AllocError> {
+    let mut cases = Vec::new(alloc);
+    for line in table.lines() {
+        if let Some((text, want)) = line.split_once(' ') {
+            if text != "#" {
+                cases.push((text, want))?;
+            }
         }
     }
-    Ok(w)
+    Ok(cases)
 }
 
-fn write_cause(rt: &impl Abort, v: Cause, w: &mut BitWriter) -> Result<(), Fail> {
-    assert!(rt; v.group < 5);
-    if v.extended {
-        assert!(rt; v.index < 64);
-        v.write(w)?;
-    } else {
-        assert!(rt; u32::from(v.index) < roots_of(u64::from(v.group)));
-        v.write(w)?;
+/// The octets of each case are read as it says.
+fn reads_each<T: Written + Debug>(rt: &impl Abort, alloc: Global, table: &str) -> Result<(), Fail> {
+    for (text, want) in cases(alloc, table)? {
+        let told = told::<T>(alloc, &hex::decode(alloc, text)?)?;
+        assert_eq!(rt; told.as_str(), want, "for {text}");
     }
     Ok(())
 }
 
-/// The value is written as these octets, and they are read as it, up to their end.
-fn agrees(rt: &impl Abort, alloc: Global, value: Value, octets: &[u8]) -> Result<(), Fail> {
-    let w = written(rt, alloc, value)?;
-    assert_eq!(rt; w.bytes(), octets, "for {value:?}");
+#[test]
+fn values(rt: HostRuntime) -> Result<(), Fail> {
+    reads_each::<Tai>(&rt, rt.alloc(), TAIS)?;
+    reads_each::<Cgi>(&rt, rt.alloc(), CGIS)?;
+    reads_each::<Stmsi>(&rt, rt.alloc(), STMSIS)?;
+    reads_each::<BitRates>(&rt, rt.alloc(), BIT_RATES)?;
+    reads_each::<SecCaps>(&rt, rt.alloc(), SEC_CAPS)?;
+    reads_each::<Cause>(&rt, rt.alloc(), CAUSES)?;
+    reads_each::<UeIds>(&rt, rt.alloc(), UE_IDS)?;
+    reads_each::<ErabDone>(&rt, rt.alloc(), ERABS_DONE)?;
+    reads_each::<ErabToSetup>(&rt, rt.alloc(), ERABS_TO_SETUP)
+}
+
+/// What an item of a request is read as, with its id 52 and criticality.
+fn item_told(alloc: Global, octets: &[u8]) -> Result<String, OutOfMemory> {
     let mut r = BitReader::new(octets, 0);
-    assert_eq!(rt; read(kind_of(value), &mut r), Ok(value), "for {octets:?}");
-    assert_eq!(rt; end(&r), Ok(()), "behind {octets:?}");
-    Ok(())
+    match read_item(&mut r, 52) {
+        Ok(mut content) => match <ErabToSetup as OwnedValue>::read(alloc, &mut content) {
+            Ok(item) => {
+                let ends = (end(&content), end(&r));
+                Ok(format!(in alloc; "{item:?} {ends:?}")?)
+            }
+            Err(Bad::Refused(refusal)) => Ok(format!(in alloc; "{refusal}")?),
+            Err(Bad::OutOfMemory) => Err(OutOfMemory),
+        },
+        Err(refusal) => Ok(format!(in alloc; "{refusal}")?),
+    }
 }
-
-/// The octets are refused so, and once more, since the reader has not moved.
-fn refuses(rt: &impl Abort, kind: Kind, octets: &[u8], reason: Reason, place: u64) {
-    let mut r = BitReader::new(octets, 0);
-    let want = Err(Refusal { reason, place });
-    assert_eq!(rt; read(kind, &mut r), want, "for {octets:?}");
-    assert_eq!(rt; read(kind, &mut r), want, "once more for {octets:?}");
-}
-
-/// The octets are the value, its iE-Extensions, and behind them the MME id 42 alone, which is 40 2a.
-fn passes_over(rt: &impl Abort, value: Value, octets: &[u8]) {
-    let mut r = BitReader::new(octets, 0);
-    assert_eq!(rt; read(kind_of(value), &mut r), Ok(value), "for {octets:?}");
-    assert_eq!(rt; read(Kind::UeIds, &mut r), Ok(mme(42)), "behind {octets:?}");
-    assert_eq!(rt; end(&r), Ok(()), "behind {octets:?}");
-}
-
-// In the comments e is an extension bit and o the bit of the iE-Extensions, both 0 unless shown; p is padding.
 
 #[test]
-fn sequences(rt: HostRuntime) -> Result<(), Fail> {
-    let cases: [(Value, &[u8]); 10] = [
-        // e o p(6), PLMN 24 bits, TAC 16 bits
-        (tai(0x02f839, 1), b"\x00\x02\xf8\x39\x00\x01"),
-        (tai(0xffffff, 0xabcd), b"\x00\xff\xff\xff\xab\xcd"),
-        // e o p(6), PLMN 24 bits, cell 28 bits, so the last half octet is free
-        (cgi(0x02f839, 1), b"\x00\x02\xf8\x39\x00\x00\x00\x10"),
-        (cgi(1, 0xabcdef2), b"\x00\x00\x00\x01\xab\xcd\xef\x20"),
-        // e o 00000001 p(6) is 0000 0000 0100 0000; e o 11111111 p(6) is 0011 1111 1100 0000
-        (stmsi(1, 1), b"\x00\x40\x00\x00\x00\x01"),
-        (stmsi(0xff, 0x89abcdef), b"\x3f\xc0\x89\xab\xcd\xef"),
-        // e o e 1110000000000000 e 1110000000000000: 00011100 00000000 00001110 00000000 0000
-        (caps(0xe000, 0xe000), b"\x1c\x00\x0e\x00\x00"),
-        // e o e 1111111111111111 e 0000000000000001: 00011111 11111111 11100000 00000000 0001
-        (caps(0xffff, 1), b"\x1f\xff\xe0\x00\x10"),
-        // e o e 0101 e is 0000 1010; size 32 less 1 is 0001 1111; the address and the TEID are aligned as they stand
-        (
-            done(5, 0x0a000001, 1),
-            b"\x0a\x1f\x0a\x00\x00\x01\x00\x00\x00\x01",
-        ),
-        // e o e 1111 e is 0001 1110
-        (
-            done(15, 0xc0a80001, 0xfffffffe),
-            b"\x1e\x1f\xc0\xa8\x00\x01\xff\xff\xff\xfe",
-        ),
-    ];
-    for (value, octets) in cases {
-        agrees(&rt, rt.alloc(), value, octets)?;
+fn items(rt: HostRuntime) -> Result<(), Fail> {
+    for (text, want) in cases(rt.alloc(), ITEMS)? {
+        let told = item_told(rt.alloc(), &hex::decode(rt.alloc(), text)?)?;
+        assert_eq!(rt; told.as_str(), want, "for {text}");
     }
     Ok(())
 }
 
-#[test]
-fn counted_numbers(rt: HostRuntime) -> Result<(), Fail> {
-    let cases: [(Value, &[u8]); 7] = [
-        // 1000000000 is 3b9aca00, four octets: e o 011 p(3) is 18, and 011 p(5) is 60
-        (
-            rates(1_000_000_000, 1_000_000_000),
-            b"\x18\x3b\x9a\xca\x00\x60\x3b\x9a\xca\x00",
-        ),
-        // 10000000000 is 02540be400, five octets: e o 100 p(3) is 20; 0 is one octet: 000 p(5)
-        (
-            rates(10_000_000_000, 0),
-            b"\x20\x02\x54\x0b\xe4\x00\x00\x00",
-        ),
-        // 255 is one octet: e o 000 p(3); 256 is two: 001 p(5) is 20
-        (rates(255, 256), b"\x00\xff\x20\x01\x00"),
-        // choice: e 0; sequence: e o; one octet: 00 p(2); one octet: 00 p(6)
-        (pair(1, 1), b"\x00\x01\x00\x01"),
-        // choice: e 0; sequence: e o; four octets: 11 p(2), so 0000 1100; three octets: 10 p(6), so 1000 0000
-        (
-            pair(0xffffffff, 0xffffff),
-            b"\x0c\xff\xff\xff\xff\x80\xff\xff\xff",
-        ),
-        // choice: e 1; two octets: 01 p(4), so 0101 0000
-        (mme(256), b"\x50\x01\x00"),
-        // choice: e 1; one octet: 00 p(4), so 0100 0000
-        (mme(0), b"\x40\x00"),
-    ];
-    for (value, octets) in cases {
-        agrees(&rt, rt.alloc(), value, octets)?;
+/// An item with a NAS-PDU of so many zeros, whose length is 10 and 14 bits.
+fn long_item(alloc: Global, high: u8, low: u8, count: usize) -> Result<Octets, Fail> {
+    let mut octets = Octets::from(hex::decode(alloc, "4500093d0f80c0a8000100000001")?);
+    octets.push(high)?;
+    octets.push(low)?;
+    for _ in 0..count {
+        octets.push(0)?;
     }
+    Ok(octets)
+}
+
+#[test]
+fn longest_nas_pdu(rt: HostRuntime) -> Result<(), Fail> {
+    // 2,048 is 0800, behind 10; one more is refused at the length
+    let octets = long_item(rt.alloc(), 0x88, 0x00, 2048)?;
+    let mut r = BitReader::new(octets.items(), 0);
+    let item = <ErabToSetup as OwnedValue>::read(rt.alloc(), &mut r)?;
+    assert_eq!(rt; item.nas.map(|nas| nas.items().len()), Some(2048));
+    assert_eq!(rt; end(&r), Ok(()));
+    let more = long_item(rt.alloc(), 0x88, 0x01, 2049)?;
+    let told = told::<ErabToSetup>(rt.alloc(), more.items())?;
+    assert_eq!(rt; told.as_str(), "6 TooLong at 14");
     Ok(())
 }
 
-#[test]
-fn causes(rt: HostRuntime) -> Result<(), Fail> {
-    let cases: [(Value, &[u8]); 9] = [
-        // choice: e 010; of 4 roots: e 10, and e 11
-        (cause(2, false, 2), b"\x24"),
-        (cause(2, false, 3), b"\x26"),
-        // choice: e 000; of 36 roots: e 100011, so 0000 0100 011
-        (cause(0, false, 35), b"\x04\x60"),
-        // choice: e 001; of 2 roots: e 1, so 0001 01
-        (cause(1, false, 1), b"\x14"),
-        // choice: e 011; of 7 roots: e 110
-        (cause(3, false, 6), b"\x36"),
-        // choice: e 100; of 6 roots: e 101
-        (cause(4, false, 5), b"\x45"),
-        // choice: e 000; beyond the roots: e = 1, 0, 000101, so 0000 1000 0101
-        (cause(0, true, 5), b"\x08\x50"),
-        // choice: e 100; beyond the roots: e = 1, 0, 111111, so 0100 1011 1111
-        (cause(4, true, 63), b"\x4b\xf0"),
-        // choice: e 001; beyond the roots: e = 1, 0, 000000, so 0001 1000 0000
-        (cause(1, true, 0), b"\x18\x00"),
-    ];
-    for (value, octets) in cases {
-        agrees(&rt, rt.alloc(), value, octets)?;
-    }
-    Ok(())
-}
+const TAIS: &str = "
+# e o p(6), PLMN 24 bits, TAC 16 bits
+0002f8390001 Tai { plmn: 194617, tac: 1 }
+00ffffffabcd Tai { plmn: 16777215, tac: 43981 }
+ 1 Truncated at 0
+# e = 1
+8002f8390001 7 SequenceExtension at 0
+# e o p(6) with p = 000001
+0102f8390001 3 NonZeroPadding at 0
+# two octets of the PLMN, none and one of the TAC
+0002f8 1 Truncated at 1
+0002f839 1 Truncated at 4
+0002f83900 1 Truncated at 4
+# o = 1: 40; one entry: 0000; 7, ignore, aa
+4002f8390001000000074001aa402a Tai { plmn: 194617, tac: 1 } as 0002f8390001, then Ok(Mme(42))
+# two entries: 0001; 7, ignore, aa; 258, notify, bbcc
+4002f8390001000100074001aa01028002bbcc402a Tai { plmn: 194617, tac: 1 } as 0002f8390001, then Ok(Mme(42))
+# The TAI in the octets 0 to 5, the count in 6 and 7, the ids in 8 and 9, and in 13 and 14; 3 is 11 p(6).
+4002f839000100000007c001aa 10 BadCriticality at 10
+4002f8390001000100074001aa0102c002bbcc 10 BadCriticality at 15
+";
 
-#[test]
-fn refused_areas(rt: HostRuntime) {
-    let tais: [(&[u8], Reason, u64); 6] = [
-        (b"", Truncated, 0),
-        // e = 1
-        (b"\x80\x02\xf8\x39\x00\x01", SequenceExtension, 0),
-        // e o p(6) with p = 000001
-        (b"\x01\x02\xf8\x39\x00\x01", NonZeroPadding, 0),
-        // two octets of the PLMN, none and one of the TAC
-        (b"\x00\x02\xf8", Truncated, 1),
-        (b"\x00\x02\xf8\x39", Truncated, 4),
-        (b"\x00\x02\xf8\x39\x00", Truncated, 4),
-    ];
-    for (octets, reason, place) in tais {
-        refuses(&rt, Kind::Tai, octets, reason, place);
-    }
-    let cgis: [(&[u8], Reason, u64); 5] = [
-        (b"\x80\x02\xf8\x39\x00\x00\x00\x10", SequenceExtension, 0),
-        (b"\x20\x02\xf8\x39\x00\x00\x00\x10", NonZeroPadding, 0),
-        (b"\x00", Truncated, 1),
-        // 24 bits of the cell's 28
-        (b"\x00\x02\xf8\x39\x00\x00\x00", Truncated, 4),
-        // o = 1: four bits of padding lead from the cell to the count of the extensions
-        (b"\x40\x02\xf8\x39\x00\x00\x00\x1f", NonZeroPadding, 7),
-    ];
-    for (octets, reason, place) in cgis {
-        refuses(&rt, Kind::Cgi, octets, reason, place);
-    }
-}
+const CGIS: &str = "
+# e o p(6), PLMN 24 bits, cell 28 bits, so the last half octet is free
+0002f83900000010 Cgi { plmn: 194617, cell: 1 }
+00000001abcdef20 Cgi { plmn: 1, cell: 180150002 }
+8002f83900000010 7 SequenceExtension at 0
+2002f83900000010 3 NonZeroPadding at 0
+00 1 Truncated at 1
+# 24 bits of the cell's 28
+0002f839000000 1 Truncated at 4
+# o = 1: four bits of padding lead from the cell to the count of the extensions
+4002f8390000001f 3 NonZeroPadding at 7
+# p(4) behind the cell
+4002f83900000010000000070001aa402a Cgi { plmn: 194617, cell: 1 } as 0002f83900000010, then Ok(Mme(42))
+";
 
-#[test]
-fn refused_identities(rt: HostRuntime) {
-    let stmsis: [(&[u8], Reason, u64); 4] = [
-        (b"\x80\x40\x00\x00\x00\x01", SequenceExtension, 0),
-        // six bits of the MMEC, which begins in octet 0
-        (b"\x00", Truncated, 0),
-        // e o 00000001 p(6) with p = 000001
-        (b"\x00\x41\x00\x00\x00\x01", NonZeroPadding, 1),
-        (b"\x00\x40\x00\x00\x00", Truncated, 2),
-    ];
-    for (octets, reason, place) in stmsis {
-        refuses(&rt, Kind::Stmsi, octets, reason, place);
-    }
-    let dones: [(&[u8], Reason, u64); 9] = [
-        (b"\x8a\x1f\x0a\x00\x00\x01", SequenceExtension, 0),
-        // e = 1 before the E-RAB-ID: 0010 1010; before the address: 0000 1011
-        (b"\x2a\x1f\x0a\x00\x00\x01", OutOfRange, 0),
-        (b"\x0b\x1f\x0a\x00\x00\x01", OutOfRange, 0),
-        // sizes of 33, 1 and 160; 161 is no size
-        (b"\x0a\x20\x0a\x00\x00\x01", OutOfRange, 1),
-        (b"\x0a\x00\x0a\x00\x00\x01", OutOfRange, 1),
-        (b"\x0a\x9f\x0a\x00\x00\x01", OutOfRange, 1),
-        (b"\x0a\xa0\x0a\x00\x00\x01", OutOfRange, 1),
-        // three octets of the address, one of the TEID
-        (b"\x0a\x1f\x0a\x00\x00", Truncated, 2),
-        (b"\x0a\x1f\x0a\x00\x00\x01\x00", Truncated, 6),
-    ];
-    for (octets, reason, place) in dones {
-        refuses(&rt, Kind::ErabDone, octets, reason, place);
-    }
-}
+const STMSIS: &str = "
+# e o 00000001 p(6) is 0000 0000 0100 0000; e o 11111111 p(6) is 0011 1111 1100 0000
+004000000001 Stmsi { mmec: 1, tmsi: 1 }
+3fc089abcdef Stmsi { mmec: 255, tmsi: 2309737967 }
+804000000001 7 SequenceExtension at 0
+# six bits of the MMEC, which begins in octet 0
+00 1 Truncated at 0
+# e o 00000001 p(6) with p = 000001
+004100000001 3 NonZeroPadding at 1
+0040000000 1 Truncated at 2
+# 01 00000001 p(6)
+404000000001000000070001aa402a Stmsi { mmec: 1, tmsi: 1 } as 004000000001, then Ok(Mme(42))
+";
 
-#[test]
-fn refused_rates(rt: HostRuntime) {
-    let cases: [(&[u8], Reason, u64); 14] = [
-        (b"\x80\x01\x00\x01", SequenceExtension, 0),
-        // e o 101 p(3), and 101 p(5): six octets; 111 p(5): eight
-        (b"\x28\x01\x00\x00\x00\x00\x00\x00\x01", OutOfRange, 0),
-        (b"\x00\x01\xa0\x01\x00\x00\x00\x00\x00", OutOfRange, 2),
-        (b"\x00\x01\xe0\x01", OutOfRange, 2),
-        // p = 001, and p = 10000
-        (b"\x01\x01\x00\x01", NonZeroPadding, 0),
-        (b"\x00\x01\x10\x01", NonZeroPadding, 2),
-        // two octets, e o 001 p(3) and 001 p(5): 00ff
-        (b"\x08\x00\xff\x00\x01", NotMinimal, 1),
-        (b"\x00\x01\x20\x00\xff", NotMinimal, 3),
-        // five octets, e o 100 p(3) and 100 p(5): 10000000001
-        (b"\x20\x02\x54\x0b\xe4\x01\x00\x00", OutOfRange, 1),
-        (b"\x00\x01\x80\x02\x54\x0b\xe4\x01", OutOfRange, 3),
-        // four octets of which there are two; no count; no octet; two octets of which there is one
-        (b"\x18\x3b\x9a", Truncated, 1),
-        (b"\x00\x01", Truncated, 2),
-        (b"\x00\x01\x00", Truncated, 3),
-        (b"\x00\x01\x20\x01", Truncated, 3),
-    ];
-    for (octets, reason, place) in cases {
-        refuses(&rt, Kind::BitRates, octets, reason, place);
-    }
-}
+const BIT_RATES: &str = "
+# 1000000000 is 3b9aca00, four octets: e o 011 p(3) is 18, and 011 p(5) is 60
+183b9aca00603b9aca00 BitRates { dl: 1000000000, ul: 1000000000 }
+# 10000000000 is 02540be400, five octets: e o 100 p(3) is 20; 0 is one octet: 000 p(5)
+2002540be4000000 BitRates { dl: 10000000000, ul: 0 }
+# 255 is one octet: e o 000 p(3); 256 is two: 001 p(5) is 20
+00ff200100 BitRates { dl: 255, ul: 256 }
+80010001 7 SequenceExtension at 0
+# e o 101 p(3), and 101 p(5): six octets; 111 p(5): eight
+280100000000000001 5 OutOfRange at 0
+0001a0010000000000 5 OutOfRange at 2
+0001e001 5 OutOfRange at 2
+# p = 001, and p = 10000
+01010001 3 NonZeroPadding at 0
+00011001 3 NonZeroPadding at 2
+# two octets, e o 001 p(3) and 001 p(5): 00ff
+0800ff0001 4 NotMinimal at 1
+00012000ff 4 NotMinimal at 3
+# five octets, e o 100 p(3) and 100 p(5): 10000000001
+2002540be4010000 5 OutOfRange at 1
+00018002540be401 5 OutOfRange at 3
+# four octets of which there are two; no count; no octet; two octets of which there is one
+183b9a 1 Truncated at 1
+0001 1 Truncated at 2
+000100 1 Truncated at 3
+00012001 1 Truncated at 3
+# 01 000 p(3)
+40010001000000074001aa402a BitRates { dl: 1, ul: 1 } as 00010001, then Ok(Mme(42))
+";
 
-#[test]
-fn refused_pairs(rt: HostRuntime) {
-    let cases: [(&[u8], Reason, u64); 15] = [
-        (b"", Truncated, 0),
-        // choice: e = 1; sequence: e = 1
-        (b"\x80\x01\x00\x01", BadChoice, 0),
-        (b"\x20\x01\x00\x01", SequenceExtension, 0),
-        // p = 01; p = 0001; p = 000001
-        (b"\x01\x01\x00\x01", NonZeroPadding, 0),
-        (b"\x41\x01", NonZeroPadding, 0),
-        (b"\x00\x01\x01\x01", NonZeroPadding, 2),
-        // two octets: 0000 01 p(2), 0101 p(4), 01 p(6)
-        (b"\x04\x00\x01\x00\x01", NotMinimal, 1),
-        (b"\x50\x00\x01", NotMinimal, 1),
-        (b"\x00\x01\x40\x00\x01", NotMinimal, 3),
-        // four octets of an eNB id: 11 p(6)
-        (b"\x00\x01\xc0\x01\x00\x00\x00", OutOfRange, 2),
-        // no octet, one of two, no count, no octet, two of three
-        (b"\x00", Truncated, 1),
-        (b"\x50\x01", Truncated, 1),
-        (b"\x00\x01", Truncated, 2),
-        (b"\x00\x01\x00", Truncated, 3),
-        (b"\x00\x01\x80\xff\xff", Truncated, 3),
-    ];
-    for (octets, reason, place) in cases {
-        refuses(&rt, Kind::UeIds, octets, reason, place);
-    }
-}
+const SEC_CAPS: &str = "
+# e o e 1110000000000000 e 1110000000000000: 00011100 00000000 00001110 00000000 0000
+1c000e0000 SecCaps { eea: 57344, eia: 57344 }
+# e o e 1111111111111111 e 0000000000000001: 00011111 11111111 11100000 00000000 0001
+1fffe00010 SecCaps { eea: 65535, eia: 1 }
+9c000e0000 7 SequenceExtension at 0
+# 00111100: the first e = 1; 00011110: the second e, the bit 19, = 1
+3c000e0000 5 OutOfRange at 0
+1c001e0000 5 OutOfRange at 2
+# the bits 3 to 18, and 20 to 35
+1c00 1 Truncated at 0
+1c000e00 1 Truncated at 2
+# 01 e 1110000000000000 e 1110000000000000 p(4): 01011100 00000000 00001110 00000000 0000 0000
+5c000e0000000000074001aa402a SecCaps { eea: 57344, eia: 57344 } as 1c000e0000, then Ok(Mme(42))
+";
 
-#[test]
-fn refused_choices(rt: HostRuntime) {
-    let cases: [(Kind, &[u8], Reason, u64); 15] = [
-        (Kind::Cause, b"", Truncated, 0),
-        // choice: e = 1; e 101; e 111
-        (Kind::Cause, b"\x80", BadChoice, 0),
-        (Kind::Cause, b"\x50", BadChoice, 0),
-        (Kind::Cause, b"\x70", BadChoice, 0),
-        // e 000 e 100100 of 36 roots; e 011 e 111 of 7; e 100 e 110 of 6
-        (Kind::Cause, b"\x04\x80", OutOfRange, 0),
-        (Kind::Cause, b"\x37", OutOfRange, 0),
-        (Kind::Cause, b"\x46", OutOfRange, 0),
-        // e 000, e = 1, 1: an index above 63
-        (Kind::Cause, b"\x0c\x00", OutOfRange, 0),
-        // three bits of an index of six; two of the six bits of an index beyond the roots
-        (Kind::Cause, b"\x04", Truncated, 0),
-        (Kind::Cause, b"\x08", Truncated, 0),
-        (Kind::SecCaps, b"\x9c\x00\x0e\x00\x00", SequenceExtension, 0),
-        // 00111100: the first e = 1; 00011110: the second e, the bit 19, = 1
-        (Kind::SecCaps, b"\x3c\x00\x0e\x00\x00", OutOfRange, 0),
-        (Kind::SecCaps, b"\x1c\x00\x1e\x00\x00", OutOfRange, 2),
-        // the bits 3 to 18, and 20 to 35
-        (Kind::SecCaps, b"\x1c\x00", Truncated, 0),
-        (Kind::SecCaps, b"\x1c\x00\x0e\x00", Truncated, 2),
-    ];
-    for (kind, octets, reason, place) in cases {
-        refuses(&rt, kind, octets, reason, place);
-    }
-}
+const CAUSES: &str = "
+# choice: e 010; of 4 roots: e 10, and e 11
+24 Cause { group: 2, extended: false, index: 2 }
+26 Cause { group: 2, extended: false, index: 3 }
+# choice: e 000; of 36 roots: e 100011, so 0000 0100 011
+0460 Cause { group: 0, extended: false, index: 35 }
+# choice: e 001; of 2 roots: e 1, so 0001 01
+14 Cause { group: 1, extended: false, index: 1 }
+# choice: e 011; of 7 roots: e 110
+36 Cause { group: 3, extended: false, index: 6 }
+# choice: e 100; of 6 roots: e 101
+45 Cause { group: 4, extended: false, index: 5 }
+# choice: e 000; beyond the roots: e = 1, 0, 000101, so 0000 1000 0101
+0850 Cause { group: 0, extended: true, index: 5 }
+# choice: e 100; beyond the roots: e = 1, 0, 111111, so 0100 1011 1111
+4bf0 Cause { group: 4, extended: true, index: 63 }
+# choice: e 001; beyond the roots: e = 1, 0, 000000, so 0001 1000 0000
+1800 Cause { group: 1, extended: true, index: 0 }
+ 1 Truncated at 0
+# choice: e = 1; e 101; e 111
+80 8 BadChoice at 0
+50 8 BadChoice at 0
+70 8 BadChoice at 0
+# e 000 e 100100 of 36 roots; e 011 e 111 of 7; e 100 e 110 of 6
+0480 5 OutOfRange at 0
+37 5 OutOfRange at 0
+46 5 OutOfRange at 0
+# e 000, e = 1, 1: an index above 63
+0c00 5 OutOfRange at 0
+# three bits of an index of six; two of the six bits of an index beyond the roots
+04 1 Truncated at 0
+08 1 Truncated at 0
+";
 
-// An entry of the extensions: its id in two octets, the criticality (00, 40 or 80), the length, and so many octets.
+const UE_IDS: &str = "
+# choice: e 0; sequence: e o; one octet: 00 p(2); one octet: 00 p(6)
+00010001 Pair { mme: 1, enb: 1 }
+# choice: e 0; sequence: e o; four octets: 11 p(2), so 0000 1100; three octets: 10 p(6), so 1000 0000
+0cffffffff80ffffff Pair { mme: 4294967295, enb: 16777215 }
+# choice: e 1; two octets: 01 p(4), so 0101 0000
+500100 Mme(256)
+# choice: e 1; one octet: 00 p(4), so 0100 0000
+4000 Mme(0)
+ 1 Truncated at 0
+# choice: e = 1; sequence: e = 1
+80010001 8 BadChoice at 0
+20010001 7 SequenceExtension at 0
+# p = 01; p = 0001; p = 000001
+01010001 3 NonZeroPadding at 0
+4101 3 NonZeroPadding at 0
+00010101 3 NonZeroPadding at 2
+# two octets: 0000 01 p(2), 0101 p(4), 01 p(6)
+0400010001 4 NotMinimal at 1
+500001 4 NotMinimal at 1
+0001400001 4 NotMinimal at 3
+# four octets of an eNB id: 11 p(6)
+0001c001000000 5 OutOfRange at 2
+# no octet, one of two, no count, no octet, two of three
+00 1 Truncated at 1
+5001 1 Truncated at 1
+0001 1 Truncated at 2
+000100 1 Truncated at 3
+000180ffff 1 Truncated at 3
+# choice: e 0; sequence: 01; 00 p(2): 0001 0000
+10010001000000074001aa402a Pair { mme: 1, enb: 1 } as 00010001, then Ok(Mme(42))
+# Behind the pair 10 01 00 01: the count in the octets 4 and 5, an id in 6 and 7, then 8, 9 and 10.
+10010001 1 Truncated at 4
+# 65535 is the count 65536 less 1
+10010001ffff 5 OutOfRange at 4
+10010001000000 1 Truncated at 6
+1001000100000007 1 Truncated at 8
+10010001000000074100 3 NonZeroPadding at 8
+100100010000000740 1 Truncated at 9
+# a length of two with one octet: at the length
+10010001000000074002aa 1 Truncated at 9
+# 10 and 14 bits that hold 1; the bits 11
+1001000100000007408001aa 2 LongLength at 9
+100100010000000740c1aa 6 TooLong at 9
+# two entries, of which there is one
+10010001000100074001aa 1 Truncated at 11
+";
 
-#[test]
-fn extensions(rt: HostRuntime) {
-    let cases: [(Value, &[u8]); 6] = [
-        // o = 1: 40; one entry: 0000; 7, ignore, aa
-        (
-            tai(0x02f839, 1),
-            b"\x40\x02\xf8\x39\x00\x01\x00\x00\x00\x07\x40\x01\xaa\x40\x2a",
-        ),
-        // two entries: 0001; 7, ignore, aa; 258, notify, bbcc
-        (
-            tai(0x02f839, 1),
-            b"\x40\x02\xf8\x39\x00\x01\x00\x01\x00\x07\x40\x01\xaa\x01\x02\x80\x02\xbb\xcc\x40\x2a",
-        ),
-        // p(4) behind the cell
-        (
-            cgi(0x02f839, 1),
-            b"\x40\x02\xf8\x39\x00\x00\x00\x10\x00\x00\x00\x07\x00\x01\xaa\x40\x2a",
-        ),
-        // 01 00000001 p(6)
-        (
-            stmsi(1, 1),
-            b"\x40\x40\x00\x00\x00\x01\x00\x00\x00\x07\x00\x01\xaa\x40\x2a",
-        ),
-        // 01 000 p(3)
-        (
-            rates(1, 1),
-            b"\x40\x01\x00\x01\x00\x00\x00\x07\x40\x01\xaa\x40\x2a",
-        ),
-        // choice: e 0; sequence: 01; 00 p(2): 0001 0000
-        (
-            pair(1, 1),
-            b"\x10\x01\x00\x01\x00\x00\x00\x07\x40\x01\xaa\x40\x2a",
-        ),
-    ];
-    for (value, octets) in cases {
-        passes_over(&rt, value, octets);
-    }
-}
+const ERABS_DONE: &str = "
+# e o e 0101 e is 0000 1010; size 32 less 1 is 0001 1111; the address and the TEID are aligned as they stand
+0a1f0a00000100000001 ErabDone { id: 5, address: 167772161, teid: 1 }
+# e o e 1111 e is 0001 1110
+1e1fc0a80001fffffffe ErabDone { id: 15, address: 3232235521, teid: 4294967294 }
+8a1f0a000001 7 SequenceExtension at 0
+# e = 1 before the E-RAB-ID: 0010 1010; before the address: 0000 1011
+2a1f0a000001 5 OutOfRange at 0
+0b1f0a000001 5 OutOfRange at 0
+# sizes of 33, 1 and 160; 161 is no size
+0a200a000001 5 OutOfRange at 1
+0a000a000001 5 OutOfRange at 1
+0a9f0a000001 5 OutOfRange at 1
+0aa00a000001 5 OutOfRange at 1
+# three octets of the address, one of the TEID
+0a1f0a0000 1 Truncated at 2
+0a1f0a00000100 1 Truncated at 6
+# 01 e 0101 e: 0100 1010
+4a1f0a00000100000001000000074001aa402a ErabDone { id: 5, address: 167772161, teid: 1 } as 0a1f0a00000100000001, then Ok(Mme(42))
+";
 
-#[test]
-fn extensions_behind_bits(rt: HostRuntime) {
-    // 01 e 1110000000000000 e 1110000000000000 p(4): 01011100 00000000 00001110 00000000 0000 0000
-    passes_over(
-        &rt,
-        caps(0xe000, 0xe000),
-        b"\x5c\x00\x0e\x00\x00\x00\x00\x00\x07\x40\x01\xaa\x40\x2a",
-    );
-    // 01 e 0101 e: 0100 1010
-    passes_over(
-        &rt,
-        done(5, 0x0a000001, 1),
-        b"\x4a\x1f\x0a\x00\x00\x01\x00\x00\x00\x01\x00\x00\x00\x07\x40\x01\xaa\x40\x2a",
-    );
-}
+// e o o e 0101 is 05, and 45 with a NAS-PDU; e o o p(5) is 00; QCI 09; e o 111101 is 3d; e 00011111 p(7) is 0f 80; then the address and
+// the TEID, aligned as they stand
+const ERABS_TO_SETUP: &str = "
+0500093d0f80c0a8000100000001 ErabToSetup { id: 5, qci: 9, arp: 61, address: 3232235521, teid: 1, nas: None }
+4500093d0f80c0a8000100000001020746 ErabToSetup { id: 5, qci: 9, arp: 61, address: 3232235521, teid: 1, nas: Some(ListOf { items: [7, 70] }) }
+8500 7 SequenceExtension at 0
+1500 5 OutOfRange at 0
+0580 7 SequenceExtension at 1
+0540 5 OutOfRange at 1
+05000980 7 SequenceExtension at 3
+0500093d8000 5 OutOfRange at 4
+# a NAS-PDU of 2,049 octets: 10 and 14 bits of its length
+4500093d0f80c0a80001000000018801 6 TooLong at 14
+4500093d0f80c0a80001000000010207 1 Truncated at 14
+# iE-Extensions of the priority: 01 111101 is 7d, and behind it one entry: 0000; 7, ignore, aa
+0500097d000000074001aa0f80c0a8000100000001 ErabToSetup { id: 5, qci: 9, arp: 61, address: 3232235521, teid: 1, nas: None } as 0500093d0f80c0a8000100000001
+# of the QoS: 001 p(5) is 20, behind the priority
+0520093d000000074001aa0f80c0a8000100000001 ErabToSetup { id: 5, qci: 9, arp: 61, address: 3232235521, teid: 1, nas: None } as 0500093d0f80c0a8000100000001
+# of the item: 001 0 0101 is 25, behind the TEID
+2500093d0f80c0a8000100000001000000074001aa ErabToSetup { id: 5, qci: 9, arp: 61, address: 3232235521, teid: 1, nas: None } as 0500093d0f80c0a8000100000001
+# of all three, and behind them 402a
+2520097d000000074001aa000000074001bb0f80c0a8000100000001000000074001cc402a ErabToSetup { id: 5, qci: 9, arp: 61, address: 3232235521, teid: 1, nas: None } as 0500093d0f80c0a8000100000001, then Ok(Mme(42))
+";
 
-#[test]
-fn refused_extensions(rt: HostRuntime) {
-    // Behind the pair 10 01 00 01: the count in the octets 4 and 5, an id in 6 and 7, then 8, 9 and 10.
-    let cases: [(&[u8], Reason, u64); 10] = [
-        (b"\x10\x01\x00\x01", Truncated, 4),
-        // 65535 is the count 65536 less 1
-        (b"\x10\x01\x00\x01\xff\xff", OutOfRange, 4),
-        (b"\x10\x01\x00\x01\x00\x00\x00", Truncated, 6),
-        (b"\x10\x01\x00\x01\x00\x00\x00\x07", Truncated, 8),
-        (
-            b"\x10\x01\x00\x01\x00\x00\x00\x07\x41\x00",
-            NonZeroPadding,
-            8,
-        ),
-        (b"\x10\x01\x00\x01\x00\x00\x00\x07\x40", Truncated, 9),
-        // a length of two with one octet: at the length
-        (
-            b"\x10\x01\x00\x01\x00\x00\x00\x07\x40\x02\xaa",
-            Truncated,
-            9,
-        ),
-        // 10 and 14 bits that hold 1; the bits 11
-        (
-            b"\x10\x01\x00\x01\x00\x00\x00\x07\x40\x80\x01\xaa",
-            LongLength,
-            9,
-        ),
-        (b"\x10\x01\x00\x01\x00\x00\x00\x07\x40\xc1\xaa", TooLong, 9),
-        // two entries, of which there is one
-        (
-            b"\x10\x01\x00\x01\x00\x01\x00\x07\x40\x01\xaa",
-            Truncated,
-            11,
-        ),
-    ];
-    for (octets, reason, place) in cases {
-        refuses(&rt, Kind::UeIds, octets, reason, place);
-    }
-}
-
-#[test]
-fn refused_criticalities(rt: HostRuntime) {
-    // The TAI in the octets 0 to 5, the count in 6 and 7, the ids in 8 and 9, and in 13 and 14; 3 is 11 p(6).
-    refuses(
-        &rt,
-        Kind::Tai,
-        b"\x40\x02\xf8\x39\x00\x01\x00\x00\x00\x07\xc0\x01\xaa",
-        BadCriticality,
-        10,
-    );
-    refuses(
-        &rt,
-        Kind::Tai,
-        b"\x40\x02\xf8\x39\x00\x01\x00\x01\x00\x07\x40\x01\xaa\x01\x02\xc0\x02\xbb\xcc",
-        BadCriticality,
-        15,
-    );
-}
+// the id 52, a criticality and p(6), and the length
+const ITEMS: &str = "
+0034000e0500093d0f80c0a8000100000001 ErabToSetup { id: 5, qci: 9, arp: 61, address: 3232235521, teid: 1, nas: None } (Ok(()), Ok(()))
+0032000100 11 MissingIe 52 at 0
+0034c00100 10 BadCriticality at 2
+0034400200 1 Truncated at 3
+";

@@ -14,11 +14,14 @@ use Rattle.s1ap_ies.specs.declared.tables.MessageKind.{MessageKind}
 use Rattle.s1ap_ies.specs.Grammar.{zero_bit_in, choice_in}
 use Rattle.s1ap_ies.specs.Reading.{Reader, ◌>>=◌, done, zero_bit_at, criticality_at}
 use Rattle.s1ap_ies.proofs.Exact.{zero_bit_exactly, criticality_exactly, choice_exactly}
-use Rattle.s1ap_messages.specs.Many.{many_at, inside_at, looked_up_at}
+use Rattle.s1ap_messages.specs.Many.{looked_up_at}
+use Rattle.s1ap_ies.specs.Many.{many_at, inside_at}
 use Rattle.s1ap_messages.specs.Grammar.{Ie, Named, Other, header_in, or_other, kind_with, new_id, has_ie, ie_in, ies_in, pdu_in}
 use Rattle.s1ap_messages.specs.Reading.{value_at, header_at}
-use Rattle.s1ap_messages.proofs.Manys.{many_exactly}
-use Rattle.s1ap_messages.proofs.Pieces.{behind, inside_exactly, looked_up_exactly}
+use Rattle.s1ap_ies.proofs.Manys.{many_exactly}
+use Rattle.s1ap_messages.proofs.Pieces.{looked_up_exactly}
+use Rattle.s1ap_ies.proofs.Exact.{behind}
+use Rattle.s1ap_ies.proofs.Inside.{inside_exactly}
 use Rattle.s1ap_messages.proofs.Values.{value_exactly}
 
 pub header_exactly : IsExactly header_in header_at

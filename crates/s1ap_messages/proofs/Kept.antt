@@ -15,7 +15,8 @@ use Rattle.s1ap_ies.specs.declared.tables.MessageKind.TheVariants as kind
 use Rattle.s1ap_ies.specs.Tables.{rows_of}
 use Rattle.s1ap_ies.specs.Reading.{Reader, ◌>>=◌, done, zero_bit_at, criticality_at}
 use Rattle.s1ap_ies.proofs.Distinct.{ids_distinct}
-use Rattle.s1ap_messages.specs.Many.{many_at, inside, inside_at, looked_up_at, answer}
+use Rattle.s1ap_messages.specs.Many.{looked_up_at, answer}
+use Rattle.s1ap_ies.specs.Many.{many_at, inside, inside_at}
 use Rattle.s1ap_messages.specs.Values.{FieldValue, value_in}
 use Rattle.s1ap_messages.specs.Grammar.{Ie, Named, Other, found, new_id, has_ie, ie_in}
 use Rattle.s1ap_messages.specs.Reading.{Slots, empty, place_of, is_filled, free_id, content_at, value_at, ie_at, noted, fields_at, header_at, ies_at, pdu_at}

@@ -1,5 +1,3 @@
-pub mod Manys
-pub mod Short
 pub mod Writes
 pub mod Pieces
 pub mod Values
@@ -12,12 +10,9 @@ pub mod Makes
 pub mod Exact
 pub mod Skipped
 pub mod Found
-pub mod Opens
 pub mod Runs
 pub mod Spelled
 pub mod Whole
-pub mod Ends
-pub mod ValueEnds
 pub mod Room
 pub mod Sizes
 pub mod Answering

@@ -18,7 +18,7 @@ use Rattle.s1ap_ies.specs.Tables.{rows_of}
 use Rattle.s1ap_messages.specs.declared.pdu.Pdu.{Pdu}
 use Rattle.s1ap_messages.specs.declared.pdu.Pdu.TheVariants as pdus
 use Rattle.s1ap_messages.specs.declared.value.IeValue.TheVariants as value
-use Rattle.s1ap_messages.specs.Many.{InOrder}
+use Rattle.s1ap_ies.specs.Many.{InOrder}
 use Rattle.s1ap_messages.specs.Values.{FieldValue}
 use Rattle.s1ap_messages.specs.Messages.{kind_of, values_of}
 use Rattle.s1ap_messages.specs.Grammar.{Ie, Named, Other, found, ie_in, fields_of, missing}

@@ -1,25 +1,16 @@
--- Look-ups and containers are read exactly.
-use Rattle.std.proofs.Common.{◌≡◌, [], ◌++◌, Result, Ok, Err, refl, sym, ap, ◌∙◌, inl, inr, arith}
+-- Look-ups are read exactly.
+use Rattle.std.proofs.Common.{◌≡◌, ◌++◌, Result, Ok, Err, refl, sym, ap, ◌∙◌, inl, inr}
 use Rattle.echo_base.specs.declared.reason.Reason.{Reason}
 use Rattle.echo_base.specs.declared.refusal.Refusal.{Refusal}
-use Rattle.aper_fields.specs.Reading.{Input, refusal, whole_at}
-use Rattle.aper_fields.specs.Format.{Format, IsExactly, ◌>>=◌}
-use Rattle.aper_fields.proofs.Octet.{input}
+use Rattle.aper_fields.specs.Reading.{Input, refusal}
+use Rattle.aper_fields.specs.Format.{Format, IsExactly}
 use Rattle.aper_fields.proofs.Exact.{bind_ok}
-use Rattle.aper_fields.proofs.Formats.{bind_err, ok_err, ok_of, err_is, stands_read, then_exactly}
-use Rattle.aper_fields.proofs.Containers.{whole_found, whole_only, whole_wrong, whole_refused}
-use Rattle.s1ap_ies.specs.Reading as reading
+use Rattle.aper_fields.proofs.Formats.{bind_err, ok_err, ok_of, err_is, stands_read}
 use Rattle.s1ap_ies.specs.Reading.{Reader}
-use Rattle.s1ap_messages.specs.Many.{inside, inside_at, looked_up, looked_up_at, answer}
-
--- one behind another
-pub behind : {A B : Type 0} (F : Format A) (f : Reader A) (G : A → Format B) (g : A → Reader B) → IsExactly F f → ((a : A) → IsExactly (G a) (g a)) → IsExactly (F >>= G) (reading.◌>>=◌ f g)
-behind F f G g p q = then_exactly F f G g p q
+use Rattle.s1ap_messages.specs.Many.{looked_up, looked_up_at, answer}
 
 ok_is : {A : Type 0} (x y : A) → ok_of x ≡ Ok y → x ≡ y
 ok_is x y e = cc
-
--- ---- look-ups
 
 answered : {B : Type 0} (r : Result B Reason) (i j k : Input) (v : B) → answer r i j ≡ Ok (v, k) → (r ≡ Ok v) × (j ≡ k)
 answered (Ok w) i j k v e =
@@ -51,25 +42,4 @@ looked_up_exactly look F f p = record {
         | inl first ↦ rw (p.refused i e first) refl
         | inr x ↦ rw (stands_read F f p.spells i x.0 x.1 x.2, x.4, x.5) refl
       ];
-}
-
--- ---- containers
-
-pub inside_exactly : {A : Type 0} (content : Input) (F : Format A) (f : Reader A) → IsExactly F f → IsExactly (inside content F) (inside_at content f)
-inside_exactly content F f p = record {
-  spells = record {
-    found = λ i j v h.
-        let x = bind_ok (whole_at f content) (λ v. Ok (v, i)) (v, j) h in
-        let g : (x.0, i) ≡ (v, j) = ok_is _ _ x.2 in
-        ([], (whole_found F.Spells f p.spells content v (x.1 ∙ ap Ok (ap (λ (y : _ × Input). y.0) g)), refl), ap (λ (y : _ × Input). y.1.left) g, ap (λ (y : _ × Input). y.1.offset) (sym g) ∙ omega arith);
-    only = λ at v run rest h.
-        let none : run ≡ [] = h.1 in
-        rw (whole_only F.Spells f p.spells content v h.0, none) (ap (λ o. ok_of (v, input o rest)) (omega arith));
-  };
-  wrong = λ i e h.
-      elim (bind_err (whole_at f content) (λ v. Ok (v, i)) e h) [
-        | inl first ↦ whole_wrong F f p content e first
-        | inr x ↦ absurd (ok_err _ e x.2)
-      ];
-  refused = λ i e h. rw (whole_refused F f p content e h) refl;
 }

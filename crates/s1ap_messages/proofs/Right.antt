@@ -17,37 +17,28 @@ use Rattle.aper_fields.proofs.BitLaws.{length-bits}
 use Rattle.s1ap_ies.specs.declared.tables.IeRow.{IeRow}
 use Rattle.s1ap_ies.specs.declared.tables.MessageKind.{MessageKind}
 use Rattle.s1ap_ies.specs.Tables.{rows_of}
-use Rattle.s1ap_ies.specs.Grammar.{zero_bit_in, nas_in, item_in, erab_done_in, erab_to_setup_in}
-use Rattle.s1ap_ies.specs.declared.erab_to_setup.ErabToSetup.{ErabToSetup}
-use Rattle.s1ap_ies.specs.Run.{IsErabDone, IsErabToSetup, item_run}
+use Rattle.s1ap_ies.specs.Grammar.{zero_bit_in}
+use Rattle.s1ap_ies.specs.Values as types
+use Rattle.s1ap_ies.specs.Asn1.{item_run}
 use Rattle.s1ap_ies.proofs.Distinct.{ids_distinct}
-use Rattle.s1ap_ies.proofs.Ranges.{tai_ranges, cgi_ranges, stmsi_ranges, bit_rates_ranges, sec_caps_ranges, cause_ranges, ue_ids_ranges, erab_done_ranges, erab_to_setup_ranges}
+use Rattle.s1ap_ies.proofs.Items.{dones_sound, setups_sound, dones_right, setups_right, setups_strings}
+use Rattle.s1ap_ies.proofs.Least.{least}
 use Rattle.s1ap_messages.specs.declared.pdu.Pdu.{Pdu}
-use Rattle.s1ap_messages.specs.Many.{InOrder, inside}
-use Rattle.s1ap_messages.specs.Values.{FieldValue, erabs_in, value_in}
+use Rattle.s1ap_ies.specs.Many.{InOrder, inside}
+use Rattle.s1ap_messages.specs.Values.{FieldValue, value_in}
 use Rattle.s1ap_messages.specs.Messages.{kind_of}
 use Rattle.s1ap_messages.specs.Grammar.{Ie, Named, Other, found, has_ie, fields_of, ie_in, ies_in, pdu_in, Spells}
-use Rattle.s1ap_messages.specs.Run.{value_run, fields_run, count_of, ies_run, IsShort, IsRightValue, AreSome, IsRightField, IsRight, HasOctetsIn, HasOctets}
+use Rattle.s1ap_messages.specs.Run.{value_run, fields_run, count_of, ies_run, IsShort, IsRightValue, IsRightField, IsRight, HasOctetsIn, HasOctets}
 use Rattle.s1ap_messages.specs.Answer.{Answers}
 use Rattle.s1ap_messages.proofs.Cases.{HoldsOfEach, each_value}
-use Rattle.s1ap_messages.proofs.Ends.{EndsBy, front_ends, open_ends}
-use Rattle.s1ap_messages.proofs.Opens.{open_offset}
-use Rattle.s1ap_messages.proofs.Room.{HasRoom, IsLeast, open_room, head_ends, value_ends}
+use Rattle.s1ap_ies.proofs.Ends.{EndsBy, front_ends, open_ends}
+use Rattle.s1ap_ies.proofs.Opens.{open_offset}
+use Rattle.s1ap_messages.proofs.Room.{value_ends}
+use Rattle.s1ap_ies.proofs.Room.{HasRoom, IsLeast, open_room, head_ends}
 use Rattle.s1ap_messages.proofs.Runs.{value_periodic, value_some}
 use Rattle.s1ap_messages.proofs.Sizes.{length-item_run, cost, ie_cost, length-fields_run, found_cost}
 
 -- ---- values in their ranges
-
--- the values of a list
-items_ranges : {A : Type 0} (id : ℕ) (F : Format A) (In : A → Type 0) → ((at : ℕ) (a : A) (run : List Bool) → F.Spells at a run → In a) → (before xs : List A) (at : ℕ) (run : List Bool) → InOrder (λ before. item_in id >>= λ content. inside content F) before at xs run → AllByRecursion In xs
-items_ranges id F In ranges before [] at run s = tt
-items_ranges id F In ranges before (x ∷ xs) at run s =
-    let held = s.3.5.0 in
-    (ranges _ x held.0 held.1, items_ranges id F In ranges (before ++ x ∷ []) xs (at + length s.0) s.1 s.4)
-
-erabs_ranges : {A : Type 0} (id : ℕ) (F : Format A) (In : A → Type 0) → ((at : ℕ) (a : A) (run : List Bool) → F.Spells at a run → In a) → (at : ℕ) (xs : List A) (run : List Bool) → (erabs_in id F).Spells at xs run → AreSome In xs
-unfolding erabs_in
-erabs_ranges id F In ranges at xs run s = (omega (arith, s.4.0.0, s.5.0), omega (arith, s.4.0.1, s.5.0), items_ranges id F In ranges [] xs _ s.2 s.5.1)
 
 abbrev InRange : ℕ → ℕ → FieldValue → List Bool → Type 0
 InRange id at v run = IsRightValue v
@@ -55,19 +46,19 @@ InRange id at v run = IsRightValue v
 each_range : HoldsOfEach InRange
 each_range = record {
   mme = λ at n run s. omega (arith, s.0.1);
-  cause = cause_ranges;
+  cause = λ at v run s. (least types.cause (tt, λ group. (tt, omega arith)) v at run s).0;
   enb = λ at n run s. omega (arith, s.0.1);
-  bearers = erabs_ranges 52 erab_to_setup_in IsErabToSetup erab_to_setup_ranges;
+  bearers = λ at xs run s. setups_right IsOctets xs (least types.erabs_to_setup setups_sound xs at run s).0;
   nas = λ at octets run s. s.0.0;
-  done = erabs_ranges 50 erab_done_in IsErabDone erab_done_ranges;
-  rates = bit_rates_ranges;
-  tai = tai_ranges;
+  done = λ at xs run s. dones_right IsOctets xs (least types.erabs_done dones_sound xs at run s).0;
+  rates = λ at v run s. (least types.bit_rates (tt, tt) v at run s).0;
+  tai = λ at v run s. (least types.tai (tt, tt) v at run s).0;
   key = λ at octets run s. s.0.0;
   radio = λ at octets run s. s.0.1;
-  stmsi = stmsi_ranges;
-  ids = ue_ids_ranges;
-  cgi = cgi_ranges;
-  caps = sec_caps_ranges;
+  stmsi = λ at v run s. (least types.stmsi (tt, tt) v at run s).0;
+  ids = λ at v run s. (least types.ue_ids ((tt, tt), tt) v at run s).0;
+  cgi = λ at v run s. (least types.cgi (tt, tt) v at run s).0;
+  caps = λ at v run s. (least types.sec_caps (tt, tt) v at run s).0;
   rrc = λ id other at v run s. s.0;
 }
 
@@ -75,18 +66,6 @@ value_ranges : (id at : ℕ) (v : FieldValue) (run : List Bool) → (value_in id
 value_ranges = each_value InRange each_range
 
 -- strings of octets
-nas_octets : (at : ℕ) (present : Bool) (nas : Option (List ℕ)) (run : List Bool) → (nas_in present).Spells at nas run → IfSome nas IsOctets
-unfolding nas_in
-nas_octets at true nas run s = subst (λ (o : Option (List ℕ)). IfSome o IsOctets) (sym s.5.0) s.4.0.2
-nas_octets at false nas run s = subst (λ (o : Option (List ℕ)). IfSome o IsOctets) (sym s.0) tt
-
-setup_octets : (at : ℕ) (v : ErabToSetup) (run : List Bool) → erab_to_setup_in.Spells at v run → IfSome v.nas IsOctets
-unfolding erab_to_setup_in
-setup_octets at v run s =
-    let with_nas = s.5 in
-    let nas = with_nas.5.5.5.5.5.5 in
-    subst (λ (v : ErabToSetup). IfSome v.nas IsOctets) (sym nas.5.5.0) (nas_octets _ with_nas.0 nas.0 nas.1 nas.4)
-
 abbrev AreOctets : ℕ → ℕ → FieldValue → List Bool → Type 0
 AreOctets id at v run = HasOctetsIn v
 
@@ -95,7 +74,7 @@ each_octets = record {
   mme = λ at n run s. tt;
   cause = λ at v run s. tt;
   enb = λ at n run s. tt;
-  bearers = λ at xs run s. (erabs_ranges 52 erab_to_setup_in (λ (b : ErabToSetup). IfSome b.nas IsOctets) setup_octets at xs run s).2;
+  bearers = λ at xs run s. setups_strings IsOctets xs (least types.erabs_to_setup setups_sound xs at run s).0;
   nas = λ at octets run s. s.0.2;
   done = λ at xs run s. tt;
   rates = λ at v run s. tt;

@@ -9,11 +9,11 @@ use Rattle.aper_fields.specs.Run.{number_run, fixed_bits_run, padding_run, lengt
 use Rattle.aper_fields.proofs.BitLaws.{length-bits}
 use Rattle.aper_fields.proofs.Packed.{length-filled}
 use Rattle.s1ap_ies.specs.declared.tables.IeRow.{IeRow}
-use Rattle.s1ap_ies.specs.Run.{item_run}
+use Rattle.s1ap_ies.specs.Asn1.{item_run}
 use Rattle.s1ap_messages.specs.Values.{FieldValue}
 use Rattle.s1ap_messages.specs.Grammar.{Ie, Named, Other, found}
 use Rattle.s1ap_messages.specs.Run.{value_run, ie_run, fields_run}
-use Rattle.s1ap_messages.proofs.Opens.{length-length_octets}
+use Rattle.s1ap_ies.proofs.Opens.{length-length_octets}
 use Rattle.s1ap_messages.proofs.Whole.{named_behind}
 
 abbrev Slot : Type 0

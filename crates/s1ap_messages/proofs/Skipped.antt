@@ -4,8 +4,9 @@ use Rattle.echo_base.specs.declared.refusal.Refusal.{Refusal}
 use Rattle.aper_fields.specs.Reading.{Input, Read, Gives, number_at, close_at, whole_at}
 use Rattle.aper_fields.proofs.Formats.{bind, ok_of, ok_err, err_is}
 use Rattle.s1ap_ies.specs.Reading.{Reader, passed, skipping, item_at}
-use Rattle.s1ap_messages.specs.Many.{many_at, inside_at}
-use Rattle.s1ap_messages.specs.Reading.{erab_at, erabs_at, skipped_at, erabs_skipped_at, listed}
+use Rattle.s1ap_ies.specs.Asn1.{contained_item_at, list_at}
+use Rattle.s1ap_ies.specs.Many.{many_at, inside_at}
+use Rattle.s1ap_messages.specs.Reading.{skipped_at, erabs_skipped_at, listed}
 
 closed : {A : Type 0} (v : A) (k : Input) (r : Result (Unit {0}) Refusal) → bind (bind r (λ e. ok_of tt)) (λ u. Ok (u, k)) ≡ passed (bind (bind r (λ e. ok_of v)) (λ u. Ok (u, k)))
 closed v k (Ok e) = refl
@@ -20,8 +21,8 @@ unfolding whole_at
 opened read (Ok x) = inner x.0 x.1 (read x.0)
 opened read (Err e) = refl
 
-one : {A : Type 0} (id : ℕ) (read : Reader A) (i : Input) → erab_at id (skipping read) i ≡ passed (erab_at id read i)
-unfolding erab_at
+one : {A : Type 0} (id : ℕ) (read : Reader A) (i : Input) → contained_item_at id (skipping read) i ≡ passed (contained_item_at id read i)
+unfolding contained_item_at
 one id read i = opened read (item_at id i)
 
 next : {A : Type 0} (g : Reader (Unit {0})) (f : Reader A) (n : ℕ) (before : List A) (r : Read A) → ((later : List A) (j : Input) → skipped_at g n j ≡ passed (many_at (λ b. f) n later j)) → bind (passed r) (λ x. skipped_at g n x.1) ≡ passed (bind r (λ x. many_at (λ b. f) n (before ++ x.0 ∷ []) x.1))
@@ -33,12 +34,12 @@ unfolding skipped_at many_at
 many g f same zero before i = refl
 many g f same (suc n) before i = ap (λ r. bind r (λ x. skipped_at g n x.1)) (same i) ∙ next g f n before (f i) (λ later j. many g f same n later j)
 
-counted : {A : Type 0} (id : ℕ) (read : Reader A) (r : Read ℕ) → bind r (λ x. skipped_at (erab_at id (skipping read)) x.0 x.1) ≡ passed (bind r (λ x. many_at (λ b. erab_at id read) x.0 [] x.1))
-counted id read (Ok x) = many (erab_at id (skipping read)) (erab_at id read) (one id read) x.0 [] x.1
+counted : {A : Type 0} (id : ℕ) (read : Reader A) (r : Read ℕ) → bind r (λ x. skipped_at (contained_item_at id (skipping read)) x.0 x.1) ≡ passed (bind r (λ x. many_at (λ b. contained_item_at id read) x.0 [] x.1))
+counted id read (Ok x) = many (contained_item_at id (skipping read)) (contained_item_at id read) (one id read) x.0 [] x.1
 counted id read (Err e) = refl
 
-skipped : {A : Type 0} (id : ℕ) (read : Reader A) (i : Input) → erabs_skipped_at id read i ≡ passed (erabs_at id read i)
-unfolding erabs_skipped_at erabs_at
+skipped : {A : Type 0} (id : ℕ) (read : Reader A) (i : Input) → erabs_skipped_at id read i ≡ passed (list_at 1 256 (contained_item_at id read) i)
+unfolding erabs_skipped_at list_at
 skipped id read i = counted id read (number_at 1 255 i)
 
 -- where a reading ends
@@ -57,10 +58,10 @@ not_there (Ok x) e h = absurd (ok_err _ _ h)
 not_there (Err d) e h = ap (λ (x : Refusal). Err x) (err_is {A = Unit {0} × Input} d e h)
 
 -- what was refused where it was passed over is refused
-pub refused_gives : {A : Type 0} (id : ℕ) (read : Reader A) (old new : Input) (r : Result (List A) Refusal) → IsErrAnd r (λ e. (erabs_skipped_at id read old ≡ Err e) × (new ≡ old)) → Gives r old new (erabs_at id read old)
+pub refused_gives : {A : Type 0} (id : ℕ) (read : Reader A) (old new : Input) (r : Result (List A) Refusal) → IsErrAnd r (λ e. (erabs_skipped_at id read old ≡ Err e) × (new ≡ old)) → Gives r old new (list_at 1 256 (contained_item_at id read) old)
 refused_gives id read old new (Ok v) h = absurd h
-refused_gives id read old new (Err e) h = (not_there (erabs_at id read old) e (sym (skipped id read old) ∙ h.0), h.1)
+refused_gives id read old new (Err e) h = (not_there (list_at 1 256 (contained_item_at id read) old) e (sym (skipped id read old) ∙ h.0), h.1)
 
 -- a list that was passed over is one that is read
-pub passed_over : {A : Type 0} (id : ℕ) (read : Reader A) (i j : Input) → erabs_skipped_at id read i ≡ Ok (tt, j) → (erabs_at id read i ≡ Ok (listed (erabs_at id read i), j)) × IsOk (erabs_at id read i)
-passed_over id read i j e = there (erabs_at id read i) j (sym (skipped id read i) ∙ e)
+pub passed_over : {A : Type 0} (id : ℕ) (read : Reader A) (i j : Input) → erabs_skipped_at id read i ≡ Ok (tt, j) → (list_at 1 256 (contained_item_at id read) i ≡ Ok (listed (list_at 1 256 (contained_item_at id read) i), j)) × IsOk (list_at 1 256 (contained_item_at id read) i)
+passed_over id read i j e = there (list_at 1 256 (contained_item_at id read) i) j (sym (skipped id read i) ∙ e)

@@ -1,84 +1,72 @@
 -- A message of small fields fits into its open types.
-use Rattle.std.proofs.Common.{ℕ, ◌+◌, ◌*◌, ◌≤◌, Bool, true, List, [], ◌∷◌, length, Option, Some, None, IfSome, arith}
+use Rattle.std.proofs.Common.{ℕ, ◌+◌, ◌*◌, ◌≤◌, true, List, [], ◌∷◌, length, Option, Some, None, IfSome, arith}
 use Rattle.std.specs.List.{AllByRecursion}
-use Rattle.aper_fields.specs.Run.{Run, ◌▸◌, number_run, fixed_bits_run, open_run}
-use Rattle.aper_fields.proofs.Lengths.{Takes, then_takes, number_takes, fixed_bits_takes, octet_string_takes, fixed_octets_takes, enumerated_takes, open_takes}
+use Rattle.aper_fields.specs.Run.{Run, ◌▸◌, number_run, fixed_bits_run}
+use Rattle.aper_fields.proofs.Lengths.{Takes, then_takes, number_takes, fixed_bits_takes, octet_string_takes, fixed_octets_takes, enumerated_takes}
 use Rattle.s1ap_ies.specs.declared.erab_to_setup.ErabToSetup.{ErabToSetup}
 use Rattle.s1ap_ies.specs.declared.erab_done.ErabDone.{ErabDone}
 use Rattle.s1ap_ies.specs.declared.tables.IeRow.{IeRow}
 use Rattle.s1ap_ies.specs.declared.tables.MessageKind.{MessageKind}
-use Rattle.s1ap_ies.specs.declared.ue_ids.UeIds.{UeIds}
-use Rattle.s1ap_ies.specs.declared.ue_ids.UeIds.TheVariants.{Pair, Mme}
-use Rattle.device_types.specs.Cause.{cause_roots}
+use Rattle.s1ap_ies.specs.Asn1.{AsnType, run, each_run, list_run, item_run, CanBeWritten, IsSound, most_bits}
+use Rattle.s1ap_ies.specs.Run.{IsErabToSetup, IsErabDone}
 use Rattle.s1ap_ies.specs.Tables.{rows_of}
-use Rattle.s1ap_ies.specs.Run.{IsErabToSetup, IsErabDone, cause_value, preamble_run, algorithms_run, choice_run, tai_run, cgi_run, stmsi_run, bit_rates_run, sec_caps_run, cause_run, ue_ids_run, erab_done_run, erab_to_setup_run, item_run}
+use Rattle.s1ap_ies.specs.Values as types
+use Rattle.s1ap_ies.proofs.Items.{done_sound, setup_sound, done_fits, setup_fits, no_string}
+use Rattle.s1ap_ies.proofs.Sizes.{more_takes, item_takes, each_takes, takes}
 use Rattle.s1ap_messages.specs.declared.pdu.Pdu.{Pdu}
 use Rattle.s1ap_messages.specs.declared.pdu.Pdu.TheVariants as pdus
 use Rattle.s1ap_messages.specs.declared.value.IeValue.TheVariants as value
 use Rattle.s1ap_messages.specs.Values.{FieldValue}
 use Rattle.s1ap_messages.specs.Messages.{kind_of, values_of}
-use Rattle.s1ap_messages.specs.Run.{items_run, erabs_run, value_run, ie_run, fields_run, count_of, ies_run, IsRight, IsRightField, IsShort}
+use Rattle.s1ap_messages.specs.Run.{value_run, ie_run, fields_run, count_of, ies_run, IsRight, IsRightField, IsShort}
 use Rattle.s1ap_messages.specs.Small.{IsSmallValue, IsSmall}
-use Rattle.s1ap_messages.proofs.Short.{preamble_takes, erab_done_takes, erab_to_setup_takes}
 
-more_takes : (m n : ℕ) (f : Run) → m ≤ n → Takes m f → Takes n f
-more_takes m n f le t = λ at. omega (arith, t at)
+-- ---- values
 
-item_takes : (id criticality n : ℕ) (body : List Bool) → length body ≤ n → Takes (114 + n) (item_run id criticality body)
-unfolding item_run
-item_takes id criticality n body short =
-    let whole = then_takes 74 (9 + (31 + length body)) (number_run 0 65535 id) (fixed_bits_run 2 criticality ▸ open_run body) (number_takes 0 65535 id) (then_takes 9 (31 + length body) (fixed_bits_run 2 criticality) (open_run body) (fixed_bits_takes 2 criticality) (open_takes body)) in
-    λ at. omega (arith, whole at)
+by_type : {A : Type 0} (s : AsnType A) → IsSound s → most_bits s ≤ 17000 → (v : A) → CanBeWritten s v → Takes 17000 (run s v)
+by_type s sound few v fits = more_takes (most_bits s) 17000 (run s v) few (takes (λ octets. Unit {0}) s sound v fits)
 
-items_take : {A : Type 0} (In : A → Type 0) (id criticality n : ℕ) (run : A → Run) → ((x : A) → In x → Takes n (run x)) → (xs : List A) → AllByRecursion In xs → Takes (length xs * (114 + n)) (items_run id criticality run xs)
-unfolding items_run
-items_take In id criticality n run each [] all = λ at. omega arith
-items_take In id criticality n run each (x ∷ xs) all =
-    let whole = then_takes (114 + n) (length xs * (114 + n)) (item_run id criticality (run x 0)) (items_run id criticality run xs) (item_takes id criticality n (run x 0) (each x all.0 0)) (items_take In id criticality n run each xs all.1) in
-    λ at. grind (arith, whole at)
+setup_takes : (v : ErabToSetup) → IsErabToSetup v → Takes 16800 (run types.erab_to_setup v)
+unfolding types.erab_to_setup types.erab_id types.qos types.arp types.address
+setup_takes v right = more_takes (most_bits types.erab_to_setup) 16800 _ (omega arith) (takes (λ octets. Unit {0}) types.erab_to_setup setup_sound v (setup_fits (λ octets. Unit {0}) v right (no_string v.nas)))
 
-bearers_take : (xs : List ErabToSetup) → length xs ≤ 1 → AllByRecursion IsErabToSetup xs → Takes 17000 (erabs_run 52 0 erab_to_setup_run xs)
-unfolding erabs_run
-bearers_take xs few all =
-    let items = items_take IsErabToSetup 52 0 16800 erab_to_setup_run erab_to_setup_takes xs all in
-    let whole = then_takes 74 (length xs * (114 + 16800)) (number_run 1 255 (length xs)) (items_run 52 0 erab_to_setup_run xs) (number_takes 1 255 (length xs)) items in
-    λ at. omega (arith, whole at)
+done_takes : (v : ErabDone) → IsErabDone v → Takes 258 (run types.erab_done v)
+unfolding types.erab_done types.erab_id types.address
+done_takes v right = more_takes (most_bits types.erab_done) 258 _ (omega arith) (takes (λ octets. Unit {0}) types.erab_done done_sound v (done_fits (λ octets. Unit {0}) v right))
 
-done_take : (xs : List ErabDone) → length xs ≤ 40 → AllByRecursion IsErabDone xs → Takes 17000 (erabs_run 50 1 erab_done_run xs)
-unfolding erabs_run
-done_take xs few all =
-    let items = items_take IsErabDone 50 1 258 erab_done_run (λ x in_range. erab_done_takes x) xs all in
-    let whole = then_takes 74 (length xs * (114 + 258)) (number_run 1 255 (length xs)) (items_run 50 1 erab_done_run xs) (number_takes 1 255 (length xs)) items in
-    λ at. omega (arith, whole at)
+-- a list of items, each of at most n bits
+list_takes : {A : Type 0} (In : A → Type 0) (id criticality n : ℕ) (run : A → Run) → ((x : A) → In x → Takes n (run x)) → (xs : List A) → AllByRecursion In xs → Takes (74 + length xs * (114 + n)) (list_run 1 256 (λ x. item_run id criticality (run x 0)) xs)
+unfolding list_run
+list_takes In id criticality n run each xs all =
+    then_takes 74 (length xs * (114 + n)) (number_run 1 255 (length xs)) (each_run (λ x. item_run id criticality (run x 0)) xs) (number_takes 1 255 (length xs)) (each_takes In (114 + n) (λ x. item_run id criticality (run x 0)) (λ x in_range. item_takes id criticality n (run x 0) (each x in_range 0)) xs all)
 
-choice_takes : (n index : ℕ) → Takes (8 + (7 + n)) (choice_run n index)
-choice_takes n index = then_takes 8 (7 + n) (fixed_bits_run 1 0) (fixed_bits_run n index) (fixed_bits_takes 1 0) (fixed_bits_takes n index)
+bearers_take : (xs : List ErabToSetup) → length xs ≤ 1 → AllByRecursion IsErabToSetup xs → Takes 17000 (run types.erabs_to_setup xs)
+unfolding run types.erabs_to_setup
+bearers_take xs few all = let whole = list_takes IsErabToSetup 52 0 16800 (λ x. run types.erab_to_setup x) setup_takes xs all in λ at. omega (arith, whole at)
 
-ids_take : (ids : UeIds) → Takes 17000 (ue_ids_run ids)
-unfolding ue_ids_run
-ids_take (Pair mme enb) = more_takes 180 17000 _ (omega arith) (then_takes 16 164 (choice_run 1 0) _ (choice_takes 1 0) (then_takes 16 148 preamble_run _ preamble_takes (then_takes 74 74 (number_run 0 4294967295 mme) _ (number_takes 0 4294967295 mme) (number_takes 0 16777215 enb))))
-ids_take (Mme mme) = more_takes 90 17000 _ (omega arith) (then_takes 16 74 (choice_run 1 1) _ (choice_takes 1 1) (number_takes 0 4294967295 mme))
-
-algorithms_take : (bits : ℕ) → Takes 31 (algorithms_run bits)
-algorithms_take bits = then_takes 8 23 (fixed_bits_run 1 0) (fixed_bits_run 16 bits) (fixed_bits_takes 1 0) (fixed_bits_takes 16 bits)
+done_take : (xs : List ErabDone) → length xs ≤ 40 → AllByRecursion IsErabDone xs → Takes 17000 (run types.erabs_done xs)
+unfolding run types.erabs_done
+done_take xs few all = let whole = list_takes IsErabDone 50 1 258 (λ x. run types.erab_done x) done_takes xs all in λ at. omega (arith, whole at)
 
 value_takes : (v : FieldValue) → IsSmallValue v → Takes 17000 (value_run v)
-unfolding value_run cause_run bit_rates_run tai_run stmsi_run cgi_run sec_caps_run
+unfolding value_run
 value_takes (value.Mme mme) small = more_takes 74 17000 _ (omega arith) (number_takes 0 4294967295 mme)
-value_takes (value.Cause cause) small = more_takes 93 17000 _ (omega arith) (then_takes 18 75 (choice_run 3 cause.group) _ (choice_takes 3 cause.group) (enumerated_takes (cause_roots cause.group) true (cause_value cause)))
+value_takes (value.Cause cause) small = by_type types.cause (tt, λ group. (tt, omega arith)) (omega arith) cause small.0
 value_takes (value.Enb enb) small = more_takes 74 17000 _ (omega arith) (number_takes 0 16777215 enb)
 value_takes (value.Bearers bearers) small = bearers_take bearers small.1 small.0.2
 value_takes (value.Nas nas) small = λ at. omega (arith, octet_string_takes nas at, small.0)
 value_takes (value.Done done) small = done_take done small.1 small.0.2
-value_takes (value.Rates rates) small = more_takes 164 17000 _ (omega arith) (then_takes 16 148 preamble_run _ preamble_takes (then_takes 74 74 (number_run 0 10000000000 rates.dl) _ (number_takes 0 10000000000 rates.dl) (number_takes 0 10000000000 rates.ul)))
-value_takes (value.Tai tai) small = more_takes 70 17000 _ (omega arith) (then_takes 16 54 preamble_run _ preamble_takes (then_takes 31 23 (fixed_bits_run 24 tai.plmn) _ (fixed_bits_takes 24 tai.plmn) (fixed_bits_takes 16 tai.tac)))
+value_takes (value.Rates rates) small = by_type types.bit_rates (tt, tt) (omega arith) rates small.0
+value_takes (value.Tai tai) small = by_type types.tai (tt, tt) (omega arith) tai small.0
 value_takes (value.Key key) small = λ at. omega (arith, fixed_octets_takes key at, small.0)
 value_takes (value.Radio radio) small = λ at. omega (arith, octet_string_takes radio at, small.1)
-value_takes (value.Stmsi stmsi) small = more_takes 70 17000 _ (omega arith) (then_takes 16 54 preamble_run _ preamble_takes (then_takes 15 39 (fixed_bits_run 8 stmsi.mmec) _ (fixed_bits_takes 8 stmsi.mmec) (fixed_bits_takes 32 stmsi.tmsi)))
-value_takes (value.Ids ids) small = ids_take ids
-value_takes (value.Cgi cgi) small = more_takes 82 17000 _ (omega arith) (then_takes 16 66 preamble_run _ preamble_takes (then_takes 31 35 (fixed_bits_run 24 cgi.plmn) _ (fixed_bits_takes 24 cgi.plmn) (fixed_bits_takes 28 cgi.cell)))
-value_takes (value.Caps caps) small = more_takes 78 17000 _ (omega arith) (then_takes 16 62 preamble_run _ preamble_takes (then_takes 31 31 (algorithms_run caps.eea) _ (algorithms_take caps.eea) (algorithms_take caps.eia)))
+value_takes (value.Stmsi stmsi) small = by_type types.stmsi (tt, tt) (omega arith) stmsi small.0
+value_takes (value.Ids ids) small = by_type types.ue_ids ((tt, tt), tt) (omega arith) ids small.0
+value_takes (value.Cgi cgi) small = by_type types.cgi (tt, tt) (omega arith) cgi small.0
+value_takes (value.Caps caps) small = by_type types.sec_caps (tt, tt) (omega arith) caps small.0
 value_takes (value.Rrc rrc) small = more_takes 75 17000 _ (omega arith) (enumerated_takes 5 true rrc)
+
+-- ---- the message
 
 ie_takes : (row : IeRow) (v : Option FieldValue) → IfSome v IsSmallValue → Takes 17114 (ie_run row v)
 unfolding ie_run

@@ -3,22 +3,23 @@ use Rattle.std.proofs.Common.{◌≡◌, ℕ, ◌+◌, ◌-◌, ◌*◌, ◌^◌
 use Rattle.std.specs.List.{AllByRecursion}
 use Rattle.std.proofs.lemmas.List.{length-append}
 use Rattle.aper_fields.specs.Bits.{bits, bits_of, zeros}
-use Rattle.aper_fields.specs.Run.{Run, fixed_bits_run, number_run}
+use Rattle.aper_fields.specs.Run.{Run, fixed_bits_run, number_run, octet_string_run}
 use Rattle.aper_fields.specs.Spelling.{IsOctets}
 use Rattle.aper_fields.proofs.BitLaws.{bits_of-append}
 use Rattle.aper_fields.proofs.Periodic.{octet_string_periodic}
 use Rattle.s1ap_ies.specs.declared.erab_done.ErabDone.{ErabDone}
 use Rattle.s1ap_ies.specs.declared.erab_to_setup.ErabToSetup.{ErabToSetup}
-use Rattle.s1ap_ies.specs.Run.{IsErabDone, IsErabToSetup, IsNas, erab_id_run, address_run, qos_run, present_run, nas_run, erab_done_run, erab_to_setup_run, item_run}
-use Rattle.s1ap_messages.specs.Run.{items_run, erabs_run}
+use Rattle.s1ap_ies.specs.Run.{IsErabDone, IsErabToSetup, IsNas}
+use Rattle.s1ap_ies.specs.Asn1.{run, flags_run, fields_run, part_run, present_run, each_run, list_run, item_run}
+use Rattle.s1ap_ies.specs.Values as types
 use Rattle.s1ap_messages.specs.Usual.{count_octets, counted, four_octets, done_octets, nas_octets, setup_octets, ie_octets, items_octets, erabs_octets}
 use Rattle.s1ap_messages.proofs.UsualBits.{AreOctets, octets_then, octets_at_start, four_is, join, framed, Contains, contains_octets, item_is}
 use Rattle.s1ap_messages.proofs.UsualValues.{count_few, text_is}
 
 -- ---- E-RABs that were set up
 
-done_parts : (v : ErabDone) → erab_done_run v 0 ≡ bits 3 0 ++ (bits 4 (v.id - 0) ++ (zeros 1 ++ (bits 8 31 ++ (bits 32 v.address ++ bits 32 v.teid))))
-unfolding erab_done_run erab_id_run address_run fixed_bits_run number_run bits lib.Count.count_leading_zeros
+done_parts : (v : ErabDone) → run types.erab_done v 0 ≡ bits 3 0 ++ (bits 4 (v.id - 0) ++ (zeros 1 ++ (bits 8 31 ++ (bits 32 v.address ++ bits 32 v.teid))))
+unfolding run flags_run fields_run types.erab_done types.erab_id types.address fixed_bits_run number_run bits lib.Count.count_leading_zeros
 done_parts v = refl
 
 done_first : (id : ℕ) → id < 16 → bits 3 0 ++ (bits 4 id ++ zeros 1) ≡ bits 8 (2 * id)
@@ -26,21 +27,21 @@ done_first id small =
     let e : 0 * 2 ^ 5 + (id * 2 ^ 1 + 0) ≡ 2 * id = omega arith in
     framed 3 4 1 0 id (omega (arith, small)) ∙ ap (bits 8) e
 
-pub done_is : (v : ErabDone) → IsErabDone v → Contains (erab_done_run v 0) (done_octets v)
+pub done_is : (v : ErabDone) → IsErabDone v → Contains (run types.erab_done v 0) (done_octets v)
 unfolding bits_of done_octets
 done_is v right =
     let m : v.id - 0 ≡ v.id = omega arith in
-    contains_octets (erab_done_run v 0) (done_octets v) (omega arith) (rw (done_parts v, m, bits_of-append (four_octets v.address) (four_octets v.teid), four_is v.address, four_is v.teid, ← done_first v.id right.0) (simp append_assoc))
+    contains_octets (run types.erab_done v 0) (done_octets v) (omega arith) (rw (done_parts v, m, bits_of-append (four_octets v.address) (four_octets v.teid), four_is v.address, four_is v.teid, ← done_first v.id right.0) (simp append_assoc))
 
 -- ---- E-RABs that are to be set up
 
-nas_are : (nas : Option (List ℕ)) → IfSome nas IsNas → AreOctets (nas_run nas) (nas_octets nas)
-unfolding nas_run nas_octets bits_of
+nas_are : (nas : Option (List ℕ)) → IfSome nas IsNas → AreOctets (part_run octet_string_run nas) (nas_octets nas)
+unfolding nas_octets bits_of
 nas_are None right = λ k. refl
 nas_are (Some nas) right = octets_at_start _ _ (octet_string_periodic nas) (text_is nas (omega (arith, right)))
 
-setup_parts : (v : ErabToSetup) → erab_to_setup_run v 0 ≡ bits 1 0 ++ (bits 1 (cond (is_some v.nas) 1 0) ++ (bits 2 0 ++ (bits 4 (v.id - 0) ++ (bits 8 0 ++ (bits 8 (v.qci - 0) ++ (bits 2 0 ++ (bits 6 v.arp ++ (bits 8 15 ++ (bits 8 128 ++ (bits 32 v.address ++ (bits 32 v.teid ++ nas_run v.nas 112)))))))))))
-unfolding erab_to_setup_run erab_id_run present_run qos_run address_run fixed_bits_run number_run bits lib.Count.count_leading_zeros
+setup_parts : (v : ErabToSetup) → run types.erab_to_setup v 0 ≡ bits 1 0 ++ (bits 1 (cond (is_some v.nas) 1 0) ++ (bits 2 0 ++ (bits 4 (v.id - 0) ++ (bits 8 0 ++ (bits 8 (v.qci - 0) ++ (bits 2 0 ++ (bits 6 v.arp ++ (bits 8 15 ++ (bits 8 128 ++ (bits 32 v.address ++ (bits 32 v.teid ++ part_run octet_string_run v.nas 112)))))))))))
+unfolding run flags_run fields_run types.erab_to_setup types.erab_id types.qos types.arp types.address present_run fixed_bits_run number_run bits lib.Count.count_leading_zeros
 setup_parts v = refl
 
 setup_first : (b id : ℕ) → b ≤ 1 → id < 16 → bits 1 0 ++ (bits 1 b ++ (bits 2 0 ++ bits 4 id)) ≡ bits 8 (64 * b + id)
@@ -59,14 +60,14 @@ present_is : (nas : Option (List ℕ)) → (64 * cond (is_some nas) 1 0 ≡ cond
 present_is None = (refl, omega arith)
 present_is (Some nas) = (refl, omega arith)
 
-pub setup_is : (v : ErabToSetup) → IsErabToSetup v → Contains (erab_to_setup_run v 0) (setup_octets v)
+pub setup_is : (v : ErabToSetup) → IsErabToSetup v → Contains (run types.erab_to_setup v 0) (setup_octets v)
 unfolding bits_of setup_octets
 setup_is v right =
     let i : v.id - 0 ≡ v.id = omega arith in
     let q : v.qci - 0 ≡ v.qci = omega arith in
     let p = present_is v.nas in
-    let n : nas_run v.nas 112 ≡ bits_of (nas_octets v.nas) = nas_are v.nas right.5 14 in
-    contains_octets (erab_to_setup_run v 0) (setup_octets v) (omega arith)
+    let n : part_run octet_string_run v.nas 112 ≡ bits_of (nas_octets v.nas) = nas_are v.nas right.5 14 in
+    contains_octets (run types.erab_to_setup v 0) (setup_octets v) (omega arith)
     (rw (setup_parts v, i, q, n, ← p.0, bits_of-append (four_octets v.address) (four_octets v.teid ++ nas_octets v.nas), bits_of-append (four_octets v.teid) (nas_octets v.nas), four_is v.address, four_is v.teid, ← setup_first (cond (is_some v.nas) 1 0) v.id p.1 right.0, ← setup_arp v.arp right.2) (simp append_assoc))
 
 nas_few : (nas : Option (List ℕ)) → IfSome nas IsNas → length (nas_octets nas) ≤ 2050
@@ -88,34 +89,36 @@ done_few v = omega arith
 abbrev AreContained : {A : Type 0} → (A → Run) → (A → List ℕ) → List A → Type 0
 AreContained run octets xs = AllByRecursion (λ x. Contains (run x 0) (octets x) × (length (octets x) < 16384)) xs
 
-items_are : {A : Type 0} (id criticality : ℕ) (run : A → Run) (octets : A → List ℕ) (xs : List A) → id < 256 → AreContained run octets xs → AreOctets (items_run id criticality run xs) (items_octets id criticality octets xs)
-unfolding items_run items_octets bits_of
+items_are : {A : Type 0} (id criticality : ℕ) (run : A → Run) (octets : A → List ℕ) (xs : List A) → id < 256 → AreContained run octets xs → AreOctets (each_run (λ x. item_run id criticality (run x 0)) xs) (items_octets id criticality octets xs)
+unfolding each_run items_octets bits_of
 items_are id criticality run octets [] small all = λ k. refl
 items_are id criticality run octets (x ∷ xs) small all =
-    octets_then (item_run id criticality (run x 0)) (items_run id criticality run xs) (ie_octets id criticality (octets x)) (items_octets id criticality octets xs) (item_is id criticality (run x 0) (octets x) small all.0.0 all.0.1) (items_are id criticality run octets xs small all.1)
+    octets_then (item_run id criticality (run x 0)) (each_run (λ x. item_run id criticality (run x 0)) xs) (ie_octets id criticality (octets x)) (items_octets id criticality octets xs) (item_is id criticality (run x 0) (octets x) small all.0.0 all.0.1) (items_are id criticality run octets xs small all.1)
 
-erabs_parts : {A : Type 0} (id criticality : ℕ) (run : A → Run) (xs : List A) → erabs_run id criticality run xs 0 ≡ bits 8 (length xs - 1) ++ items_run id criticality run xs 8
-unfolding erabs_run number_run bits
+erabs_parts : {A : Type 0} (id criticality : ℕ) (run : A → Run) (xs : List A) → list_run 1 256 (λ x. item_run id criticality (run x 0)) xs 0 ≡ bits 8 (length xs - 1) ++ each_run (λ x. item_run id criticality (run x 0)) xs 8
+unfolding list_run number_run bits
 erabs_parts id criticality run xs = refl
 
-erabs_are : {A : Type 0} (id criticality : ℕ) (run : A → Run) (octets : A → List ℕ) (xs : List A) → id < 256 → AreContained run octets xs → Contains (erabs_run id criticality run xs 0) (erabs_octets id criticality octets xs)
+erabs_are : {A : Type 0} (id criticality : ℕ) (run : A → Run) (octets : A → List ℕ) (xs : List A) → id < 256 → AreContained run octets xs → Contains (list_run 1 256 (λ x. item_run id criticality (run x 0)) xs 0) (erabs_octets id criticality octets xs)
 unfolding bits_of erabs_octets
 erabs_are id criticality run octets xs small all =
     contains_octets _ ((length xs - 1) ∷ items_octets id criticality octets xs) (omega arith) (erabs_parts id criticality run xs ∙ ap (λ (y : List Bool). bits 8 (length xs - 1) ++ y) (items_are id criticality run octets xs small all 1))
 
-each_done : (xs : List ErabDone) → AllByRecursion IsErabDone xs → AreContained erab_done_run done_octets xs
+each_done : (xs : List ErabDone) → AllByRecursion IsErabDone xs → AreContained (run types.erab_done) done_octets xs
 each_done [] right = tt
 each_done (x ∷ xs) right = ((done_is x right.0, done_few x), each_done xs right.1)
 
-each_setup : (xs : List ErabToSetup) → AllByRecursion IsErabToSetup xs → AreContained erab_to_setup_run setup_octets xs
+each_setup : (xs : List ErabToSetup) → AllByRecursion IsErabToSetup xs → AreContained (run types.erab_to_setup) setup_octets xs
 each_setup [] right = tt
 each_setup (x ∷ xs) right = ((setup_is x right.0, setup_few x right.0), each_setup xs right.1)
 
-pub dones_are : (xs : List ErabDone) → AllByRecursion IsErabDone xs → Contains (erabs_run 50 1 erab_done_run xs 0) (erabs_octets 50 1 done_octets xs)
-dones_are xs right = erabs_are 50 1 erab_done_run done_octets xs (omega arith) (each_done xs right)
+pub dones_are : (xs : List ErabDone) → AllByRecursion IsErabDone xs → Contains (run types.erabs_done xs 0) (erabs_octets 50 1 done_octets xs)
+unfolding run types.erabs_done
+dones_are xs right = erabs_are 50 1 (run types.erab_done) done_octets xs (omega arith) (each_done xs right)
 
-pub setups_are : (xs : List ErabToSetup) → AllByRecursion IsErabToSetup xs → Contains (erabs_run 52 0 erab_to_setup_run xs 0) (erabs_octets 52 0 setup_octets xs)
-setups_are xs right = erabs_are 52 0 erab_to_setup_run setup_octets xs (omega arith) (each_setup xs right)
+pub setups_are : (xs : List ErabToSetup) → AllByRecursion IsErabToSetup xs → Contains (run types.erabs_to_setup xs 0) (erabs_octets 52 0 setup_octets xs)
+unfolding run types.erabs_to_setup
+setups_are xs right = erabs_are 52 0 (run types.erab_to_setup) setup_octets xs (omega arith) (each_setup xs right)
 
 -- ---- their strings are octets
 

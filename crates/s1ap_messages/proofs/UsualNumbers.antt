@@ -1,5 +1,5 @@
 -- The octets of numbers behind the count of their octets.
-use Rattle.std.proofs.Common.{◌≡◌, ℕ, ◌+◌, ◌-◌, ◌*◌, ◌/◌, ◌^◌, ◌<◌, ◌≤◌, List, ◌++◌, length, refl, sym, ap, ◌∙◌, inl, inr, append_assoc, arith}
+use Rattle.std.proofs.Common.{◌≡◌, ℕ, ◌+◌, ◌-◌, ◌*◌, ◌/◌, ◌^◌, ◌<◌, ◌≤◌, Bool, List, ◌++◌, length, refl, sym, ap, ◌∙◌, inl, inr, append_assoc, arith}
 use Rattle.std.proofs.lemmas.Bool.{cases_lt, lt-ltb, le-ltb}
 use Rattle.std.proofs.lemmas.List.{append-nil, length-append}
 use Rattle.aper_fields.specs.Bits.{bits, bits_of, zeros, gap}
@@ -11,7 +11,9 @@ use Rattle.aper_fields.proofs.Periodic.{IsPeriodic, then_periodic, fixed_bits_pe
 use Rattle.s1ap_ies.specs.declared.bit_rates.BitRates.{BitRates}
 use Rattle.s1ap_ies.specs.declared.ue_ids.UeIds.{UeIds}
 use Rattle.s1ap_ies.specs.declared.ue_ids.UeIds.TheVariants.{Pair, Mme}
-use Rattle.s1ap_ies.specs.Run.{IsBitRates, IsUeIds, preamble_run, choice_run, bit_rates_run, ue_ids_run}
+use Rattle.s1ap_ies.specs.Run.{IsBitRates, IsUeIds, choice_run}
+use Rattle.s1ap_ies.specs.Asn1.{run, flags_run, fields_run}
+use Rattle.s1ap_ies.specs.Values as types
 use Rattle.s1ap_messages.specs.Usual.{least_octets, number_octets, rates_octets, ids_octets}
 use Rattle.s1ap_messages.proofs.UsualBits.{octets_then, octets_at_start, octet, two, three, four, five, framed, Contains, contains_octets}
 
@@ -122,6 +124,10 @@ grouped f g h at =
     let e : at + length (f at ++ g next) ≡ next + length (g next) = omega (arith, length-append (f at) (g next)) in
     rw e (sym (append_assoc (f at) (g next) (h (next + length (g next)))))
 
+-- the bits before the fields of a SEQUENCE: no extension, no iE-Extensions
+abbrev preamble_run : Run
+preamble_run = fixed_bits_run 1 0 ▸ fixed_bits_run 1 0
+
 down_run : (n : ℕ) → (preamble_run ▸ number_run 0 10000000000 n) 0 ≡ bits 2 0 ++ counted_run 10000000000 (n - 0) 2
 unfolding fixed_bits_run number_run bits
 down_run n = refl
@@ -143,13 +149,13 @@ two_numbers : (front f g : Run) (a b : List ℕ) → IsPeriodic (front ▸ f) �
 two_numbers front f g a b p q first second =
     grouped front f g 0 ∙ octets_then (front ▸ f) g a b (octets_at_start (front ▸ f) a p first) (octets_at_start g b q second) 0
 
-pub rates_are : (v : BitRates) → IsBitRates v → Contains (bit_rates_run v 0) (rates_octets v)
-unfolding bit_rates_run rates_octets
+pub rates_are : (v : BitRates) → IsBitRates v → Contains (run types.bit_rates v 0) (rates_octets v)
+unfolding run flags_run fields_run rates_octets
 rates_are v right =
     let down : Run = number_run 0 10000000000 v.dl in
     let up : Run = number_run 0 10000000000 v.ul in
     contains_octets _ _ (omega (arith, length-append (number_octets 0 8 v.dl) (number_octets 0 32 v.ul), number_some 0 8 v.dl))
-    (two_numbers preamble_run down up (number_octets 0 8 v.dl) (number_octets 0 32 v.ul) (then_periodic preamble_run down preamble_periodic (number_periodic 0 10000000000 v.dl)) (number_periodic 0 10000000000 v.ul) (down_octets v.dl right.0) (rate_octets v.ul right.1))
+    (grouped (fixed_bits_run 1 0) (fixed_bits_run 1 0) (down ▸ up) 0 ∙ two_numbers preamble_run down up (number_octets 0 8 v.dl) (number_octets 0 32 v.ul) (then_periodic preamble_run down preamble_periodic (number_periodic 0 10000000000 v.dl)) (number_periodic 0 10000000000 v.ul) (down_octets v.dl right.0) (rate_octets v.ul right.1))
 
 -- ---- identities
 
@@ -182,11 +188,11 @@ single_octets n fits =
 choice_periodic : (n index : ℕ) → IsPeriodic (choice_run n index)
 choice_periodic n index = then_periodic _ _ (fixed_bits_periodic 1 0) (fixed_bits_periodic n index)
 
-pub ids_are : (v : UeIds) → IsUeIds v → Contains (ue_ids_run v 0) (ids_octets v)
-unfolding ue_ids_run ids_octets
+pub ids_are : (v : UeIds) → IsUeIds v → Contains (run types.ue_ids v 0) (ids_octets v)
+unfolding run flags_run fields_run ids_octets
 ids_are (Pair mme enb) right =
     let first : Run = number_run 0 4294967295 mme in
     let second : Run = number_run 0 16777215 enb in
     contains_octets _ _ (omega (arith, length-append (number_octets 0 4 mme) (number_octets 0 64 enb), number_some 0 4 mme))
-    (grouped (choice_run 1 0) preamble_run (first ▸ second) 0 ∙ two_numbers (choice_run 1 0 ▸ preamble_run) first second (number_octets 0 4 mme) (number_octets 0 64 enb) (then_periodic (choice_run 1 0 ▸ preamble_run) first (then_periodic (choice_run 1 0) preamble_run (choice_periodic 1 0) preamble_periodic) (number_periodic 0 4294967295 mme)) (number_periodic 0 16777215 enb) (pair_octets mme right.0) (enb_octets enb right.1))
-ids_are (Mme mme) right = contains_octets _ _ (number_some 64 16 mme) (single_octets mme right)
+    (ap (λ (l : List Bool). choice_run 1 0 0 ++ l) (grouped (fixed_bits_run 1 0) (fixed_bits_run 1 0) (first ▸ second) (0 + length (choice_run 1 0 0))) ∙ grouped (choice_run 1 0) preamble_run (first ▸ second) 0 ∙ two_numbers (choice_run 1 0 ▸ preamble_run) first second (number_octets 0 4 mme) (number_octets 0 64 enb) (then_periodic (choice_run 1 0 ▸ preamble_run) first (then_periodic (choice_run 1 0) preamble_run (choice_periodic 1 0) preamble_periodic) (number_periodic 0 4294967295 mme)) (number_periodic 0 16777215 enb) (pair_octets mme (omega (arith, right.0))) (enb_octets enb (omega (arith, right.1))))
+ids_are (Mme mme) right = contains_octets _ _ (number_some 64 16 mme) (single_octets mme (omega (arith, right)))

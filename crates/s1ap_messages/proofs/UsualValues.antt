@@ -12,7 +12,9 @@ use Rattle.s1ap_ies.specs.declared.cgi.Cgi.{Cgi}
 use Rattle.s1ap_ies.specs.declared.stmsi.Stmsi.{Stmsi}
 use Rattle.s1ap_ies.specs.declared.sec_caps.SecCaps.{SecCaps}
 use Rattle.s1ap_ies.specs.declared.cause.Cause.{Cause}
-use Rattle.s1ap_ies.specs.Run.{IsStmsi, IsSecCaps, IsCause, tai_run, cgi_run, stmsi_run, sec_caps_run, cause_run}
+use Rattle.s1ap_ies.specs.Run.{IsStmsi, IsSecCaps, IsCause}
+use Rattle.s1ap_ies.specs.Asn1.{run, flags_run, fields_run}
+use Rattle.s1ap_ies.specs.Values as types
 use Rattle.s1ap_messages.specs.Usual.{count_octets, counted, tai_octets, cgi_octets, stmsi_octets, caps_octets, rrc_octets, cause_octets}
 use Rattle.s1ap_messages.proofs.UsualBits.{octet, two, three, four, five, four_is, join, shifted, framed, counted_is, Contains, contains_octets}
 
@@ -43,16 +45,16 @@ key_is key = refl
 
 -- ---- areas, cells and identities
 
-tai_parts : (t : Tai) → tai_run t 0 ≡ bits 8 0 ++ (bits 24 t.plmn ++ bits 16 t.tac)
-unfolding tai_run fixed_bits_run bits
+tai_parts : (t : Tai) → run types.tai t 0 ≡ bits 8 0 ++ (bits 24 t.plmn ++ bits 16 t.tac)
+unfolding run flags_run fields_run fixed_bits_run bits
 tai_parts t = refl
 
-pub tai_is : (t : Tai) → Contains (tai_run t 0) (tai_octets t)
+pub tai_is : (t : Tai) → Contains (run types.tai t 0) (tai_octets t)
 unfolding bits_of tai_octets
-tai_is t = contains_octets (tai_run t 0) (tai_octets t) (omega arith) (rw (tai_parts t, octet (t.plmn / 256), octet t.plmn, octet t.tac, three t.plmn, two t.tac) (simp (append_assoc, append-nil)))
+tai_is t = contains_octets (run types.tai t 0) (tai_octets t) (omega arith) (rw (tai_parts t, octet (t.plmn / 256), octet t.plmn, octet t.tac, three t.plmn, two t.tac) (simp (append_assoc, append-nil)))
 
-cgi_parts : (t : Cgi) → content_of (cgi_run t 0) ≡ bits 8 0 ++ (bits 24 t.plmn ++ (bits 28 t.cell ++ zeros 4))
-unfolding cgi_run fixed_bits_run bits
+cgi_parts : (t : Cgi) → content_of (run types.cgi t 0) ≡ bits 8 0 ++ (bits 24 t.plmn ++ (bits 28 t.cell ++ zeros 4))
+unfolding run flags_run fields_run fixed_bits_run bits
 cgi_parts t = refl
 
 cell_octets : (cell : ℕ) → bits 28 cell ++ zeros 4 ≡ bits 8 (cell / 1048576) ++ (bits 8 (cell / 4096) ++ (bits 8 (cell / 16) ++ bits 8 (cell % 16 * 16)))
@@ -64,12 +66,12 @@ cell_octets cell =
     let d : v % 256 ≡ cell % 16 * 16 = omega arith in
     shifted 28 4 cell ∙ four v ∙ rw (a, b, c, ← octet v, d) refl
 
-pub cgi_is : (t : Cgi) → Contains (cgi_run t 0) (cgi_octets t)
+pub cgi_is : (t : Cgi) → Contains (run types.cgi t 0) (cgi_octets t)
 unfolding bits_of cgi_octets
 cgi_is t = (rw (cgi_parts t, octet (t.plmn / 256), octet t.plmn, octet (t.cell / 4096), octet (t.cell / 16), three t.plmn, cell_octets t.cell) (simp (append_assoc, append-nil)), omega arith)
 
-stmsi_parts : (v : Stmsi) → stmsi_run v 0 ≡ bits 2 0 ++ (bits 8 v.mmec ++ (zeros 6 ++ bits 32 v.tmsi))
-unfolding stmsi_run fixed_bits_run bits
+stmsi_parts : (v : Stmsi) → run types.stmsi v 0 ≡ bits 2 0 ++ (bits 8 v.mmec ++ (zeros 6 ++ bits 32 v.tmsi))
+unfolding run flags_run fields_run fixed_bits_run bits
 stmsi_parts v = refl
 
 code_octets : (n : ℕ) → n < 256 → bits 2 0 ++ (bits 8 n ++ zeros 6) ≡ bits 8 (n / 4) ++ bits 8 (n % 4 * 64)
@@ -79,14 +81,14 @@ code_octets n small =
     let b : v % 256 ≡ n % 4 * 64 = omega arith in
     ap (λ (x : List Bool). bits 2 0 ++ x) (shifted 8 6 n) ∙ join 2 14 0 (n * 2 ^ 6 + 0) (omega (arith, small)) ∙ two v ∙ rw (a, ← octet v, b) refl
 
-pub stmsi_is : (v : Stmsi) → IsStmsi v → Contains (stmsi_run v 0) (stmsi_octets v)
+pub stmsi_is : (v : Stmsi) → IsStmsi v → Contains (run types.stmsi v 0) (stmsi_octets v)
 unfolding bits_of stmsi_octets
-stmsi_is v right = contains_octets (stmsi_run v 0) (stmsi_octets v) (omega arith) (rw (stmsi_parts v, four_is v.tmsi, ← append_assoc (bits 8 (v.mmec / 4)) (bits 8 (v.mmec % 4 * 64)) (bits 32 v.tmsi), ← code_octets v.mmec right.0) (simp append_assoc))
+stmsi_is v right = contains_octets (run types.stmsi v 0) (stmsi_octets v) (omega arith) (rw (stmsi_parts v, four_is v.tmsi, ← append_assoc (bits 8 (v.mmec / 4)) (bits 8 (v.mmec % 4 * 64)) (bits 32 v.tmsi), ← code_octets v.mmec right.0) (simp append_assoc))
 
 -- ---- security capabilities
 
-caps_parts : (v : SecCaps) → content_of (sec_caps_run v 0) ≡ bits 3 0 ++ (bits 16 v.eea ++ (bits 1 0 ++ (bits 16 v.eia ++ zeros 4)))
-unfolding sec_caps_run fixed_bits_run bits
+caps_parts : (v : SecCaps) → content_of (run types.sec_caps v 0) ≡ bits 3 0 ++ (bits 16 v.eea ++ (bits 1 0 ++ (bits 16 v.eia ++ zeros 4)))
+unfolding run flags_run fields_run fixed_bits_run bits
 caps_parts v = refl
 
 caps_number : (e i : ℕ) → e < 65536 → i < 65536 → bits 3 0 ++ (bits 16 e ++ (bits 1 0 ++ (bits 16 i ++ zeros 4))) ≡ bits 40 (e * 2097152 + i * 16)
@@ -96,7 +98,7 @@ caps_number e i small few =
     let same : 0 * 2 ^ 37 + all ≡ e * 2097152 + i * 16 = omega arith in
     rw (shifted 16 4 i, join 1 20 0 (i * 2 ^ 4 + 0) (omega (arith, few)), join 16 21 e low (omega (arith, few)), join 3 37 0 all (omega (arith, small, few)), same) refl
 
-pub caps_are : (v : SecCaps) → IsSecCaps v → Contains (sec_caps_run v 0) (caps_octets v)
+pub caps_are : (v : SecCaps) → IsSecCaps v → Contains (run types.sec_caps v 0) (caps_octets v)
 unfolding bits_of caps_octets
 caps_are v right =
     let n = v.eea * 2097152 + v.eia * 16 in
@@ -133,49 +135,49 @@ rrc_is v right =
     ]
 
 -- behind an extension mark
-cause_more : (v : Cause) → v.extended ≡ true → content_of (cause_run v 0) ≡ bits 1 0 ++ (bits 3 v.group ++ (bits 2 2 ++ (bits 6 v.index ++ zeros 4)))
-unfolding cause_run enumerated_run fixed_bits_run bits
+cause_more : (v : Cause) → v.extended ≡ true → content_of (run types.cause v 0) ≡ bits 1 0 ++ (bits 3 v.group ++ (bits 2 2 ++ (bits 6 v.index ++ zeros 4)))
+unfolding run flags_run fields_run enumerated_run fixed_bits_run bits
 cause_more v more = rw more refl
 
 -- the roots of the five groups
-cause_radio : (v : Cause) → v.group ≡ 0 → v.extended ≡ false → content_of (cause_run v 0) ≡ bits 5 0 ++ (bits 6 (v.index - 0) ++ zeros 5)
-unfolding cause_run enumerated_run fixed_bits_run number_run bits cause_roots lib.Count.count_leading_zeros
+cause_radio : (v : Cause) → v.group ≡ 0 → v.extended ≡ false → content_of (run types.cause v 0) ≡ bits 5 0 ++ (bits 6 (v.index - 0) ++ zeros 5)
+unfolding run flags_run fields_run enumerated_run fixed_bits_run number_run bits cause_roots lib.Count.count_leading_zeros
 cause_radio v group root = rw (group, root) refl
 
-cause_transport : (v : Cause) → v.group ≡ 1 → v.extended ≡ false → content_of (cause_run v 0) ≡ bits 5 2 ++ (bits 1 (v.index - 0) ++ zeros 2)
-unfolding cause_run enumerated_run fixed_bits_run number_run bits cause_roots lib.Count.count_leading_zeros
+cause_transport : (v : Cause) → v.group ≡ 1 → v.extended ≡ false → content_of (run types.cause v 0) ≡ bits 5 2 ++ (bits 1 (v.index - 0) ++ zeros 2)
+unfolding run flags_run fields_run enumerated_run fixed_bits_run number_run bits cause_roots lib.Count.count_leading_zeros
 cause_transport v group root = rw (group, root) refl
 
-cause_nas : (v : Cause) → v.group ≡ 2 → v.extended ≡ false → content_of (cause_run v 0) ≡ bits 5 4 ++ (bits 2 (v.index - 0) ++ zeros 1)
-unfolding cause_run enumerated_run fixed_bits_run number_run bits cause_roots lib.Count.count_leading_zeros
+cause_nas : (v : Cause) → v.group ≡ 2 → v.extended ≡ false → content_of (run types.cause v 0) ≡ bits 5 4 ++ (bits 2 (v.index - 0) ++ zeros 1)
+unfolding run flags_run fields_run enumerated_run fixed_bits_run number_run bits cause_roots lib.Count.count_leading_zeros
 cause_nas v group root = rw (group, root) refl
 
-cause_protocol : (v : Cause) → v.group ≡ 3 → v.extended ≡ false → content_of (cause_run v 0) ≡ bits 5 6 ++ (bits 3 (v.index - 0) ++ zeros 0)
-unfolding cause_run enumerated_run fixed_bits_run number_run bits cause_roots lib.Count.count_leading_zeros
+cause_protocol : (v : Cause) → v.group ≡ 3 → v.extended ≡ false → content_of (run types.cause v 0) ≡ bits 5 6 ++ (bits 3 (v.index - 0) ++ zeros 0)
+unfolding run flags_run fields_run enumerated_run fixed_bits_run number_run bits cause_roots lib.Count.count_leading_zeros
 cause_protocol v group root = rw (group, root) refl
 
-cause_other : (v : Cause) → v.group ≡ 4 → v.extended ≡ false → content_of (cause_run v 0) ≡ bits 5 8 ++ (bits 3 (v.index - 0) ++ zeros 0)
-unfolding cause_run enumerated_run fixed_bits_run number_run bits cause_roots lib.Count.count_leading_zeros
+cause_other : (v : Cause) → v.group ≡ 4 → v.extended ≡ false → content_of (run types.cause v 0) ≡ bits 5 8 ++ (bits 3 (v.index - 0) ++ zeros 0)
+unfolding run flags_run fields_run enumerated_run fixed_bits_run number_run bits cause_roots lib.Count.count_leading_zeros
 cause_other v group root = rw (group, root) refl
 
-one_octet : (v : Cause) (n : ℕ) → content_of (cause_run v 0) ≡ bits 8 n → cause_octets v ≡ n ∷ [] → Contains (cause_run v 0) (cause_octets v)
+one_octet : (v : Cause) (n : ℕ) → content_of (run types.cause v 0) ≡ bits 8 n → cause_octets v ≡ n ∷ [] → Contains (run types.cause v 0) (cause_octets v)
 unfolding bits_of
 one_octet v n e octets = rw octets (e ∙ sym (append-nil (bits 8 n)), omega arith)
 
-two_octets : (v : Cause) (n a b : ℕ) → content_of (cause_run v 0) ≡ bits 16 n → n / 256 ≡ a → n % 256 ≡ b → cause_octets v ≡ a ∷ b ∷ [] → Contains (cause_run v 0) (cause_octets v)
+two_octets : (v : Cause) (n a b : ℕ) → content_of (run types.cause v 0) ≡ bits 16 n → n / 256 ≡ a → n % 256 ≡ b → cause_octets v ≡ a ∷ b ∷ [] → Contains (run types.cause v 0) (cause_octets v)
 unfolding bits_of
 two_octets v n a b e high low octets = rw octets (e ∙ two n ∙ rw (← octet n, high, low) (simp append-nil), omega arith)
 
-more_is : (v : Cause) → v.extended ≡ true → v.group < 5 → v.index < 64 → Contains (cause_run v 0) (cause_octets v)
+more_is : (v : Cause) → v.extended ≡ true → v.group < 5 → v.index < 64 → Contains (run types.cause v 0) (cause_octets v)
 unfolding cause_octets
 more_is v more group few =
     let low = 2 * 2 ^ 10 + (v.index * 2 ^ 4 + 0) in
     let all = v.group * 2 ^ 12 + low in
     let n = 0 * 2 ^ 15 + all in
-    let run : content_of (cause_run v 0) ≡ bits 16 n = cause_more v more ∙ rw (framed 2 6 4 2 v.index (omega (arith, few)), join 3 12 v.group low (omega (arith, few)), join 1 15 0 all (omega (arith, few, group))) refl in
+    let run : content_of (run types.cause v 0) ≡ bits 16 n = cause_more v more ∙ rw (framed 2 6 4 2 v.index (omega (arith, few)), join 3 12 v.group low (omega (arith, few)), join 1 15 0 all (omega (arith, few, group))) refl in
     two_octets v n (16 * v.group + 8 + v.index / 16) (v.index % 16 * 16) run (omega (arith, few, group)) (omega (arith, few, group)) (rw more refl)
 
-root_is : (v : Cause) → v.extended ≡ false → v.group < 5 → v.index < cause_roots v.group → Contains (cause_run v 0) (cause_octets v)
+root_is : (v : Cause) → v.extended ≡ false → v.group < 5 → v.index < cause_roots v.group → Contains (run types.cause v 0) (cause_octets v)
 unfolding cause_octets cause_roots
 root_is v root group right =
     let m : v.index - 0 ≡ v.index = omega arith in
@@ -211,7 +213,7 @@ root_is v root group right =
           ]
     ]
 
-pub cause_is : (v : Cause) → IsCause v → Contains (cause_run v 0) (cause_octets v)
+pub cause_is : (v : Cause) → IsCause v → Contains (run types.cause v 0) (cause_octets v)
 cause_is v right =
     elim (cases_Bool v.extended) [
       | inl more ↦ let few = rw more at right.1 in more_is v more right.0 few.1

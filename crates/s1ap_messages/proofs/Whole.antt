@@ -14,21 +14,24 @@ use Rattle.s1ap_ies.specs.declared.tables.MessageKind.{MessageKind}
 use Rattle.s1ap_ies.specs.declared.tables.MessageKind.TheVariants as kind
 use Rattle.s1ap_ies.specs.Tables.{rows_of}
 use Rattle.s1ap_ies.specs.Grammar.{zero_bit_in}
-use Rattle.s1ap_ies.specs.Run.{IsSpelledBy, choice_run, item_run}
+use Rattle.s1ap_ies.specs.Run.{choice_run}
+use Rattle.s1ap_ies.specs.Asn1.{IsSpelledBy, item_run}
 use Rattle.s1ap_ies.proofs.Distinct.{ids_distinct}
 use Rattle.s1ap_ies.proofs.Spelled.{choice_spelled}
 use Rattle.s1ap_messages.specs.declared.pdu.Pdu.{Pdu}
 use Rattle.s1ap_messages.specs.declared.pdu.Pdu.TheVariants as pdus
-use Rattle.s1ap_messages.specs.Many.{InOrder}
+use Rattle.s1ap_ies.specs.Many.{InOrder}
 use Rattle.s1ap_messages.specs.Values.{FieldValue, value_in}
 use Rattle.s1ap_messages.specs.Messages.{header_of, kind_of, values_of}
 use Rattle.s1ap_messages.specs.Grammar.{Ie, Named, found, has_ie, or_other, kind_with, kind_among, header_in, ie_in, ies_in, pdu_in, Spells}
 use Rattle.s1ap_messages.specs.Run.{value_run, ie_run, fields_run, count_of, ies_run, header_run, pdu_run, written, IsRightField, HasOctetsIn, IsRight, HasOctets}
 use Rattle.s1ap_messages.proofs.Kept.{found-append}
 use Rattle.s1ap_messages.proofs.Frame.{pdu_some}
-use Rattle.s1ap_messages.proofs.Opens.{open_holds, closing_some}
-use Rattle.s1ap_messages.proofs.Runs.{value_periodic, value_some, item_periodic}
-use Rattle.s1ap_messages.proofs.Spelled.{criticality_spelled, value_spelled}
+use Rattle.s1ap_ies.proofs.Opens.{open_holds, closing_some}
+use Rattle.s1ap_messages.proofs.Runs.{value_periodic, value_some}
+use Rattle.s1ap_ies.proofs.Types.{item_periodic}
+use Rattle.s1ap_messages.proofs.Spelled.{value_spelled}
+use Rattle.s1ap_ies.proofs.Spelled.{criticality_spelled}
 use Rattle.s1ap_messages.proofs.Typed.{id_of}
 use Rattle.s1ap_messages.proofs.Writes.{values-length}
 
@@ -223,7 +226,7 @@ header_there kind = record {
       let third = number_run 0 255 header.code j in
       let k = j + length third in
       let last = fixed_bits_run 2 header.criticality k in
-      (header.outcome, first, second ++ (third ++ last), refl, (choice_spelled 3 2 header.outcome outcome (omega (arith, outcome))).everywhere at, (0, second, third ++ last, refl, (refl, (omega arith, refl)), (kind, third, last, refl, (header.code, ap (or_other header.code) (kind_back kind), ((omega arith, omega (arith, code)), refl)), (header.criticality, last, [], sym (append-nil last), criticality_spelled header.criticality k (leb-true _ _ b.1), (refl, refl)))));
+      (header.outcome, first, second ++ (third ++ last), refl, choice_spelled 3 2 header.outcome outcome (omega (arith, outcome)) at, (0, second, third ++ last, refl, (refl, (omega arith, refl)), (kind, third, last, refl, (header.code, ap (or_other header.code) (kind_back kind), ((omega arith, omega (arith, code)), refl)), (header.criticality, last, [], sym (append-nil last), criticality_spelled header.criticality k (leb-true _ _ b.1), (refl, refl)))));
 }
 
 pub written_ies : (p : Pdu) → List Ie

@@ -13,7 +13,8 @@ use Rattle.s1ap_ies.specs.declared.tables.MessageKind.{MessageKind}
 use Rattle.s1ap_ies.specs.Tables.{rows_of}
 use Rattle.s1ap_ies.specs.Grammar.{zero_bit_in, criticality_in, choice_in}
 use Rattle.s1ap_messages.specs.declared.pdu.Pdu.{Pdu}
-use Rattle.s1ap_messages.specs.Many.{many_in, inside, looked_up}
+use Rattle.s1ap_messages.specs.Many.{looked_up}
+use Rattle.s1ap_ies.specs.Many.{many_in, inside}
 use Rattle.s1ap_messages.specs.Values.{FieldValue, value_in}
 use Rattle.s1ap_messages.specs.Messages.{header_of, kinds, kind_of, values_of, is_downlink}
 

@@ -7,9 +7,12 @@ use Rattle.aper_fields.specs.Reading.{Input, Read, fixed_bits_at, number_at, oct
 use Rattle.s1ap_ies.specs.declared.tables.IeRow.{IeRow}
 use Rattle.s1ap_ies.specs.declared.tables.MessageKind.{MessageKind}
 use Rattle.s1ap_ies.specs.Tables.{rows_of}
-use Rattle.s1ap_ies.specs.Reading.{Reader, ◌>>=◌, done, skipping, passing_at, zero_bit_at, criticality_at, choice_at, tai_at, cgi_at, stmsi_at, bit_rates_at, sec_caps_at, cause_at, ue_ids_at, erab_done_at, erab_to_setup_at, item_at}
+use Rattle.s1ap_ies.specs.Reading.{Reader, ◌>>=◌, done, skipping, passing_at, zero_bit_at, criticality_at, choice_at}
+use Rattle.s1ap_ies.specs.Asn1.{reading, contained_item_at}
+use Rattle.s1ap_ies.specs.Values as types
 use Rattle.s1ap_messages.specs.declared.value.IeValue.TheVariants as value
-use Rattle.s1ap_messages.specs.Many.{many_at, inside_at, looked_up_at}
+use Rattle.s1ap_messages.specs.Many.{looked_up_at}
+use Rattle.s1ap_ies.specs.Many.{inside_at}
 use Rattle.s1ap_messages.specs.Values.{FieldValue}
 use Rattle.s1ap_messages.specs.Grammar.{kind_with, or_other}
 
@@ -18,20 +21,13 @@ use Rattle.s1ap_messages.specs.Grammar.{kind_with, or_other}
 abbrev pub mapped_at : {A B : Type 0} → (A → B) → Reader A → Reader B
 mapped_at f read = λ i. pieces.◌>>=◌ (read i) (λ x. Ok (f x.0, x.1))
 
--- an item of a list, with all of its open type
-unfoldable pub erab_at : {A : Type 0} → ℕ → Reader A → Reader A
-erab_at id read = item_at id >>= λ content. inside_at content read
-
-unfoldable pub erabs_at : {A : Type 0} → ℕ → Reader A → Reader (List A)
-erabs_at id read = number_at 1 255 >>= λ count. many_at (λ before. erab_at id read) count []
-
 -- a list whose items are passed over
 unfoldable pub skipped_at : Reader (Unit {0}) → ℕ → Reader (Unit {0})
 skipped_at f zero = done tt
 skipped_at f (suc n) = f >>= λ _. skipped_at f n
 
 unfoldable pub erabs_skipped_at : {A : Type 0} → ℕ → Reader A → Reader (Unit {0})
-erabs_skipped_at id read = number_at 1 255 >>= λ count. skipped_at (erab_at id (skipping read)) count
+erabs_skipped_at id read = number_at 1 255 >>= λ count. skipped_at (contained_item_at id (skipping read)) count
 
 -- the items of a list that was read
 abbrev pub listed : {A : Type 0} → Read (List A) → List A
@@ -41,19 +37,19 @@ listed (Err e) = []
 unfoldable pub value_at : ℕ → Reader FieldValue
 value_at id = λ i.
     if id == 0 then mapped_at value.Mme (number_at 0 4294967295) i
-    else (if id == 2 then mapped_at value.Cause cause_at i
+    else (if id == 2 then mapped_at value.Cause (reading types.cause) i
     else (if id == 8 then mapped_at value.Enb (number_at 0 16777215) i
-    else (if id == 24 then mapped_at value.Bearers (erabs_at 52 erab_to_setup_at) i
+    else (if id == 24 then mapped_at value.Bearers (reading types.erabs_to_setup) i
     else (if id == 26 then mapped_at value.Nas (octet_string_at 2048) i
-    else (if id == 51 then mapped_at value.Done (erabs_at 50 erab_done_at) i
-    else (if id == 66 then mapped_at value.Rates bit_rates_at i
-    else (if id == 67 then mapped_at value.Tai tai_at i
+    else (if id == 51 then mapped_at value.Done (reading types.erabs_done) i
+    else (if id == 66 then mapped_at value.Rates (reading types.bit_rates) i
+    else (if id == 67 then mapped_at value.Tai (reading types.tai) i
     else (if id == 73 then mapped_at value.Key (fixed_octets_at 32) i
     else (if id == 74 then mapped_at value.Radio (octet_string_at 16383) i
-    else (if id == 96 then mapped_at value.Stmsi stmsi_at i
-    else (if id == 99 then mapped_at value.Ids ue_ids_at i
-    else (if id == 100 then mapped_at value.Cgi cgi_at i
-    else (if id == 107 then mapped_at value.Caps sec_caps_at i
+    else (if id == 96 then mapped_at value.Stmsi (reading types.stmsi) i
+    else (if id == 99 then mapped_at value.Ids (reading types.ue_ids) i
+    else (if id == 100 then mapped_at value.Cgi (reading types.cgi) i
+    else (if id == 107 then mapped_at value.Caps (reading types.sec_caps) i
     else mapped_at value.Rrc (enumerated_at 5 true) i)))))))))))))
 
 -- ---- the header

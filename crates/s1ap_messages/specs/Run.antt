@@ -8,7 +8,10 @@ use Rattle.s1ap_ies.specs.declared.tables.IeRow.{IeRow}
 use Rattle.s1ap_ies.specs.declared.tables.MessageKind.{MessageKind}
 use Rattle.s1ap_ies.specs.declared.erab_to_setup.ErabToSetup.{ErabToSetup}
 use Rattle.s1ap_ies.specs.Tables.{rows_of}
-use Rattle.s1ap_ies.specs.Run.{IsTai, IsCgi, IsStmsi, IsBitRates, IsSecCaps, IsCause, IsUeIds, IsErabDone, IsErabToSetup, IsNas, tai_run, cgi_run, stmsi_run, bit_rates_run, sec_caps_run, cause_run, ue_ids_run, erab_done_run, erab_to_setup_run, choice_run, item_run}
+use Rattle.s1ap_ies.specs.Run.{IsTai, IsCgi, IsStmsi, IsBitRates, IsSecCaps, IsCause, IsUeIds, IsErabDone, IsErabToSetup, IsNas, choice_run}
+use Rattle.s1ap_ies.specs.Asn1.{item_run}
+use Rattle.s1ap_ies.specs.Asn1.{run}
+use Rattle.s1ap_ies.specs.Values as types
 use Rattle.s1ap_messages.specs.declared.header.Header.{Header}
 use Rattle.s1ap_messages.specs.declared.pdu.Pdu.{Pdu}
 use Rattle.s1ap_messages.specs.declared.value.IeValue.TheVariants as value
@@ -17,29 +20,21 @@ use Rattle.s1ap_messages.specs.Messages.{header_of, kind_of, values_of}
 
 -- ---- values
 
--- the items of a list, each with the id and the criticality of its list
-unfoldable pub items_run : {A : Type 0} → ℕ → ℕ → (A → Run) → List A → Run
-items_run id criticality run [] = nothing_run
-items_run id criticality run (x ∷ xs) = item_run id criticality (run x 0) ▸ items_run id criticality run xs
-
-unfoldable pub erabs_run : {A : Type 0} → ℕ → ℕ → (A → Run) → List A → Run
-erabs_run id criticality run xs = number_run 1 255 (length xs) ▸ items_run id criticality run xs
-
 unfoldable pub value_run : FieldValue → Run
 value_run (value.Mme mme) = number_run 0 4294967295 mme
-value_run (value.Cause cause) = cause_run cause
+value_run (value.Cause cause) = run types.cause cause
 value_run (value.Enb enb) = number_run 0 16777215 enb
-value_run (value.Bearers bearers) = erabs_run 52 0 erab_to_setup_run bearers
+value_run (value.Bearers bearers) = run types.erabs_to_setup bearers
 value_run (value.Nas nas) = octet_string_run nas
-value_run (value.Done done) = erabs_run 50 1 erab_done_run done
-value_run (value.Rates rates) = bit_rates_run rates
-value_run (value.Tai tai) = tai_run tai
+value_run (value.Done done) = run types.erabs_done done
+value_run (value.Rates rates) = run types.bit_rates rates
+value_run (value.Tai tai) = run types.tai tai
 value_run (value.Key key) = fixed_octets_run key
 value_run (value.Radio radio) = octet_string_run radio
-value_run (value.Stmsi stmsi) = stmsi_run stmsi
-value_run (value.Ids ids) = ue_ids_run ids
-value_run (value.Cgi cgi) = cgi_run cgi
-value_run (value.Caps caps) = sec_caps_run caps
+value_run (value.Stmsi stmsi) = run types.stmsi stmsi
+value_run (value.Ids ids) = run types.ue_ids ids
+value_run (value.Cgi cgi) = run types.cgi cgi
+value_run (value.Caps caps) = run types.sec_caps caps
 value_run (value.Rrc rrc) = enumerated_run 5 true rrc
 
 -- an open type has at most 16,383 octets

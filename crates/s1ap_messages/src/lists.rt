@@ -1,55 +1,48 @@
 //! Lists of E-RABs.
 
-ghost use Rattle.std.specs.Prelude.{◌≡◌, ◌≤◌, [], length, IfOk, OnOk};
+ghost use Rattle.std.specs.Prelude.{◌≡◌, ◌≤◌, [], IfOk, OnOk};
 ghost use Rattle.std.specs.List.{AllByRecursion};
-ghost use Rattle.aper_fields.specs.Reading.{Input, Read, Gives};
-ghost use Rattle.aper_fields.specs.Run.{Run, then_written};
-ghost use Rattle.s1ap_ies.specs.Run.{IsErabToSetup, IsErabDone, erab_to_setup_run, erab_done_run, item_run};
+ghost use Rattle.aper_fields.specs.Reading.{Gives};
+ghost use Rattle.aper_fields.specs.Run.{then_written};
+ghost use Rattle.s1ap_ies.specs.Asn1.{AsnType, reading, run, contained_item_at, list_at, each_run, list_run, item_run, CanBeWritten, IsItem};
+ghost use Rattle.s1ap_ies.specs.Many.{many_at};
 ghost use Rattle.s1ap_ies.specs.Memory.{GivesIn};
-ghost use Rattle.s1ap_ies.specs.Reading.{skipping, erab_to_setup_at, erab_done_at};
-ghost use Rattle.s1ap_messages.specs.Many.{many_at};
-ghost use Rattle.s1ap_messages.specs.Reading.{erab_at, erabs_at, skipped_at, erabs_skipped_at};
-ghost use Rattle.s1ap_messages.specs.Run.{items_run, erabs_run, AreSome};
+ghost use Rattle.s1ap_ies.specs.Reading.{skipping};
+ghost use Rattle.s1ap_ies.specs.Run.{IsErabToSetup, IsErabDone};
+ghost use Rattle.s1ap_ies.specs.Values.{erabs_to_setup, erabs_done};
+ghost use Rattle.s1ap_messages.specs.Reading.{skipped_at, erabs_skipped_at};
+ghost use Rattle.s1ap_messages.specs.Run.{AreSome};
 
 use aper_fields::{BitReader, BitWriter, Ranged, close};
 use device_types::ListOf;
 use echo_base::{Bad, OutOfMemory, Refusal};
-use s1ap_ies::{ErabDone, ErabToSetup, read_item, write_item};
+use s1ap_ies::{ErabDone, ErabToSetup, OwnedValue, names, read_item, write_item};
 use std::alloc::Global;
 use std::marker::{Model, PhantomData};
 
-/// An E-RAB that stands in a list (TS 36.413, 9.1.4.1 and 9.1.4.3).
+/// An E-RAB that stands in a list (TS 36.413, 9.1.4.1 and 9.1.4.3): a value, in a trait of which these two alone are.
 pub trait Erab: Drop {
-    /// How it is read from left to right.
-    ghost reading: { Input → Read Self };
-
-    /// The run with which it is written.
-    ghost run: { Self → Run };
-
-    /// What its fields have to be.
-    ghost right: { Self → Type 0 };
+    /// What it is made of.
+    ghost asn1: { AsnType Self };
 
     /// Passes over it, and takes no memory.
     fn skip_erab(r: &mut BitReader) -> Result<(), Refusal>
-        ensures { Gives result r.old r.new (skipping reading r.old) };
+        ensures { Gives result r.old r.new (skipping (reading asn1) r.old) };
 
     /// Reads it.
     fn read_erab(alloc: Global, r: &mut BitReader) -> Result<Self, Bad>
-        ensures { GivesIn result r.old r.new (reading r.old) };
+        ensures { GivesIn result r.old r.new (reading asn1 r.old) };
 
     /// Writes it.
     fn write_erab(&self, w: &mut BitWriter) -> Result<(), OutOfMemory>
-        requires { right self.now }
-        ensures ok { OnOk result (w.new ≡ then_written w.old (run self.now)) }
-        ensures short { OnOk result (w.old ≡ [] → length w.new ≤ 17000) };
+        requires { CanBeWritten asn1 self.now }
+        ensures { OnOk result (w.new ≡ then_written w.old (run asn1 self.now)) };
 }
 
 impl Erab for ErabToSetup {
-    ghost reading = { erab_to_setup_at };
+    ghost use Rattle.s1ap_ies.specs.Values.{erab_to_setup};
 
-    ghost run = { erab_to_setup_run };
-
-    ghost right = { IsErabToSetup };
+    ghost asn1 = { erab_to_setup };
 
     fn skip_erab(r: &mut BitReader) -> Result<(), Refusal> {
         ErabToSetup::skip(r)
@@ -65,19 +58,16 @@ impl Erab for ErabToSetup {
 }
 
 impl Erab for ErabDone {
-    ghost reading = { erab_done_at };
+    ghost use Rattle.s1ap_ies.specs.Values.{erab_done};
 
-    ghost run = { erab_done_run };
-
-    ghost right = { IsErabDone };
+    ghost asn1 = { erab_done };
 
     fn skip_erab(r: &mut BitReader) -> Result<(), Refusal> {
-        ErabDone::read(r)?;
-        Ok(())
+        ErabDone::skip(r)
     }
 
-    fn read_erab(_alloc: Global, r: &mut BitReader) -> Result<ErabDone, Bad> {
-        Ok(ErabDone::read(r)?)
+    fn read_erab(alloc: Global, r: &mut BitReader) -> Result<ErabDone, Bad> {
+        ErabDone::read(alloc, r)
     }
 
     fn write_erab(&self, w: &mut BitWriter) -> Result<(), OutOfMemory> {
@@ -86,9 +76,9 @@ impl Erab for ErabDone {
 }
 
 /// Reads an item of a list, with all of its open type.
-#[tactic(auto, unfolding(crate::specs::Reading::erab_at, aper_fields::specs::Reading::whole_at))]
+#[tactic(auto, unfolding(s1ap_ies::specs::Asn1::contained_item_at, aper_fields::specs::Reading::whole_at))]
 fn read_one<T: Erab>(alloc: Global, r: &mut BitReader, id: u16) -> Result<T, Bad>
-    ensures { GivesIn result r.old r.new (erab_at id T.reading r.old) }
+    ensures { GivesIn result r.old r.new (contained_item_at id (reading T.asn1) r.old) }
 {
     let mut ahead = r.ahead();
     let mut content = read_item(&mut ahead, id)?;
@@ -100,14 +90,14 @@ fn read_one<T: Erab>(alloc: Global, r: &mut BitReader, id: u16) -> Result<T, Bad
 }
 
 /// Reads so many items of a list.
-#[tactic(auto, unfolding(crate::specs::Many::many_at))]
+#[tactic(auto, unfolding(s1ap_ies::specs::Many::many_at))]
 fn read_many<T: Erab>(
     alloc: Global,
     r: &mut BitReader,
     id: u16,
     count: u64,
 ) -> Result<ListOf<T>, Bad>
-    ensures { GivesIn result r.old r.new (many_at (λ before. erab_at id T.reading) count [] r.old) }
+    ensures { GivesIn result r.old r.new (many_at (λ before. contained_item_at id (reading T.asn1)) count [] r.old) }
 {
     let mut ahead = r.ahead();
     let mut erabs = ListOf::new(alloc);
@@ -122,9 +112,9 @@ fn read_many<T: Erab>(
 }
 
 /// Reads a list whose items have that id: how many items there are, 1 to 256, and the items.
-#[tactic(auto, unfolding(crate::specs::Reading::erabs_at))]
+#[tactic(auto, unfolding(s1ap_ies::specs::Asn1::list_at))]
 fn read_erabs<T: Erab>(alloc: Global, r: &mut BitReader, id: u16) -> Result<ListOf<T>, Bad>
-    ensures { GivesIn result r.old r.new (erabs_at id T.reading r.old) }
+    ensures { GivesIn result r.old r.new (list_at 1 256 (contained_item_at id (reading T.asn1)) r.old) }
 {
     let mut ahead = r.ahead();
     let count = Ranged::<1, 256>::read(&mut ahead)?;
@@ -134,9 +124,9 @@ fn read_erabs<T: Erab>(alloc: Global, r: &mut BitReader, id: u16) -> Result<List
 }
 
 /// Passes over an item of a list, with all of its open type.
-#[tactic(auto, unfolding(crate::specs::Reading::erab_at, aper_fields::specs::Reading::whole_at))]
+#[tactic(auto, unfolding(s1ap_ies::specs::Asn1::contained_item_at, aper_fields::specs::Reading::whole_at))]
 fn skip_one<T: Erab>(r: &mut BitReader, id: u16) -> Result<(), Refusal>
-    ensures { Gives result r.old r.new (erab_at id (skipping T.reading) r.old) }
+    ensures { Gives result r.old r.new (contained_item_at id (skipping (reading T.asn1)) r.old) }
 {
     let mut ahead = r.ahead();
     let mut content = read_item(&mut ahead, id)?;
@@ -150,7 +140,7 @@ fn skip_one<T: Erab>(r: &mut BitReader, id: u16) -> Result<(), Refusal>
 /// Passes over so many items of a list.
 #[tactic(auto, unfolding(crate::specs::Reading::skipped_at))]
 fn skip_many<T: Erab>(r: &mut BitReader, id: u16, count: u64) -> Result<(), Refusal>
-    ensures { Gives result r.old r.new (skipped_at (erab_at id (skipping T.reading)) count r.old) }
+    ensures { Gives result r.old r.new (skipped_at (contained_item_at id (skipping (reading T.asn1))) count r.old) }
 {
     let mut ahead = r.ahead();
     let mut left = count;
@@ -165,7 +155,7 @@ fn skip_many<T: Erab>(r: &mut BitReader, id: u16, count: u64) -> Result<(), Refu
 /// Passes over a list whose items have that id.
 #[tactic(auto, unfolding(crate::specs::Reading::erabs_skipped_at))]
 fn skip_erabs<T: Erab>(r: &mut BitReader, id: u16) -> Result<(), Refusal>
-    ensures { Gives result r.old r.new (erabs_skipped_at id T.reading r.old) }
+    ensures { Gives result r.old r.new (erabs_skipped_at id (reading T.asn1) r.old) }
 {
     let mut ahead = r.ahead();
     let count = Ranged::<1, 256>::read(&mut ahead)?;
@@ -184,13 +174,14 @@ pub struct FoundErabs<'a, T: Erab> {
 
 impl<'a, T: Erab> Model for FoundErabs<'a, T> {
     ghost use Rattle.std.specs.Prelude.{List, IsOk};
-    ghost use Rattle.s1ap_messages.specs.Reading.{erabs_at, listed};
+    ghost use Rattle.s1ap_ies.specs.Asn1.{reading, contained_item_at, list_at};
+    ghost use Rattle.s1ap_messages.specs.Reading.{listed};
 
     ghost Value = { List T };
 
-    ghost view = { λ found. listed (erabs_at found.id T.reading found.start) };
+    ghost view = { λ found. listed (list_at 1 256 (contained_item_at found.id (reading T.asn1)) found.start) };
 
-    ghost invariant = { λ found. IsOk (erabs_at found.id T.reading found.start) };
+    ghost invariant = { λ found. IsOk (list_at 1 256 (contained_item_at found.id (reading T.asn1)) found.start) };
 }
 
 impl<'a, T: Erab> FoundErabs<'a, T> {
@@ -207,8 +198,8 @@ impl<'a, T: Erab> FoundErabs<'a, T> {
 }
 
 /// Finds a list whose items have that id: how many items there are, 1 to 256, and the items, each of which has to be right.
-pub fn find_erabs<'a, T: Erab>(r: &mut BitReader<'a>, id: u16) -> Result<FoundErabs<'a, T>, Refusal>
-    ensures { Gives result r.old r.new (erabs_at id T.reading r.old) }
+fn find_erabs<'a, T: Erab>(r: &mut BitReader<'a>, id: u16) -> Result<FoundErabs<'a, T>, Refusal>
+    ensures { Gives result r.old r.new (list_at 1 256 (contained_item_at id (reading T.asn1)) r.old) }
 {
     let start = r.ahead();
     skip_erabs::<T>(r, id)?;
@@ -219,7 +210,26 @@ pub fn find_erabs<'a, T: Erab>(r: &mut BitReader<'a>, id: u16) -> Result<FoundEr
     })
 }
 
+/// Finds the E-RAB to Be Setup List of a request (TS 36.413, 9.1.4.1), each item of which has to be right.
+#[tactic(auto, unfolding(s1ap_ies::specs::Asn1::reading, s1ap_ies::specs::Values::erabs_to_setup))]
+pub fn find_erabs_to_setup<'a>(
+    r: &mut BitReader<'a>,
+) -> Result<FoundErabs<'a, ErabToSetup>, Refusal>
+    ensures { Gives result r.old r.new (reading erabs_to_setup r.old) }
+{
+    find_erabs(r, names::ERAB_TO_SETUP_ITEM)
+}
+
+/// Finds the E-RAB Setup List of a response (TS 36.413, 9.1.4.3), each item of which has to be right.
+#[tactic(auto, unfolding(s1ap_ies::specs::Asn1::reading, s1ap_ies::specs::Values::erabs_done))]
+pub fn find_erabs_done<'a>(r: &mut BitReader<'a>) -> Result<FoundErabs<'a, ErabDone>, Refusal>
+    ensures { Gives result r.old r.new (reading erabs_done r.old) }
+{
+    find_erabs(r, names::ERAB_SETUP_ITEM)
+}
+
 /// Writes an item of a list, with all of its open type.
+#[tactic(auto, using(crate::proofs::Writes::short_content))]
 fn write_one<T: Erab>(
     alloc: Global,
     w: &mut BitWriter,
@@ -228,8 +238,8 @@ fn write_one<T: Erab>(
     erab: &T,
 ) -> Result<(), OutOfMemory>
     requires criticality { criticality ≤ 2 }
-    requires right { T.right erab.now }
-    ensures { OnOk result (w.new ≡ then_written w.old (item_run id criticality (T.run erab.now 0))) }
+    requires right { IsItem T.asn1 erab.now }
+    ensures { OnOk result (w.new ≡ then_written w.old (item_run id criticality (run T.asn1 erab.now 0))) }
 {
     let mut body = BitWriter::new(alloc);
     erab.write_erab(&mut body)?;
@@ -237,7 +247,7 @@ fn write_one<T: Erab>(
 }
 
 /// Writes the items of a list.
-#[tactic(auto, unfolding(crate::specs::Run::items_run))]
+#[tactic(auto, unfolding(s1ap_ies::specs::Asn1::each_run))]
 fn write_items<T: Erab>(
     alloc: Global,
     w: &mut BitWriter,
@@ -246,8 +256,8 @@ fn write_items<T: Erab>(
     erabs: &[T],
 ) -> Result<(), OutOfMemory>
     requires criticality { criticality ≤ 2 }
-    requires right { AllByRecursion T.right erabs.now }
-    ensures { OnOk result (w.new ≡ then_written w.old (items_run id criticality T.run erabs.now)) }
+    requires right { AllByRecursion (λ a. IsItem T.asn1 a) erabs.now }
+    ensures { OnOk result (w.new ≡ then_written w.old (each_run (λ a. item_run id criticality (run T.asn1 a 0)) erabs.now)) }
 {
     let mut left = erabs;
     while let [erab, rest @ ..] = left {
@@ -258,8 +268,8 @@ fn write_items<T: Erab>(
 }
 
 /// Writes a list whose items have that id and criticality: how many items there are, 1 to 256, and the items.
-#[tactic(auto, unfolding(crate::specs::Run::erabs_run))]
-pub fn write_erabs<T: Erab>(
+#[tactic(auto, unfolding(s1ap_ies::specs::Asn1::list_run))]
+fn write_erabs<T: Erab>(
     alloc: Global,
     w: &mut BitWriter,
     id: u16,
@@ -267,9 +277,35 @@ pub fn write_erabs<T: Erab>(
     erabs: &[T],
 ) -> Result<(), OutOfMemory>
     requires criticality { criticality ≤ 2 }
-    requires right { AreSome T.right erabs.now }
-    ensures { OnOk result (w.new ≡ then_written w.old (erabs_run id criticality T.run erabs.now)) }
+    requires right { AreSome (λ a. IsItem T.asn1 a) erabs.now }
+    ensures { OnOk result (w.new ≡ then_written w.old (list_run 1 256 (λ a. item_run id criticality (run T.asn1 a 0)) erabs.now)) }
 {
     Ranged::<1, 256>::write(w, erabs.len() as u64)?;
     write_items(alloc, w, id, criticality, erabs)
+}
+
+/// Writes an E-RAB to Be Setup List.
+#[tactic(auto, unfolding(s1ap_ies::specs::Asn1::run, s1ap_ies::specs::Values::erabs_to_setup), using(s1ap_ies::proofs::Items::setup_items))]
+pub fn write_erabs_to_setup(
+    alloc: Global,
+    w: &mut BitWriter,
+    erabs: &[ErabToSetup],
+) -> Result<(), OutOfMemory>
+    requires { AreSome IsErabToSetup erabs.now }
+    ensures { OnOk result (w.new ≡ then_written w.old (run erabs_to_setup erabs.now)) }
+{
+    write_erabs(alloc, w, names::ERAB_TO_SETUP_ITEM, names::REJECT, erabs)
+}
+
+/// Writes an E-RAB Setup List.
+#[tactic(auto, unfolding(s1ap_ies::specs::Asn1::run, s1ap_ies::specs::Values::erabs_done), using(s1ap_ies::proofs::Items::done_items))]
+pub fn write_erabs_done(
+    alloc: Global,
+    w: &mut BitWriter,
+    erabs: &[ErabDone],
+) -> Result<(), OutOfMemory>
+    requires { AreSome IsErabDone erabs.now }
+    ensures { OnOk result (w.new ≡ then_written w.old (run erabs_done erabs.now)) }
+{
+    write_erabs(alloc, w, names::ERAB_SETUP_ITEM, names::IGNORE, erabs)
 }

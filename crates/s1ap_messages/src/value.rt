@@ -4,12 +4,15 @@ ghost use Rattle.std.specs.Prelude.{◌≡◌, IfOk};
 ghost use Rattle.aper_fields.specs.Reading.{Gives, octet_string_at, fixed_octets_at};
 ghost use Rattle.s1ap_messages.specs.Reading.{value_at};
 
-use crate::lists::{FoundErabs, find_erabs};
+use crate::lists::{FoundErabs, find_erabs_done, find_erabs_to_setup};
 use crate::pdu::{ErabsDone, ErabsToSetup};
 use aper_fields::{BitReader, EnumValue, Ranged, read_enum, read_octet_string, read_octets_fixed};
 use device_types::Octets;
 use echo_base::{OutOfMemory, Refusal};
-use s1ap_ies::{BitRates, Cause, Cgi, ErabDone, ErabToSetup, SecCaps, Stmsi, Tai, UeIds};
+use s1ap_ies::names::MOST_OCTETS_OF_NAS;
+use s1ap_ies::{
+    BitRates, Cause, Cgi, ErabDone, ErabToSetup, PlainValue, SecCaps, Stmsi, Tai, UeIds,
+};
 use std::alloc::Global;
 use std::marker::Model;
 
@@ -107,9 +110,9 @@ pub fn find_value<'a>(r: &mut BitReader<'a>, id: u16) -> Result<FoundValue<'a>, 
         0 => Ok(IeValue::Mme(Ranged::<0, 4294967295>::read(r)? as u32)),
         2 => Ok(IeValue::Cause(Cause::read(r)?)),
         8 => Ok(IeValue::Enb(Ranged::<0, 16777215>::read(r)? as u32)),
-        24 => Ok(IeValue::Bearers(find_erabs(r, 52)?)),
-        26 => Ok(IeValue::Nas(find_text(r, 2048)?)),
-        51 => Ok(IeValue::Done(find_erabs(r, 50)?)),
+        24 => Ok(IeValue::Bearers(find_erabs_to_setup(r)?)),
+        26 => Ok(IeValue::Nas(find_text(r, MOST_OCTETS_OF_NAS)?)),
+        51 => Ok(IeValue::Done(find_erabs_done(r)?)),
         66 => Ok(IeValue::Rates(BitRates::read(r)?)),
         67 => Ok(IeValue::Tai(Tai::read(r)?)),
         73 => Ok(IeValue::Key(find_key(r)?)),

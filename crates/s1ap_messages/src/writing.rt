@@ -9,7 +9,7 @@ ghost use Rattle.s1ap_messages.specs.Lent.{seen, all_seen};
 ghost use Rattle.s1ap_messages.specs.Run.{value_run, ie_run, fields_run, ies_run, written, IsRightValue, IsRightField, IsRight, count_of, HasCriticality};
 
 use crate::header::{header_of, write_header};
-use crate::lists::write_erabs;
+use crate::lists::{write_erabs_done, write_erabs_to_setup};
 use crate::pdu::Pdu;
 use crate::reading::rows;
 use crate::usual::write_usual;
@@ -20,7 +20,7 @@ use aper_fields::{
 };
 use device_types::Octets;
 use echo_base::OutOfMemory;
-use s1ap_ies::{IeRow, MessageKind, ies_of, write_item};
+use s1ap_ies::{IeRow, MessageKind, PlainValue, ies_of, write_item};
 use std::alloc::Global;
 
 /// Writes the value of an IE.
@@ -33,9 +33,9 @@ fn write_value(alloc: Global, w: &mut BitWriter, value: &LentValue) -> Result<()
         IeValue::Mme(mme) => Ranged::<0, 4294967295>::write(w, u64::from(*mme)),
         IeValue::Cause(cause) => cause.write(w),
         IeValue::Enb(enb) => Ranged::<0, 16777215>::write(w, u64::from(*enb)),
-        IeValue::Bearers(bearers) => write_erabs(alloc, w, 52, 0, bearers.items()),
+        IeValue::Bearers(bearers) => write_erabs_to_setup(alloc, w, bearers.items()),
         IeValue::Nas(nas) => write_octet_string(w, nas.items()),
-        IeValue::Done(done) => write_erabs(alloc, w, 50, 1, done.items()),
+        IeValue::Done(done) => write_erabs_done(alloc, w, done.items()),
         IeValue::Rates(rates) => rates.write(w),
         IeValue::Tai(tai) => tai.write(w),
         IeValue::Key(key) => write_octets_fixed(w, key.items()),

@@ -1,11 +1,11 @@
 use Rattle.std.proofs.Common.{◌≡◌, []}
-use Rattle.s1ap_messages.specs.Many.{many_at}
-use Rattle.s1ap_messages.specs.Reading.{erab_at}
+use Rattle.s1ap_ies.specs.Many.{many_at}
+use Rattle.s1ap_ies.specs.Asn1.{reading, contained_item_at}
 use Rattle.s1ap_messages.proofs.lists.read_many.Given as goal
 
 -- the items that are left, behind those that were read
 abbrev pub invariant-loop-left : goal.invariant-loop-left
-invariant-loop-left g l = many_at (λ before. erab_at l.id g.T.Erab.reading) l.left l.erabs l.ahead ≡ many_at (λ before. erab_at l.id g.T.Erab.reading) l.fn.count [] l.fn.r
+invariant-loop-left g l = many_at (λ before. contained_item_at l.id (reading g.T.Erab.asn1)) l.left l.erabs l.ahead ≡ many_at (λ before. contained_item_at l.id (reading g.T.Erab.asn1)) l.fn.count [] l.fn.r
 
 abbrev pub decreases-loop-left : goal.decreases-loop-left
 decreases-loop-left g l = l.left

@@ -1,11 +1,12 @@
 use Rattle.std.proofs.Common.{◌≡◌}
 use Rattle.s1ap_ies.specs.Reading.{skipping}
-use Rattle.s1ap_messages.specs.Reading.{erab_at, skipped_at}
+use Rattle.s1ap_ies.specs.Asn1.{reading, contained_item_at}
+use Rattle.s1ap_messages.specs.Reading.{skipped_at}
 use Rattle.s1ap_messages.proofs.lists.skip_many.Given as goal
 
 -- the items that are left, behind those that were passed over
 abbrev pub invariant-loop-left : goal.invariant-loop-left
-invariant-loop-left g l = skipped_at (erab_at l.id (skipping g.T.Erab.reading)) l.left l.ahead ≡ skipped_at (erab_at l.fn.id (skipping g.T.Erab.reading)) l.fn.count l.fn.r
+invariant-loop-left g l = skipped_at (contained_item_at l.id (skipping (reading g.T.Erab.asn1))) l.left l.ahead ≡ skipped_at (contained_item_at l.fn.id (skipping (reading g.T.Erab.asn1))) l.fn.count l.fn.r
 
 abbrev pub decreases-loop-left : goal.decreases-loop-left
 decreases-loop-left g l = l.left

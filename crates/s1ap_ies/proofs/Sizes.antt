@@ -1,0 +1,170 @@
+-- How many bits are written for a value: at least one, and at most so many.
+use Rattle.std.proofs.Common.{ℕ, ◌≡◌, ◌+◌, ◌-◌, ◌*◌, ◌^◌, ◌<◌, ◌≤◌, Bool, true, false, cond, List, [], ◌∷◌, length, eqb, ltb, refl, inl, inr, arith, Some, None, is_some}
+use Rattle.std.specs.List.{AllByRecursion}
+use Rattle.std.proofs.lemmas.List.{length-append}
+use Rattle.std.proofs.lemmas.Bool.{cases_lt, lt-ltb, le-ltb, ne_eqb, ltb-true, ltb-false}
+use Rattle.std.proofs.lemmas.Nat.{mul-le}
+use Rattle.aper_fields.specs.declared.enumerated.EnumValue.{EnumValue}
+use Rattle.aper_fields.specs.Bits.{bits, bits_of, zeros, gap}
+use Rattle.aper_fields.specs.Reading.{width}
+use Rattle.aper_fields.specs.Run.{Run, ◌▸◌, bits_run, padding_run, octet_count, length_octets, length_run, octet_string_run, enumerated_run, fixed_bits_run, number_run, nothing_run, open_run}
+use Rattle.aper_fields.proofs.BitLaws.{length-bits}
+use Rattle.aper_fields.proofs.Counts.{octet_count_more, octet_count_few}
+use Rattle.aper_fields.proofs.Widths.{width_some}
+use Rattle.aper_fields.proofs.Lengths.{Takes, then_takes, number_takes, fixed_bits_takes, octet_string_takes, enumerated_takes, open_takes}
+use Rattle.s1ap_ies.specs.Asn1.{AsnType, Fields, bit_string, integer, only, enumerated, octet_string, choice_index, extensible, on, choice, sequence, sequence_of, container, named, needed, optional, absent, also, run, fields_run, flags_run, each_run, list_run, item_run, present_run, index_run, Fits, FieldsFit, most_bits, most_flags, most_fields, takes_some, IsSound, AreSound}
+use Rattle.s1ap_ies.proofs.Types.{small_top}
+
+-- ---- at least a bit
+
+pub first_some : (f g : Run) (at : ℕ) → 0 < length (f at) → 0 < length ((f ▸ g) at)
+first_some f g at h = omega (arith, h, length-append (f at) (g (at + length (f at))))
+
+bit_some : 0 < length (fixed_bits_run 1 0 0)
+unfolding fixed_bits_run
+bit_some = omega (arith, length-bits 1 0)
+
+false_true : {Q : Type 0} → false ≡ true → Q
+false_true e = absurd cc
+
+-- a number above 65,536 values begins with the count of its octets
+counted_some : (top n : ℕ) → 255 < top → top < 2 ^ 64 → 0 < length (bits_run (width (octet_count top - 1)) n 0)
+counted_some top n large small =
+    let more : 1 < octet_count top = octet_count_more top large small in
+    let few : octet_count top ≤ 8 = octet_count_few top small in
+    omega (arith, width_some (octet_count top - 1) (omega arith) (omega arith), length-bits (width (octet_count top - 1)) n)
+
+octets_some : (b : Bool) (n : ℕ) → 0 < length ((padding_run ▸ bits_run (cond b 8 16) n) 0)
+octets_some true n = omega (arith, length-append (zeros (gap 0)) (bits 8 n), length-bits 8 n)
+octets_some false n = omega (arith, length-append (zeros (gap 0)) (bits 16 n), length-bits 16 n)
+
+chosen_some : (a b c : Bool) (f g h : Run) → a ≡ false → (b ≡ true → 0 < length (f 0)) → (c ≡ true → 0 < length (g 0)) → (c ≡ false → 0 < length (h 0)) → 0 < length ((cond a nothing_run (cond b f (cond c g h))) 0)
+chosen_some true b c f g h e p q r = absurd cc
+chosen_some false true c f g h e p q r = p refl
+chosen_some false false true f g h e p q r = q refl
+chosen_some false false false f g h e p q r = r refl
+
+number_some : (low top v : ℕ) → 0 < top → top < 2 ^ 64 → 0 < length (number_run low top v 0)
+unfolding number_run
+number_some low top v large small =
+    let n = v - low in
+    let octets : Run = padding_run ▸ bits_run (cond (eqb top 255) 8 16) n in
+    let first : Run = bits_run (width (octet_count top - 1)) (octet_count n - 1) in
+    let behind : Run = padding_run ▸ bits_run (8 * octet_count n) n in
+    chosen_some (eqb top 0) (ltb top 255) (ltb top 65536) (bits_run (width top) n) octets (first ▸ behind) (ne_eqb top 0 (λ z. absurd (omega (arith, z, large))))
+    (λ t. omega (arith, width_some top large small, length-bits (width top) n)) (λ t. octets_some (eqb top 255) n)
+    (λ t. first_some first behind 0 (counted_some top (octet_count n - 1) (omega (arith, ltb-false top 65536 t)) small))
+
+length_octets_some : (n : ℕ) → 0 < length (length_octets n)
+unfolding length_octets
+length_octets_some n =
+    elim (cases_lt n 128) [
+      | inl short ↦ rw (lt-ltb n 128 short) (omega arith)
+      | inr long ↦ rw (le-ltb n 128 long) (omega arith)
+    ]
+
+text_some : (text : List ℕ) → 0 < length (octet_string_run text 0)
+unfolding octet_string_run length_run
+text_some text = first_some (padding_run ▸ λ at. length_octets (length text)) (λ at. bits_of text) 0 (omega (arith, length_octets_some (length text), length-append (zeros (gap 0)) (length_octets (length text))))
+
+either_some : (b : Bool) (f g : Run) → 0 < length (f 0) → 0 < length (g 0) → 0 < length ((cond b f g) 0)
+either_some true f g p q = p
+either_some false f g p q = q
+
+marked_some : (roots : ℕ) (v : EnumValue) → 0 < length (enumerated_run roots true v 0)
+unfolding enumerated_run
+marked_some roots v =
+    let beyond : Run = bits_run 1 0 ▸ bits_run 6 v.index in
+    let within : Run = number_run 0 (roots - 1) v.index in
+    either_some v.extended (bits_run 1 1 ▸ beyond) (bits_run 1 0 ▸ within) (first_some (bits_run 1 1) beyond 0 (omega (arith, length-bits 1 1))) (first_some (bits_run 1 0) within 0 (omega (arith, length-bits 1 0)))
+
+index_some : (n index : ℕ) → 0 < length (index_run n index 0)
+index_some n index = first_some (fixed_bits_run 1 0) (fixed_bits_run n index) 0 bit_some
+
+pub some : {A : Type 0} (s : AsnType A) → takes_some s ≡ true → (v : A) → 0 < length (run s v 0)
+unfolding run list_run
+some (integer low high bounds) b v = number_some low (high - low) v (omega (arith, ltb-true _ _ b)) (small_top low high bounds)
+some (enumerated roots true few) b v = marked_some roots v
+some (enumerated roots false few) b v = false_true b
+some (octet_string most few) b v = text_some v
+some (sequence_of low high bounds p) b v = first_some (number_run low (high - low) (length v)) (each_run (λ a. run p a) v) 0 (number_some low (high - low) (length v) (omega (arith, ltb-true _ _ b)) (small_top low high bounds))
+some (sequence p) b v = first_some (fixed_bits_run 1 0) (flags_run p v (fixed_bits_run 1 0 ▸ fields_run p v)) 0 bit_some
+some (choice p q) b (inl a) = first_some (index_run 1 0) (run p a) 0 (index_some 1 0)
+some (choice p q) b (inr a) = first_some (index_run 1 1) (run q a) 0 (index_some 1 1)
+some (extensible reason p) b v = first_some (fixed_bits_run 1 0) (run p v) 0 bit_some
+some (on p most q) b v = first_some (run p v.0) (run (q v.0) v.1) 0 (some p b v.0)
+some (choice_index roots n enough) b v = index_some n v
+some (named same p) b v = some p b (same.parts v)
+some _ b v = false_true b
+
+-- ---- at most so many
+
+pub more_takes : (m n : ℕ) (f : Run) → m ≤ n → Takes m f → Takes n f
+more_takes m n f le t = λ at. omega (arith, t at)
+
+pub index_takes : (n index : ℕ) → Takes (8 + (7 + n)) (index_run n index)
+index_takes n index = then_takes 8 (7 + n) (fixed_bits_run 1 0) (fixed_bits_run n index) (fixed_bits_takes 1 0) (fixed_bits_takes n index)
+
+pub item_takes : (id criticality n : ℕ) (body : List Bool) → length body ≤ n → Takes (114 + n) (item_run id criticality body)
+unfolding item_run
+item_takes id criticality n body short =
+    let whole = then_takes 74 (9 + (31 + length body)) (number_run 0 65535 id) (fixed_bits_run 2 criticality ▸ open_run body) (number_takes 0 65535 id) (then_takes 9 (31 + length body) (fixed_bits_run 2 criticality) (open_run body) (fixed_bits_takes 2 criticality) (open_takes body)) in
+    λ at. omega (arith, whole at)
+
+pub each_takes : {A : Type 0} (In : A → Type 0) (n : ℕ) (f : A → Run) → ((x : A) → In x → Takes n (f x)) → (xs : List A) → AllByRecursion In xs → Takes (length xs * n) (each_run f xs)
+unfolding each_run
+each_takes In n f each [] all = λ at. omega arith
+each_takes In n f each (x ∷ xs) all =
+    let whole = then_takes n (length xs * n) (f x) (each_run f xs) (each x all.0) (each_takes In n f each xs all.1) in
+    λ at. grind (arith, whole at)
+
+present_takes : (b : Bool) → Takes 8 (present_run b)
+unfolding present_run
+present_takes b = fixed_bits_takes 1 _
+
+flags_takes : {P A : Type 0} (s : Fields P A) (v : A) (rest : Run) (n : ℕ) → Takes n rest → Takes (most_flags s + n) (flags_run s v rest)
+unfolding flags_run
+flags_takes (needed p) v rest n t = λ at. omega (arith, t at)
+flags_takes (optional p) v rest n t = then_takes 8 n (present_run (is_some v)) rest (present_takes (is_some v)) t
+flags_takes (absent reason) v rest n t = then_takes 8 n (fixed_bits_run 1 0) rest (fixed_bits_takes 1 0) t
+flags_takes (also p q) v rest n t =
+    let whole = flags_takes p v.0 (flags_run q v.1 rest) (most_flags q + n) (flags_takes q v.1 rest n t) in
+    λ at. omega (arith, whole at)
+
+mutual
+  unfolding run fields_run list_run
+
+  pub takes : {A : Type 0} (S : List ℕ → Type 0) (s : AsnType A) → IsSound s → (v : A) → Fits S s v → Takes (most_bits s) (run s v)
+  takes S (bit_string n) sound v fits = fixed_bits_takes n v
+  takes S (integer low high bounds) sound v fits = number_takes low (high - low) v
+  takes S (only reason low high value bounds) sound v fits = number_takes low (high - low) value
+  takes S (enumerated roots marked few) sound v fits = enumerated_takes roots marked v
+  takes S (octet_string most few) sound v fits = λ at. omega (arith, octet_string_takes v at, fits.0)
+  takes S (choice_index roots n enough) sound v fits = λ at. omega (arith, index_takes n v at)
+  takes S (extensible reason p) sound v fits = then_takes 8 (most_bits p) (fixed_bits_run 1 0) (run p v) (fixed_bits_takes 1 0) (takes S p sound v fits)
+  takes S (on p most q) sound v fits =
+      let whole = then_takes (most_bits p) (most_bits (q v.0)) (run p v.0) (run (q v.0) v.1) (takes S p sound.0 v.0 fits.0) (takes S (q v.0) (sound.1 v.0).0 v.1 fits.1) in
+      λ at. omega (arith, whole at, (sound.1 v.0).1)
+  takes S (choice p q) sound (inl a) fits =
+      let whole = then_takes 16 (most_bits p) (index_run 1 0) (run p a) (index_takes 1 0) (takes S p sound.0 a fits) in
+      λ at. omega (arith, whole at)
+  takes S (choice p q) sound (inr b) fits =
+      let whole = then_takes 16 (most_bits q) (index_run 1 1) (run q b) (index_takes 1 1) (takes S q sound.1 b fits) in
+      λ at. omega (arith, whole at)
+  takes S (sequence p) sound v fits =
+      let fields = then_takes 8 (most_fields p) (fixed_bits_run 1 0) (fields_run p v) (fixed_bits_takes 1 0) (fields_take S p sound v fits) in
+      let whole = then_takes 8 (most_flags p + (8 + most_fields p)) (fixed_bits_run 1 0) (flags_run p v (fixed_bits_run 1 0 ▸ fields_run p v)) (fixed_bits_takes 1 0) (flags_takes p v (fixed_bits_run 1 0 ▸ fields_run p v) (8 + most_fields p) fields) in
+      λ at. omega (arith, whole at)
+  takes S (sequence_of low high bounds p) sound v fits =
+      let each = each_takes (λ a. Fits S p a) (most_bits p) (λ a. run p a) (λ a f. takes S p sound a f) v fits.2 in
+      let whole = then_takes 74 (length v * most_bits p) (number_run low (high - low) (length v)) (each_run (λ a. run p a) v) (number_takes low (high - low) (length v)) each in
+      λ at. omega (arith, whole at, mul-le (length v) (most_bits p) high (most_bits p) fits.1 (omega arith))
+  takes S (container id criticality head p) sound v fits = item_takes id criticality (most_bits p) (run p v 0) (takes S p sound.2 v fits 0)
+  takes S (named same p) sound v fits = takes S p sound (same.parts v) fits
+
+  fields_take : {P A : Type 0} (S : List ℕ → Type 0) (s : Fields P A) → AreSound s → (v : A) → FieldsFit S s v → Takes (most_fields s) (fields_run s v)
+  fields_take S (needed p) sound v fits = takes S p sound v fits
+  fields_take S (optional p) sound (Some v) fits = takes S p sound v fits
+  fields_take S (optional p) sound None fits = λ at. omega arith
+  fields_take S (absent reason) sound v fits = λ at. omega arith
+  fields_take S (also p q) sound v fits = then_takes (most_fields p) (most_fields q) (fields_run p v.0) (fields_run q v.1) (fields_take S p sound.0 v.0 fits.0) (fields_take S q sound.1 v.1 fits.1)

@@ -1,0 +1,123 @@
+-- The values of IEs (TS 36.413, 9.2).
+use Rattle.std.specs.Prelude.{◌≡◌, ℕ, ◌==◌, nat_le, nat_lt, ◌^◌, ◌&&◌, Bool, true, false, if◌then◌else◌, refl, ◌⊎◌, List}
+use Rattle.std.proofs.Common.{inl, inr}
+use Rattle.echo_base.specs.declared.reason.Reason.TheVariants as reasons
+use Rattle.device_types.specs.Cause.{cause_roots}
+use Rattle.s1ap_ies.specs.Asn1.{AsnType, bit_string, integer, only, octet_string, enumerated, choice_index, extensible, on, choice, sequence, needed, optional, absent, also, named, container, sequence_of}
+use Rattle.s1ap_ies.specs.Names.{most_octets_of_nas, most_erabs, erab_to_setup_item, erab_setup_item, reject, ignore}
+use Rattle.s1ap_ies.specs.declared.tai.Tai.{Tai}
+use Rattle.s1ap_ies.specs.declared.cgi.Cgi.{Cgi}
+use Rattle.s1ap_ies.specs.declared.stmsi.Stmsi.{Stmsi}
+use Rattle.s1ap_ies.specs.declared.bit_rates.BitRates.{BitRates}
+use Rattle.s1ap_ies.specs.declared.sec_caps.SecCaps.{SecCaps}
+use Rattle.s1ap_ies.specs.declared.cause.Cause.{Cause}
+use Rattle.s1ap_ies.specs.declared.ue_ids.UeIds.{UeIds}
+use Rattle.s1ap_ies.specs.declared.ue_ids.UeIds.TheVariants.{Pair, Mme}
+use Rattle.s1ap_ies.specs.declared.bearer.Qos.{Qos}
+use Rattle.s1ap_ies.specs.declared.erab_done.ErabDone.{ErabDone}
+use Rattle.s1ap_ies.specs.declared.erab_to_setup.ErabToSetup.{ErabToSetup}
+
+-- TAI (9.2.3.16): PLMN identity of 3 octets, TAC of 2
+abbrev pub tai : AsnType Tai
+tai = named (record { make = λ v. record { plmn = v.0; tac = v.1 }; parts = λ v. (v.plmn, v.tac); back = λ v. refl; again = λ v. refl })
+    (sequence (also (needed (bit_string 24)) (needed (bit_string 16))))
+
+-- E-UTRAN CGI (9.2.1.38): PLMN identity of 3 octets, cell identity of 28 bits
+abbrev pub cgi : AsnType Cgi
+cgi = named (record { make = λ v. record { plmn = v.0; cell = v.1 }; parts = λ v. (v.plmn, v.cell); back = λ v. refl; again = λ v. refl })
+    (sequence (also (needed (bit_string 24)) (needed (bit_string 28))))
+
+-- S-TMSI (9.2.3.6): MME code of 1 octet, M-TMSI of 4
+abbrev pub stmsi : AsnType Stmsi
+stmsi = named (record { make = λ v. record { mmec = v.0; tmsi = v.1 }; parts = λ v. (v.mmec, v.tmsi); back = λ v. refl; again = λ v. refl })
+    (sequence (also (needed (bit_string 8)) (needed (bit_string 32))))
+
+-- UE Aggregate Maximum Bit Rate (9.2.1.20): downlink, then uplink, in bit/s
+abbrev pub bit_rates : AsnType BitRates
+bit_rates = named (record { make = λ v. record { dl = v.0; ul = v.1 }; parts = λ v. (v.dl, v.ul); back = λ v. refl; again = λ v. refl })
+    (sequence (also (needed (integer 0 10000000000 refl)) (needed (integer 0 10000000000 refl))))
+
+-- algorithms: BIT STRING (SIZE (16, ...))
+abbrev pub algorithms : AsnType ℕ
+algorithms = extensible reasons.OutOfRange (bit_string 16)
+
+-- UE Security Capabilities (9.2.1.40): encryption algorithms, then integrity protection algorithms
+abbrev pub sec_caps : AsnType SecCaps
+sec_caps = named (record { make = λ v. record { eea = v.0; eia = v.1 }; parts = λ v. (v.eea, v.eia); back = λ v. refl; again = λ v. refl })
+    (sequence (also (needed algorithms) (needed algorithms)))
+
+abbrev pub AreRoots : ℕ → Type 0
+AreRoots n = nat_le 1 n && nat_lt n (2 ^ 64) ≡ true
+
+pub either_roots : (b : Bool) (m n : ℕ) → AreRoots m → AreRoots n → AreRoots (if b then m else n)
+either_roots true m n p q = p
+either_roots false m n p q = q
+
+pub some_roots : (group : ℕ) → AreRoots (cause_roots group)
+unfolding cause_roots
+some_roots group = either_roots (group == 0) 36 _ refl (either_roots (group == 1) 2 _ refl (either_roots (group == 2) 4 _ refl (either_roots (group == 3) 7 6 refl refl)))
+
+-- Cause (9.2.1.3): a CHOICE of five groups, and the cause of the group
+abbrev pub cause : AsnType Cause
+cause = named (record { make = λ v. record { group = v.0; extended = v.1.extended; index = v.1.index }; parts = λ v. (v.group, record { extended = v.extended; index = v.index }); back = λ v. refl; again = λ v. refl })
+    (on (choice_index 5 3 refl) 75 (λ group. enumerated (cause_roots group) true (some_roots group)))
+
+abbrev pub ids_of : (ℕ × ℕ) ⊎ ℕ → UeIds
+ids_of (inl both) = Pair both.0 both.1
+ids_of (inr mme) = Mme mme
+
+abbrev pub parts_of : UeIds → (ℕ × ℕ) ⊎ ℕ
+parts_of (Pair mme enb) = inl (mme, enb)
+parts_of (Mme mme) = inr mme
+
+pub ids_back : (v : (ℕ × ℕ) ⊎ ℕ) → parts_of (ids_of v) ≡ v
+ids_back (inl both) = refl
+ids_back (inr mme) = refl
+
+pub ids_again : (v : UeIds) → ids_of (parts_of v) ≡ v
+ids_again (Pair mme enb) = refl
+ids_again (Mme mme) = refl
+
+-- UE S1AP IDs (9.2.3.18): a CHOICE of both identities, and that of the MME alone
+abbrev pub ue_ids : AsnType UeIds
+ue_ids = named (record { make = ids_of; parts = parts_of; back = ids_back; again = ids_again })
+    (choice (sequence (also (needed (integer 0 4294967295 refl)) (needed (integer 0 16777215 refl)))) (integer 0 4294967295 refl))
+
+-- E-RAB ID (9.2.1.2): INTEGER (0..15, ...)
+unfoldable pub erab_id : AsnType ℕ
+erab_id = extensible reasons.OutOfRange (integer 0 15 refl)
+
+-- Transport Layer Address (9.2.2.1): BIT STRING (SIZE (1..160, ...)), of which IPv4 addresses alone are taken
+unfoldable pub address : AsnType ℕ
+address = extensible reasons.OutOfRange (named (record { make = λ v. v.1; parts = λ v. (tt, v); back = λ v. refl; again = λ v. refl }) (on (only reasons.OutOfRange 1 160 32 refl) 39 (λ size. bit_string 32)))
+
+-- Allocation and Retention Priority (9.2.1.60): four bits of priority, one of capability, one of vulnerability
+unfoldable pub arp : AsnType ℕ
+arp = sequence (needed (bit_string 6))
+
+-- E-RAB Level QoS Parameters (9.2.1.15): QCI, and the priority; GBR QoS Information is optional, and not taken
+unfoldable pub qos : AsnType Qos
+qos = named (record { make = λ v. record { qci = v.0; arp = v.1.0 }; parts = λ v. (v.qci, (v.arp, tt)); back = λ v. refl; again = λ v. refl })
+    (sequence (also (needed (integer 0 255 refl)) (also (needed arp) (absent reasons.OutOfRange))))
+
+-- E-RAB Setup Item of a response (9.1.4.3): E-RAB ID, transport layer address, GTP-TEID of 4 octets
+unfoldable pub erab_done : AsnType ErabDone
+erab_done = named (record { make = λ v. record { id = v.0; address = v.1.0; teid = v.1.1 }; parts = λ v. (v.id, (v.address, v.teid)); back = λ v. refl; again = λ v. refl })
+    (sequence (also (needed erab_id) (also (needed address) (needed (bit_string 32)))))
+
+-- NAS-PDU (9.2.3.5)
+abbrev pub nas_pdu : AsnType (List ℕ)
+nas_pdu = octet_string most_octets_of_nas refl
+
+-- E-RAB to Be Setup Item of a request (9.1.4.1): the NAS-PDU is optional
+unfoldable pub erab_to_setup : AsnType ErabToSetup
+erab_to_setup = named (record { make = λ v. record { id = v.0; qci = v.1.0.qci; arp = v.1.0.arp; address = v.1.1.0; teid = v.1.1.1.0; nas = v.1.1.1.1 }; parts = λ v. (v.id, (record { qci = v.qci; arp = v.arp }, (v.address, (v.teid, v.nas)))); back = λ v. refl; again = λ v. refl })
+    (sequence (also (needed erab_id) (also (needed qos) (also (needed address) (also (needed (bit_string 32)) (optional nas_pdu))))))
+
+-- E-RAB to Be Setup List (9.1.4.1)
+unfoldable pub erabs_to_setup : AsnType (List ErabToSetup)
+erabs_to_setup = sequence_of 1 most_erabs refl (container erab_to_setup_item reject refl erab_to_setup)
+
+-- E-RAB Setup List (9.1.4.3)
+unfoldable pub erabs_done : AsnType (List ErabDone)
+erabs_done = sequence_of 1 most_erabs refl (container erab_setup_item ignore refl erab_done)

@@ -1,0 +1,61 @@
+//! Criticalities, ids and limits by name (3GPP TS 36.413, 9.3).
+
+/// The criticality reject.
+pub const REJECT: u8 = 0;
+
+/// The criticality ignore.
+pub const IGNORE: u8 = 1;
+
+/// The id of the IE MME UE S1AP ID (9.2.3.3).
+pub const MME_UE_S1AP_ID: u16 = 0;
+
+/// The id of the IE Cause (9.2.1.3).
+pub const CAUSE: u16 = 2;
+
+/// The id of the IE eNB UE S1AP ID (9.2.3.4).
+pub const ENB_UE_S1AP_ID: u16 = 8;
+
+/// The id of the IE E-RAB to Be Setup List (9.1.4.1).
+pub const ERABS_TO_SETUP: u16 = 24;
+
+/// The id of the IE NAS-PDU (9.2.3.5).
+pub const NAS_PDU: u16 = 26;
+
+/// The id of the IE E-RAB Setup List (9.1.4.3).
+pub const ERABS_DONE: u16 = 51;
+
+/// The id of the IE UE Aggregate Maximum Bit Rate (9.2.1.20).
+pub const BIT_RATES: u16 = 66;
+
+/// The id of the IE TAI (9.2.3.16).
+pub const TAI: u16 = 67;
+
+/// The id of the IE Security Key (9.2.1.41).
+pub const SECURITY_KEY: u16 = 73;
+
+/// The id of the IE UE Radio Capability (9.2.1.27).
+pub const RADIO_CAPABILITY: u16 = 74;
+
+/// The id of the IE S-TMSI (9.2.3.6).
+pub const STMSI: u16 = 96;
+
+/// The id of the IE UE S1AP IDs (9.2.3.18).
+pub const UE_IDS: u16 = 99;
+
+/// The id of the IE E-UTRAN CGI (9.2.1.38).
+pub const CGI: u16 = 100;
+
+/// The id of the IE UE Security Capabilities (9.2.1.40).
+pub const SEC_CAPS: u16 = 107;
+
+/// The id of the IE RRC Establishment Cause (9.2.1.3a).
+pub const RRC_CAUSE: u16 = 134;
+
+/// The id of an item of an E-RAB Setup List.
+pub const ERAB_SETUP_ITEM: u16 = 50;
+
+/// The id of an item of an E-RAB to Be Setup List.
+pub const ERAB_TO_SETUP_ITEM: u16 = 52;
+
+/// How many octets of a NAS-PDU are taken.
+pub const MOST_OCTETS_OF_NAS: usize = 2048;
