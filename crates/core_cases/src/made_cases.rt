@@ -25,7 +25,10 @@ fn run(
     for word in words.split(' ') {
         all.push(String::from_str(alloc, word)?)?;
     }
-    let mut input = MemSource::new(Vec::from_slice(alloc, text)?, Vec::from_slice(alloc, reads)?);
+    let mut input = MemSource::new(
+        Vec::from_slice(alloc, text)?,
+        Vec::from_slice(alloc, reads)?,
+    );
     let mut out = MemSink::new(alloc, 2_000_000, Vec::from_slice(alloc, writes)?)?;
     let status = replay_own(alloc, &all, &mut input, &mut out, &mut OwnFloor::new());
     Ok((status, out))
@@ -89,6 +92,9 @@ fn a_large_case_has_the_sums_of_its_text(rt: HostRuntime) -> Result<(), Fail> {
     let wanted = sums(alloc, str::from_utf8(finals.held()).unwrap_or(""))?;
     let held = str::from_utf8(line.held()).unwrap_or("");
     assert!(rt; held.starts_with("devices 40 messages 4900 refused 0 events 65438 "));
-    assert!(rt; held.ends_with(wanted.as_str()), "{held} ends with {wanted}");
+    assert!(rt;
+        held.ends_with(wanted.as_str()),
+        "{held} ends with {wanted}"
+    );
     Ok(())
 }

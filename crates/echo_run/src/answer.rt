@@ -139,8 +139,8 @@ fn summary<F: Floor>(alloc: Global, case: &Case, floor: &mut F) -> Result<Octets
     floor.open(alloc, &case.table, &admitted.book, MADE_REPLICAS)?;
     let counts = scheduled(floor, &case.schedule)?;
     floor.settle_all()?;
-    let finals = floor.finals(alloc)?;
-    let text = summary_text(alloc, &admitted, counts, &finals)?;
+    let ends = floor.finals(alloc)?;
+    let text = summary_text(alloc, &admitted, counts, &ends)?;
     Ok(text)
 }
 

@@ -19,11 +19,7 @@ use trace_gen::make_case;
 const MOST_OCTETS: usize = 67_108_864;
 
 /// The case text of a command: the case that it makes, or all that the source has.
-fn case_text<S: Source>(
-    alloc: Global,
-    command: Command,
-    input: &mut S,
-) -> Result<Octets, ReadAll>
+fn case_text<S: Source>(alloc: Global, command: Command, input: &mut S) -> Result<Octets, ReadAll>
     requires { IsInLimits command }
     ensures case { IfOk result (λ octets. IsCase (made_by command) (S.left input.old) octets (S.left input.new)) }
     ensures wanted { (octets : List ℕ) → case_of command (S.left input.old) ≡ Some octets → IfOk result (λ other. other ≡ octets) }

@@ -46,7 +46,7 @@ returns-clause-definition g c = λ exact.
     let first = g.F.Floor.given told in
     let refused = c.in_ok-admitted.admitted.refused.items in
     let counts = c.in_ok-counts.counts in
-    let finals = c.in_ok-finals.finals in
+    let finals = c.in_ok-ends.ends in
     let on = c.in_ok-counts.ensures.setting ∙ c.in_ok-open.ensures.setting ∙ ap (λ (x : List (List Message)). Some (setting rows x made_replicas)) c.in_ok-admitted.ensures.book in
     let is_exact = c.in_ok-counts.ensures.exact ∙ c.in_ok-open.ensures.exact ∙ exact in
     let ends = (returns-clause-run g c).exact_ends exact in
@@ -54,6 +54,6 @@ returns-clause-definition g c = λ exact.
     ∙ ap (λ (x : List (List Message)). summary_line (summary_of x refused counts finals)) c.in_ok-admitted.ensures.book
     ∙ ap (λ (x : List RefusedLine). summary_line (summary_of (book_of (length rows) H) x counts finals)) c.in_ok-admitted.ensures.refused
     ∙ ap (λ (x : Scheduled). summary_line (summary_of (book_of (length rows) H) (refused_of H) x finals)) c.in_ok-counts.ensures.counts
-    ∙ ap (λ (x : List DeviceEnd). summary_line (summary_of (book_of (length rows) H) (refused_of H) (scheduled_of (map (λ turn. turn.1) first)) x)) c.in_ok-finals.ensures in
+    ∙ ap (λ (x : List DeviceEnd). summary_line (summary_of (book_of (length rows) H) (refused_of H) (scheduled_of (map (λ turn. turn.1) first)) x)) c.in_ok-ends.ensures in
     exactly_summed rows H c.args.case.now.schedule.items first (g.F.Floor.ends settled) c.in_ok-text.text
     (c.in_ok-counts.ensures.given ∙ c.deref.ensures.value) (g.met.F.Floor.answered told (setting_of rows H made_replicas) is_exact on) ends text
