@@ -3,13 +3,16 @@
 ghost use Rattle.std.specs.Prelude.{◌≡◌, ℕ, List, true, Ok, None, map, string_bytes, IfSome, IfOk};
 ghost use Rattle.std.specs.Str.{bytes_eq};
 ghost use Rattle.command_words.specs.Matches.{HasRead};
-ghost use Rattle.command_words.specs.Command.{word_of, options_of, command_by, are_of, command_of, IsInLimits};
+ghost use Rattle.command_words.specs.Command.{word_of, options_of, is_small, command_by, are_of, command_of, IsInLimits};
 
 use crate::matches::{number, read};
-use crate::options::{Name, are_options};
+use crate::options::{Name, are_options, number_in, text_of};
 use clap::ArgMatches;
 use echo_base::OutOfMemory;
 use std::alloc::Global;
+
+/// The most visits of a made case.
+const MOST_VISITS: u64 = 800;
 
 /// A command.
 #[derive(Clone, Copy, Debug, PartialEq, Eq)]
@@ -23,6 +26,17 @@ pub enum Command {
     },
     /// What the lines of the trace are.
     Show,
+    /// A made case.
+    Make {
+        /// The number that it is made from.
+        number: u32,
+        /// How many devices it has.
+        devices: u32,
+        /// How many rounds it has behind the first.
+        rounds: u32,
+        /// Is its text wanted, and not the summary of its replay?
+        text: bool,
+    },
 }
 
 /// The first word of a command.
@@ -31,6 +45,7 @@ enum Word {
     Plain,
     Replay,
     Show,
+    Make,
 }
 
 /// The command of that name.
@@ -41,6 +56,7 @@ fn word_of(name: &str) -> Option<Word>
         "plain" => Some(Word::Plain),
         "replay" => Some(Word::Replay),
         "show" => Some(Word::Show),
+        "make" => Some(Word::Make),
         _ => None,
     }
 }
@@ -52,6 +68,21 @@ fn options_of(word: Word) -> &'static [Name]
     match word {
         Word::Plain | Word::Show => &[],
         Word::Replay => &[Name::Replicas],
+        Word::Make => &[Name::Number, Name::Devices, Name::Rounds, Name::Text],
+    }
+}
+
+/// Are the numbers of a command small enough together?
+fn is_small(word: Word, words: &[String]) -> bool
+    ensures { result ≡ is_small word (map string_bytes words.now) }
+{
+    match word {
+        Word::Plain | Word::Replay | Word::Show => true,
+        Word::Make => {
+            let devices = u64::from(number_in(words, Name::Devices));
+            let rounds = u64::from(number_in(words, Name::Rounds));
+            devices * (rounds + 1) <= MOST_VISITS
+        }
     }
 }
 
@@ -60,7 +91,7 @@ fn options_of(word: Word) -> &'static [Name]
 fn are_of(word: Word, words: &[String]) -> bool
     ensures { result ≡ are_of word (map string_bytes words.now) }
 {
-    are_options(options_of(word), words)
+    are_options(options_of(word), words) && is_small(word, words)
 }
 
 /// The command of that word, whose options `clap` has read.
@@ -74,6 +105,12 @@ fn command_from(word: Word, matches: &ArgMatches<'_>) -> Command
             replicas: number(matches, Name::Replicas),
         },
         Word::Show => Command::Show,
+        Word::Make => Command::Make {
+            number: number(matches, Name::Number),
+            devices: number(matches, Name::Devices),
+            rounds: number(matches, Name::Rounds),
+            text: matches.get_flag(text_of(Name::Text)),
+        },
     }
 }
 

@@ -4,7 +4,7 @@ ghost use Rattle.std.specs.Prelude.{◌≡◌, ◌==◌, ◌≤◌, ℕ, List, S
 ghost use Rattle.std.specs.Char.{is_ascii_digit};
 ghost use Rattle.std.specs.List.{list_all};
 ghost use Rattle.std.specs.Option.{option_copied};
-ghost use Rattle.command_words.specs.Options.{text_of, takes_of, is_required, is_value, number_of, may_have, number_by, named, names, option_named, after_option, after_named, after_word, all_fit, is_given, is_given_again, each_once, has_required, are_options};
+ghost use Rattle.command_words.specs.Options.{text_of, takes_of, is_required, is_value, number_of, may_have, number_by, named, names, option_named, after_option, after_named, after_word, all_fit, is_given, is_given_again, each_once, has_required, are_options, value_at, value_in, number_in};
 
 use std::str;
 
@@ -270,4 +270,32 @@ pub(crate) fn are_options(options: &[Name], words: &[String]) -> bool
     ensures { result ≡ are_options options.now (map string_bytes words.now) }
 {
     all_fit(options, words) && each_once(words) && has_required(options, words)
+}
+
+/// The value of the option of that name.
+#[tactic(auto, unfolding(crate::specs::Options::names))]
+fn value_in<'a>(name: &[u8], words: &'a [String]) -> Option<&'a [u8]>
+    ensures { option_map (λ v. v.now) result ≡ value_in name.now (map string_bytes words.now) }
+{
+    let mut left = words;
+    while let [word, others @ ..] = left {
+        if let Some((other, value)) = named(word.as_bytes()) {
+            if other == name {
+                return value.or(others.first().map(String::as_bytes));
+            }
+        }
+        left = others;
+    }
+    None
+}
+
+/// The number of an option.
+#[tactic(auto, unfolding(crate::specs::Options::number_in))]
+pub(crate) fn number_in(words: &[String], option: Name) -> u32
+    ensures { result ≡ number_in (map string_bytes words.now) option }
+{
+    number_by(
+        takes_of(option),
+        value_in(text_of(option).as_bytes(), words),
+    )
 }

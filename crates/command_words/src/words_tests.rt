@@ -15,6 +15,18 @@ replay --replicas=16: Replay { replicas: 16 }
 replay --replicas 16: Replay { replicas: 16 }
 replay --replicas=02: Replay { replicas: 2 }
 replay --replicas 0000000010: Replay { replicas: 10 }
+make --number=7 --devices=40 --rounds=19: Make { number: 7, devices: 40, rounds: 19, text: false }
+make --number 7 --devices 40 --rounds 19: Make { number: 7, devices: 40, rounds: 19, text: false }
+make --rounds 19 --number=7 --devices 40: Make { number: 7, devices: 40, rounds: 19, text: false }
+make --devices=40 --rounds=19 --number 7: Make { number: 7, devices: 40, rounds: 19, text: false }
+make --text --number=7 --devices=40 --rounds=19: Make { number: 7, devices: 40, rounds: 19, text: true }
+make --number 7 --text --devices=40 --rounds 19: Make { number: 7, devices: 40, rounds: 19, text: true }
+make --number=7 --devices=40 --rounds=19 --text: Make { number: 7, devices: 40, rounds: 19, text: true }
+make --number=0 --devices=1 --rounds=0: Make { number: 0, devices: 1, rounds: 0, text: false }
+make --number=4294967295 --devices=1 --rounds=799: Make { number: 4294967295, devices: 1, rounds: 799, text: false }
+make --number=0000000001 --devices 0800 --rounds 00: Make { number: 1, devices: 800, rounds: 0, text: false }
+make --number=1 --devices=400 --rounds=1: Make { number: 1, devices: 400, rounds: 1, text: false }
+make --number=1 --devices=266 --rounds=2: Make { number: 1, devices: 266, rounds: 2, text: false }
 ";
 
 /// Words that are no command, a line each. The first line has none.

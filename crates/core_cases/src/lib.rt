@@ -2,6 +2,8 @@
 #![tactic(auto)]
 
 #[cfg(test)]
+mod made_cases;
+#[cfg(test)]
 mod top_calls;
 #[cfg(test)]
 mod worlds;

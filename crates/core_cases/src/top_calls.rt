@@ -268,57 +268,21 @@ fn full_table(rt: HostRuntime) -> Result<(), Fail> {
     Ok(())
 }
 
-/// Words that are no command, a line each. The first line has none.
+/// Words that are no command, a line each. The first line has none. The table of words stands in `command_words`.
 const USAGES: &str = "
- plain
-Plain
---plain
-plain plain
 plain --replicas=2
 show --text
-show --replicas 2
+replay --replicas=17
+replay --replicas=2 --replicas=2
 make
+make --text
+make --number=7 --devices=40
+make --number=7 --devices=40 --rounds=19 --rounds=19
+make --number=00000000007 --devices=40 --rounds=19
+make --number=7 --devices=40 --rounds=20
+make --number=7 --devices=40 --rounds=19 --text=1
 run
 load
---replicas=2 replay
-replay plain
-replay 2
-replay -2
-replay replicas=2
-replay -replicas=2
-replay --replica=2
-replay --replicas2
-replay --Replicas=2
-replay --
-replay -- --replicas=2
-replay --=2
-replay --help
-replay --version
-replay --text
-replay --workers=2
-replay --replicas
-replay --replicas=
-replay --replicas=0
-replay --replicas 0
-replay --replicas=17
-replay --replicas 17
-replay --replicas==2
-replay --replicas=+2
-replay --replicas -2
-replay --replicas=2x
-replay --replicas=0x2
-replay --replicas=2.0
-replay --replicas=4294967298
-replay --replicas=9999999999
-replay --replicas=00000000002
-replay --replicas 00000000002
-replay --replicas=2 --
-replay --replicas=2 2
-replay --replicas 2 2
-replay --replicas = 2
-replay --replicas=2 --replicas=2
-replay --replicas 2 --replicas 2
-replay --replicas --replicas=2
 ";
 
 /// Words of `replay`, and how many replicas there are.
@@ -378,7 +342,7 @@ fn words_give_replicas(rt: HostRuntime) -> Result<(), Fail> {
 fn other_words_are_usage(rt: HostRuntime) -> Result<(), Fail> {
     let alloc = rt.alloc();
     for words in USAGES.lines() {
-        let (status, out) = run(alloc, words, "", &[], &[])?;
+        let (status, out) = run(alloc, words, "", &[Give::Fail], &[])?;
         assert_eq!(rt; status, Status::Usage, "for {words}");
         assert!(rt; out.held().is_empty());
     }

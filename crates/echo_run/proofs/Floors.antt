@@ -3,6 +3,7 @@ use Rattle.std.proofs.Common.{◌≡◌, ℕ, Bool, true, List, [], ◌∷◌, �
 use Rattle.std.specs.Prelude.{map, reverse, Option, Some, String}
 use Rattle.std.specs.declared.alloc.Global.{Global}
 use mathlib.Core.List.{reverse_aux}
+use Rattle.std.proofs.lemmas.Bool.{false_from_ne_true}
 use Rattle.std.proofs.lemmas.List.{map-append}
 use Rattle.device_types.specs.declared.event.Event.{Event}
 use Rattle.device_types.specs.declared.event.EventAnswer.{EventAnswer}
@@ -23,12 +24,14 @@ use Rattle.case_form.specs.Case.{rows_of, trace_of}
 use Rattle.case_form.specs.Lines.{lines_of}
 use Rattle.entry_edge.specs.Trace as admission
 use Rattle.report_text.specs.Final.{final_text}
+use Rattle.report_text.specs.Summary.{summary_line}
 use Rattle.echo_run.specs.Answer.{replay_of, Ran, IsWithoutFloor}
 use Rattle.command_words.specs.Command.{command_of}
 use Rattle.echo_run.specs.Replay.{setting_of, lines_from, transcript_of, IsRun}
+use Rattle.echo_run.specs.Summary.{made_replicas, scheduled_of, summary_by, summary_of}
 use Rattle.echo_run.specs.Top.{Tells}
 use Rattle.command_words.specs.declared.command.Command.{Command}
-use Rattle.command_words.specs.declared.command.Command.TheVariants.{Plain, Replay, Show}
+use Rattle.command_words.specs.declared.command.Command.TheVariants.{Plain, Replay, Show, Make}
 
 -- ---- what was given first is still there first
 
@@ -66,15 +69,30 @@ exactly_told rows H schedule replicas first ends text given are same is =
     ∙ ap (λ (T : List Turn). lines_from 1 (map (λ t. t.1) T) ++ final_text rows (refused_of H) (finals_of rows (book_of (length rows) H))) same_turns
     ∙ ap (λ (told : List EventAnswer). lines_from 1 told ++ final_text rows (refused_of H) (finals_of rows (book_of (length rows) H))) (turned (history s schedule) [])
 
+pub exactly_summed : (rows : List Subscriber) (H : List Admission) (schedule : List Event) (first : List Turn) (ends : List DeviceEnd) (text : List ℕ) → events_of first ≡ schedule → AreAnswered (setting_of rows H made_replicas) first → ends ≡ finals_of rows (book_of (length rows) H) → text ≡ summary_line (summary_of (book_of (length rows) H) (refused_of H) (scheduled_of (map (λ t. t.1) first)) ends) → text ≡ summary_by rows H schedule
+exactly_summed rows H schedule first ends text given are same is =
+    let s = setting_of rows H made_replicas in
+    let book = book_of (length rows) H in
+    let same_turns = are ∙ ap (λ (es : List Event). reverse (history s es)) given in
+    is
+    ∙ ap (λ (fs : List DeviceEnd). summary_line (summary_of book (refused_of H) (scheduled_of (map (λ t. t.1) first)) fs)) same
+    ∙ ap (λ (T : List Turn). summary_line (summary_of book (refused_of H) (scheduled_of (map (λ t. t.1) T)) (finals_of rows book))) same_turns
+    ∙ ap (λ (told : List EventAnswer). summary_line (summary_of book (refused_of H) (scheduled_of told) (finals_of rows book))) (turned (history s schedule) [])
+
 -- ---- a world of its own
 
 -- the world on which a schedule was run, and of which the ends were told, is whole
-pub whole_world : (words : List (String Global)) (command : Command) (octets : List ℕ) (o : Option WorldState) (text : List ℕ) → command_of words ≡ Some command → (IsWithoutFloor command → ⊥) → Tells words octets true (setting_by o) (given_by o) (ends_by o) text → IsWholeByEnds o → IsWhole o
+pub whole_world : (words : List (String Global)) (command : Command) (before after : Option (List ℕ)) (o : Option WorldState) (text : List ℕ) → command_of words ≡ Some command → (IsWithoutFloor command → ⊥) → Tells words before after true (setting_by o) (given_by o) (ends_by o) text → IsWholeByEnds o → IsWhole o
 unfolding Ran
-whole_world words Plain octets o text is runs told whole = absurd (runs tt)
-whole_world words (Replay replicas) octets o text is runs told whole =
+whole_world words Plain before after o text is runs told whole = absurd (runs tt)
+whole_world words (Replay replicas) before after o text is runs told whole =
     let same : told.command ≡ Replay replicas = cc in
-    let ran = subst (λ (c : Command). Ran c octets true (setting_by o) (given_by o) (ends_by o)) same told.ran in
-    let rows = rows_of (lines_of octets) in
-    whole (setting_of rows (admission.history rows (trace_of (lines_of octets))) replicas) ran.of_case (ran.exact_ends refl)
-whole_world words Show octets o text is runs told whole = absurd (runs tt)
+    let ran = subst (λ (c : Command). Ran c told.octets true (setting_by o) (given_by o) (ends_by o)) same told.ran refl in
+    let rows = rows_of (lines_of told.octets) in
+    whole (setting_of rows (admission.history rows (trace_of (lines_of told.octets))) replicas) ran.of_case (ran.exact_ends refl)
+whole_world words Show before after o text is runs told whole = absurd (runs tt)
+whole_world words (Make number devices rounds wanted) before after o text is runs told whole =
+    let same : told.command ≡ Make number devices rounds wanted = cc in
+    let ran = subst (λ (c : Command). Ran c told.octets true (setting_by o) (given_by o) (ends_by o)) same told.ran (false_from_ne_true wanted runs) in
+    let rows = rows_of (lines_of told.octets) in
+    whole (setting_of rows (admission.history rows (trace_of (lines_of told.octets))) made_replicas) ran.of_case (ran.exact_ends refl)

@@ -1,5 +1,5 @@
 -- What a command makes of a case text: a text, or a refusal with its number and line.
-use Rattle.std.specs.Prelude.{◌≡◌, ◌≤◌, ◌++◌, ℕ, Bool, List, length, All, Option, Some, None, Result, Ok, Err}
+use Rattle.std.specs.Prelude.{◌≡◌, ◌≤◌, ◌++◌, ℕ, Bool, true, false, List, length, All, Option, Some, None, Result, Ok, Err, if◌then◌else◌}
 use Rattle.echo_base.specs.Reason.{reason_number}
 use Rattle.echo_base.specs.declared.reason.Reason.{Reason}
 use Rattle.device_types.specs.declared.event.Event.{Event}
@@ -18,10 +18,11 @@ use Rattle.link_schedule.specs.World.{IsShort}
 use Rattle.report_text.specs.Show.{show_text}
 use Rattle.report_text.specs.Final.{final_text}
 use Rattle.command_words.specs.declared.command.Command.{Command}
-use Rattle.command_words.specs.declared.command.Command.TheVariants.{Plain, Replay, Show}
+use Rattle.command_words.specs.declared.command.Command.TheVariants.{Plain, Replay, Show, Make}
 use Rattle.echo_run.specs.declared.answer.NoText.{NoText}
 use Rattle.echo_run.specs.declared.answer.NoText.TheVariants as no
 use Rattle.echo_run.specs.Replay.{setting_of, transcript_of, told_of, IsRun}
+use Rattle.echo_run.specs.Summary.{made_replicas, summary_by, summary_on}
 
 -- what admission gives of a case
 pub record IsAdmitted (rows : List Subscriber) (H : List Turn) (admitted : Admitted) : Type 0 where
@@ -39,21 +40,30 @@ plain_of rows H = final_text rows (refused_of H) (finals_of rows (book_of (lengt
 abbrev pub replay_of : List Subscriber → List Turn → List Event → ℕ → List ℕ
 replay_of rows H schedule replicas = transcript_of (setting_of rows H replicas) schedule ++ plain_of rows H
 
+-- the case text itself is wanted, and not what comes of it
+abbrev pub is_case_wanted : Command → Bool
+is_case_wanted Plain = false
+is_case_wanted (Replay replicas) = false
+is_case_wanted Show = false
+is_case_wanted (Make number devices rounds text) = text
+
 -- the text that a command makes of a case
 unfoldable pub text_of : Command → List Subscriber → List TraceLine → List Event → List ℕ
 text_of Plain rows trace schedule = plain_of rows (history rows trace)
 text_of (Replay replicas) rows trace schedule = replay_of rows (history rows trace) schedule replicas
 text_of Show rows trace schedule = show_text trace
+text_of (Make number devices rounds text) rows trace schedule = summary_by rows (history rows trace) schedule
 
 abbrev pub unless_bad : Option (ℕ × Reason) → List ℕ → Result (List ℕ) (ℕ × ℕ)
 unless_bad None text = Ok text
 unless_bad (Some bad) text = Err (reason_number bad.1, bad.0)
 
--- the refusal of the first bad line, and where none is bad the text of the case
+-- the case text where that is wanted; else the refusal of its first bad line, and where none is bad the text of the case
 unfoldable pub answer_of : Command → List ℕ → Result (List ℕ) (ℕ × ℕ)
 answer_of command octets =
     let lines = lines_of octets in
-    unless_bad (first_bad octets) (text_of command (rows_of lines) (trace_of lines) (schedule_of lines))
+    if is_case_wanted command then Ok octets
+    else unless_bad (first_bad octets) (text_of command (rows_of lines) (trace_of lines) (schedule_of lines))
 
 -- ---- on a floor, which gave these answers and has these ends
 
@@ -61,29 +71,33 @@ abbrev pub text_on : Command → List Subscriber → List TraceLine → List Eve
 text_on Plain rows trace schedule given ends = plain_of rows (history rows trace)
 text_on (Replay replicas) rows trace schedule given ends = told_of rows (history rows trace) schedule given ends
 text_on Show rows trace schedule given ends = show_text trace
+text_on (Make number devices rounds text) rows trace schedule given ends = summary_on rows (history rows trace) schedule given ends
 
 -- the text of a case that is not refused
 unfoldable pub told_by : Command → List ℕ → List Answered → List DeviceEnd → Result (List ℕ) (ℕ × ℕ)
 told_by command octets given ends =
     let lines = lines_of octets in
-    unless_bad (first_bad octets) (text_on command (rows_of lines) (trace_of lines) (schedule_of lines) given ends)
+    if is_case_wanted command then Ok octets
+    else unless_bad (first_bad octets) (text_on command (rows_of lines) (trace_of lines) (schedule_of lines) given ends)
 
 abbrev pub RunsOn : Command → List Subscriber → List TraceLine → List Event → Bool → Option Setting → List Answered → List DeviceEnd → Type 0
 RunsOn Plain rows trace schedule exact setting given ends = Unit {0}
 RunsOn (Replay replicas) rows trace schedule exact setting given ends = IsRun rows (history rows trace) schedule replicas exact setting given ends
 RunsOn Show rows trace schedule exact setting given ends = Unit {0}
+RunsOn (Make number devices rounds text) rows trace schedule exact setting given ends = IsRun rows (history rows trace) schedule made_replicas exact setting given ends
 
--- `replay` ran the schedule of the case; of the other commands it says nothing
+-- `replay`, and `make` where its text is not wanted, ran the schedule of the case; of the other commands it says nothing
 unfoldable pub Ran : Command → List ℕ → Bool → Option Setting → List Answered → List DeviceEnd → Type 0
 Ran command octets exact setting given ends =
     let lines = lines_of octets in
-    RunsOn command (rows_of lines) (trace_of lines) (schedule_of lines) exact setting given ends
+    is_case_wanted command ≡ false → RunsOn command (rows_of lines) (trace_of lines) (schedule_of lines) exact setting given ends
 
 -- a command that runs no schedule
 abbrev pub IsWithoutFloor : Command → Type 0
 IsWithoutFloor Plain = Unit {0}
 IsWithoutFloor (Replay replicas) = ⊥
 IsWithoutFloor Show = Unit {0}
+IsWithoutFloor (Make number devices rounds text) = text ≡ true
 
 -- that answer, unless memory ran out
 abbrev pub IsAnswer : Result (List ℕ) NoText → Result (List ℕ) (ℕ × ℕ) → Type 0

@@ -1,3 +1,4 @@
 pub mod Answer
 pub mod Replay
+pub mod Summary
 pub mod Top

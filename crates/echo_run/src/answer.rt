@@ -1,18 +1,20 @@
 //! What a command makes of a case text.
 
-ghost use Rattle.std.specs.Prelude.{◌≡◌, ◌≢◌, ◌≤◌, ℕ, length, true, Ok, Err, IfOk, IfErr, OnOk, All};
+ghost use Rattle.std.specs.Prelude.{◌≡◌, ◌≢◌, ◌≤◌, ℕ, length, true, false, Ok, Err, IfOk, IfErr, OnOk, All};
 ghost use Rattle.echo_base.specs.Reason.{reason_number};
 ghost use Rattle.device_types.specs.Event.{IsInForm};
 ghost use Rattle.device_types.specs.Numbers.{IsWithin};
 ghost use Rattle.case_form.specs.Case.{most_lines};
 ghost use Rattle.entry_edge.specs.Trace.{history};
-ghost use Rattle.echo_run.specs.Answer.{IsAdmitted, plain_of, replay_of, text_of, answer_of, text_on, told_by, RunsOn, Ran, IsWithoutFloor, IsAnswer, IsOfLine};
+ghost use Rattle.echo_run.specs.Answer.{IsAdmitted, plain_of, replay_of, is_case_wanted, text_of, answer_of, text_on, told_by, RunsOn, Ran, IsWithoutFloor, IsAnswer, IsOfLine};
 ghost use Rattle.command_words.specs.Command.{IsInLimits};
 ghost use Rattle.echo_run.specs.Replay.{told_of, IsRun};
+ghost use Rattle.echo_run.specs.Summary.{made_replicas, summary_by, summary_on};
 ghost use Rattle.echo_run.specs.declared.answer.NoText.TheVariants as no_text;
 
 use crate::ends::finals_of;
 use crate::replay::transcript;
+use crate::summary::{scheduled, summary_text};
 use case_form::{Case, CaseBad, read_case};
 use command_words::Command;
 use device_types::Octets;
@@ -21,6 +23,9 @@ use entry_edge::{Admitted, admit};
 use link_schedule::Floor;
 use report_text::{final_text, show_text};
 use std::alloc::Global;
+
+/// How many replicas a made case runs with.
+const MADE_REPLICAS: u32 = 2;
 
 /// Why there is no text.
 #[derive(Clone, Copy, Debug, PartialEq, Eq)]
@@ -116,6 +121,36 @@ fn replay<F: Floor>(
     Ok(text)
 }
 
+/// What the events of a case come to in numbers on a floor with two replicas, and, once it has settled, its ends.
+fn summary<F: Floor>(alloc: Global, case: &Case, floor: &mut F) -> Result<Octets, OutOfMemory>
+    requires stations { All (λ line. IsWithin 65535 line.station) case.now.trace.items }
+    requires lines { length case.now.trace.items ≤ most_lines }
+    requires events { All (IsInForm (length case.now.table)) case.now.schedule.items }
+    ensures exact { F.exact floor.new ≡ F.exact floor.old }
+    ensures run { let turns = history case.now.table case.now.trace.items in
+        OnOk result (IsRun case.now.table turns case.now.schedule.items made_replicas (F.exact floor.old) (F.setting floor.new) (F.given floor.new) (F.ends floor.new)) }
+    ensures text { let turns = history case.now.table case.now.trace.items in
+        IfOk result (λ text. text ≡ summary_on case.now.table turns case.now.schedule.items (F.given floor.new) (F.ends floor.new)) }
+    ensures definition { let turns = history case.now.table case.now.trace.items in
+        IfOk result (λ text. F.exact floor.old ≡ true → text ≡ summary_by case.now.table turns case.now.schedule.items) }
+{
+    let _rows = case.table.rows();
+    let admitted = admitted(alloc, case)?;
+    floor.open(alloc, &case.table, &admitted.book, MADE_REPLICAS)?;
+    let counts = scheduled(floor, &case.schedule)?;
+    floor.settle_all()?;
+    let ends = floor.finals(alloc)?;
+    let text = summary_text(alloc, &admitted, counts, &ends)?;
+    Ok(text)
+}
+
+/// Is the case text itself wanted, and not what comes of it?
+fn is_case_wanted(command: Command) -> bool
+    ensures { result ≡ is_case_wanted command }
+{
+    matches!(command, Command::Make { text: true, .. })
+}
+
 /// The text that a command makes of a case.
 #[tactic(auto, unfolding(crate::specs::Answer::text_of))]
 fn text_of<F: Floor>(
@@ -125,6 +160,7 @@ fn text_of<F: Floor>(
     floor: &mut F,
 ) -> Result<Octets, OutOfMemory>
     requires limits { IsInLimits command }
+    requires not_itself { is_case_wanted command ≡ false }
     requires stations { All (λ line. IsWithin 65535 line.station) case.now.trace.items }
     requires lines { length case.now.trace.items ≤ most_lines }
     requires events { All (IsInForm (length case.now.table)) case.now.schedule.items }
@@ -138,29 +174,34 @@ fn text_of<F: Floor>(
         Command::Plain => plain(alloc, case),
         Command::Replay { replicas } => replay(alloc, case, replicas, floor),
         Command::Show => show_text(alloc, &case.trace),
+        Command::Make { .. } => summary(alloc, case, floor),
     }
 }
 
-/// What a command makes of a case text. Where it runs the schedule, that is on the floor.
+/// What a command makes of a case text: the text itself, where that is wanted, or a text of the case. Where it runs the schedule, that
+/// is on the floor.
 #[tactic(auto, unfolding(crate::specs::Answer::answer_of, crate::specs::Answer::told_by, crate::specs::Answer::Ran))]
 pub fn answer<F: Floor>(
     alloc: Global,
     command: Command,
-    octets: &[u8],
+    octets: Octets,
     floor: &mut F,
 ) -> Result<Octets, NoText>
     requires { IsInLimits command }
     ensures exact { F.exact floor.new ≡ F.exact floor.old }
     ensures other { IsWithoutFloor command → floor.new ≡ floor.old }
     ensures refused { (number line : ℕ) → result ≡ Err (no_text.Refused number line) → floor.new ≡ floor.old }
-    ensures ran { OnOk result (Ran command octets.now (F.exact floor.old) (F.setting floor.new) (F.given floor.new) (F.ends floor.new)) }
-    ensures told { IfOk result (λ text. told_by command octets.now (F.given floor.new) (F.ends floor.new) ≡ Ok text) }
-    ensures definition { F.exact floor.old ≡ true → IsAnswer result (answer_of command octets.now) }
-    ensures refusals { (number line : ℕ) → OnOk result (answer_of command octets.now ≢ Err (number, line)) }
-    ensures why_not { IfErr result (λ why. IsAnswer (Err why) (answer_of command octets.now)) }
+    ensures ran { OnOk result (Ran command octets (F.exact floor.old) (F.setting floor.new) (F.given floor.new) (F.ends floor.new)) }
+    ensures told { IfOk result (λ text. told_by command octets (F.given floor.new) (F.ends floor.new) ≡ Ok text) }
+    ensures definition { F.exact floor.old ≡ true → IsAnswer result (answer_of command octets) }
+    ensures refusals { (number line : ℕ) → OnOk result (answer_of command octets ≢ Err (number, line)) }
+    ensures why_not { IfErr result (λ why. IsAnswer (Err why) (answer_of command octets)) }
     ensures of_line { IfErr result IsOfLine }
 {
-    let case = match read_case(alloc, octets) {
+    if is_case_wanted(command) {
+        return Ok(octets);
+    }
+    let case = match read_case(alloc, octets.octets()) {
         Ok(case) => case,
         Err(CaseBad::Refused { reason, line }) => return Err(refused(reason, line)),
         Err(CaseBad::OutOfMemory) => return Err(NoText::OutOfMemory),

@@ -5,6 +5,7 @@ mod answer;
 mod ends;
 mod own;
 mod replay;
+mod summary;
 mod top;
 
 pub use own::replay_own;

@@ -4,7 +4,7 @@ ghost use Rattle.std.specs.Prelude.{◌≡◌, ◌≢◌, ◌↔◌, ◌⊎◌, 
 ghost use Rattle.echo_base.specs.Outside.{IsTakenBy, IsPut, Rose};
 ghost use Rattle.echo_run.specs.Answer.{IsWithoutFloor};
 ghost use Rattle.command_words.specs.Command.{command_of};
-ghost use Rattle.echo_run.specs.Top.{most_octets, ReadWhole, Answers};
+ghost use Rattle.echo_run.specs.Top.{most_octets, IsMaking, Answers, Owes};
 ghost use Rattle.command_words.specs.declared.command.Command.{Command};
 ghost use Rattle.link_schedule.specs.Own.{IsWhole};
 
@@ -27,6 +27,11 @@ pub fn replay_own<S: Source, K: Sink>(
     ensures usage { (result ≡ Status.Usage) ↔ (command_of words.now ≡ None) }
     ensures unread { result ≡ Status.Usage → input.new ≡ input.old }
 
+    // A command that makes its case reads nothing.
+    ensures makes { (command : Command) → command_of words.now ≡ Some command → IsMaking command → input.new ≡ input.old }
+    ensures no_fault { (command : Command) → command_of words.now ≡ Some command → IsMaking command
+        → (result ≢ Status.ReadFault) × (result ≢ Status.CaseRefused 6 0) }
+
     // A fault of reading comes only where the source's count of faults rose.
     ensures read_fault { result ≡ Status.ReadFault → Rose (S.faults input.old) (S.faults input.new) }
 
@@ -36,23 +41,22 @@ pub fn replay_own<S: Source, K: Sink>(
     ensures short { result ≢ Status.CaseRefused 6 0
         → IsTakenBy (λ n. n ≤ most_octets) (S.left input.old) (S.left input.new) }
 
-    // Any other refusal comes only where the source was read to its end, and it is that of the first bad line.
+    // Any other refusal is that of the first bad line of the case text, which was made, or is all that the source had.
     ensures refused { (number line : ℕ) → result ≡ Status.CaseRefused number line → result ≢ Status.CaseRefused 6 0
-        → (octets : List ℕ) × ReadWhole (S.left input.old) octets (S.left input.new)
-        × Answers words.now octets (Err (number, line)) }
+        → Answers words.now (S.left input.old) (S.left input.new) (Err (number, line)) }
 
-    // Done: the source was read to its end, and the sink gained exactly what the command makes of the text.
-    ensures done { result ≡ Status.Done → (octets text : List ℕ)
-        × ReadWhole (S.left input.old) octets (S.left input.new) × Answers words.now octets (Ok text)
+    // Done: the sink gained exactly what the command makes of the case text by the definitions.
+    ensures done { result ≡ Status.Done → (text : List ℕ)
+        × Answers words.now (S.left input.old) (S.left input.new) (Ok text)
         × IsPut (K.held out.old) text (K.held out.new) }
 
-    // A fault of writing comes only where the sink's count of faults rose, and a front of the text was written then.
+    // A fault of writing comes only where the sink's count of faults rose, and a front of that text was written then.
     ensures write_fault { result ≡ Status.WriteFault → Rose (K.faults out.old) (K.faults out.new) }
-    ensures front { result ≡ Status.WriteFault → (octets piece rest : List ℕ)
-        × ReadWhole (S.left input.old) octets (S.left input.new) × Answers words.now octets (Ok (piece ++ rest))
+    ensures front { result ≡ Status.WriteFault → (piece rest : List ℕ)
+        × Answers words.now (S.left input.old) (S.left input.new) (Ok (piece ++ rest))
         × IsPut (K.held out.old) piece (K.held out.new) }
 
-    // The world that a schedule was run on has settled, and is whole.
+    // The world that a schedule was run on has settled, and is whole. Where none was run it is as it was.
     ensures world { (command : Command) → command_of words.now ≡ Some command → ¬ IsWithoutFloor command
         → (result ≡ Status.Done) ⊎ (result ≡ Status.WriteFault) → IsWhole floor.new.world }
     ensures other { (command : Command) → command_of words.now ≡ Some command → IsWithoutFloor command → floor.new ≡ floor.old }
@@ -61,14 +65,12 @@ pub fn replay_own<S: Source, K: Sink>(
     // On every other status the sink is as it was.
     ensures silent { result ≢ Status.Done → result ≢ Status.WriteFault → out.new ≡ out.old }
 
-    // A command that makes a text of what the source has is done, with it, where no count rose.
-    ensures complete { (octets text : List ℕ) → S.left input.old ≡ Some octets → length octets ≤ most_octets
-        → Answers words.now octets (Ok text)
+    // A text that is owed is written, where no count rose.
+    ensures complete { (text : List ℕ) → Owes words.now (S.left input.old) (Ok text)
         → ¬ Rose (S.faults input.old) (S.faults input.new) → ¬ Rose (K.faults out.old) (K.faults out.new)
         → (result ≡ Status.OutOfMemory) ⊎ ((result ≡ Status.Done) × IsPut (K.held out.old) text (K.held out.new)) }
     // A case that is to be refused is.
-    ensures complete_refused { (octets : List ℕ) (number line : ℕ) → S.left input.old ≡ Some octets
-        → length octets ≤ most_octets → Answers words.now octets (Err (number, line))
+    ensures complete_refused { (number line : ℕ) → Owes words.now (S.left input.old) (Err (number, line))
         → ¬ Rose (S.faults input.old) (S.faults input.new)
         → (result ≡ Status.OutOfMemory) ⊎ (result ≡ Status.CaseRefused number line) }
 {

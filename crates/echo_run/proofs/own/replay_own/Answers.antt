@@ -8,6 +8,6 @@ returns-clause-world g c = λ command is runs ended.
     let o = c.replay_top-status.new.floor.world in
     let whole = c.recall.ensures.whole in
     ⊎_elim
-    (λ e. let done = c.replay_top-status.ensures.done e in whole_world c.args.words.now command done.0 o done.1 is runs done.3 whole)
-    (λ e. let front = c.replay_top-status.ensures.front e in whole_world c.args.words.now command front.0 o _ is runs front.4 whole)
+    (λ e. let done = c.replay_top-status.ensures.done e in whole_world c.args.words.now command _ _ o done.0 is runs done.1 whole)
+    (λ e. let front = c.replay_top-status.ensures.front e in whole_world c.args.words.now command _ _ o _ is runs front.2 whole)
     ended
