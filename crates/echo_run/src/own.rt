@@ -1,21 +1,21 @@
 //! The top call on a world of its own.
 
-ghost use Rattle.std.specs.Prelude.{◌≡◌, ◌≢◌, ◌↔◌, ◌⊎◌, ◌+◌, ◌≤◌, ◌++◌, ℕ, List, length, Some, None, Ok, Err};
+ghost use Rattle.std.specs.Prelude.{◌≡◌, ◌≢◌, ◌↔◌, ◌⊎◌, ◌+◌, ◌≤◌, ◌++◌, ℕ, List, length, true, Some, None, Ok, Err};
 ghost use Rattle.echo_base.specs.Outside.{IsTakenBy, IsPut, Rose};
 ghost use Rattle.echo_run.specs.Answer.{IsWithoutFloor};
 ghost use Rattle.command_words.specs.Command.{command_of};
-ghost use Rattle.echo_run.specs.Top.{most_octets, IsMaking, Answers, Owes};
+ghost use Rattle.echo_run.specs.Top.{most_octets, IsMaking, Answers, Tells, Owes};
 ghost use Rattle.command_words.specs.declared.command.Command.{Command};
-ghost use Rattle.link_schedule.specs.Own.{IsWhole};
+ghost use Rattle.link_schedule.specs.Own.{setting_by, given_by, ends_by, IsWhole};
 
 use crate::top::replay_top;
 use echo_base::{Sink, Source, Status};
 use link_schedule::OwnFloor;
 use std::alloc::Global;
 
-/// `replay_top` on a world of its own, which is exact: so what is written is what the command makes of the text by the definitions. Of
-/// the world that a command leaves which ran a schedule, each part is what its events make of it, each device's journal is whole, and
-/// each lane was accepted whole.
+/// `replay_top` on a world of its own, which is exact: so what is written is what the command makes of the text by the definitions. The
+/// world that a command leaves which ran a schedule was made of the case text, and took its schedule first; each part of it is what its
+/// events make of it, each device's journal is whole, and each lane was accepted whole.
 pub fn replay_own<S: Source, K: Sink>(
     alloc: Global,
     words: &[String],
@@ -54,6 +54,14 @@ pub fn replay_own<S: Source, K: Sink>(
     ensures write_fault { result ≡ Status.WriteFault → Rose (K.faults out.old) (K.faults out.new) }
     ensures front { result ≡ Status.WriteFault → (piece rest : List ℕ)
         × Answers words.now (S.left input.old) (S.left input.new) (Ok (piece ++ rest))
+        × IsPut (K.held out.old) piece (K.held out.new) }
+
+    // What was written is what the world told that is left: it was made of the case text, and took its schedule first.
+    ensures told { result ≡ Status.Done → (text : List ℕ)
+        × Tells words.now (S.left input.old) (S.left input.new) true (setting_by floor.new.world) (given_by floor.new.world) (ends_by floor.new.world) text
+        × IsPut (K.held out.old) text (K.held out.new) }
+    ensures told_front { result ≡ Status.WriteFault → (piece rest : List ℕ)
+        × Tells words.now (S.left input.old) (S.left input.new) true (setting_by floor.new.world) (given_by floor.new.world) (ends_by floor.new.world) (piece ++ rest)
         × IsPut (K.held out.old) piece (K.held out.new) }
 
     // The world that a schedule was run on has settled, and is whole. Where none was run it is as it was.
