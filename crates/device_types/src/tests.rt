@@ -1,4 +1,4 @@
-//! The copy of a value of every type, and the calls of the lists, as the texts that the values print.
+//! The copy of a value of every type, and the calls of the lists, as lines of text that the values print.
 ghost use Rattle.std.specs.Prelude.{IfOk};
 ghost use Rattle.device_types.specs.Line.{IsLine};
 
@@ -42,15 +42,43 @@ dl: 0, ul: 0, sgw: 0, teid: 0, ip: 0, side_addr: 0, side_teid: 0, bearer: None, 
 cause: CauseCode { group: 0, extended: false, index: 0 }, radio: 0 } }
 ";
 
+const LISTS: &str = "\
+3 [7, 7, 9]
+3 [7, 7, 9]
+3 [Create, Create, Modify(1, 2)]
+3 [Vectors, Vectors, Purge]
+3 [Gateway(Create), Gateway(Create), Subscriber(Purge)]
+";
+
 /// Adds a line with the copy of a value.
-fn put_copy<T: TryCopy + Debug>(text: &mut String, value: &T) -> Result<(), Fail> {
-    let copy = value.copy()?;
+fn put<T: TryCopy + Debug>(text: &mut String, value: Result<T, AllocError>) -> Result<(), Fail> {
+    let copy = copied(value?)?;
     writeln!(text, "{copy:?}")?;
     Ok(())
 }
 
+/// The copy of a value.
+fn copied<T: TryCopy>(value: T) -> Result<T, AllocError> {
+    value.copy()
+}
+
+/// A list of one value.
+fn list<T: Drop>(alloc: Global, item: T) -> Result<ListOf<T>, AllocError> {
+    let mut list = ListOf::new(alloc);
+    list.push(item)?;
+    Ok(list)
+}
+
 fn octets(alloc: Global, items: &[u8]) -> Result<Octets, AllocError> {
     Ok(Octets::from(Vec::from_slice(alloc, items)?))
+}
+
+fn areas(alloc: Global, items: &[u16]) -> Result<Areas, AllocError> {
+    Ok(Areas::from(Vec::from_slice(alloc, items)?))
+}
+
+fn key(alloc: Global, octet: u8) -> Result<Key, AllocError> {
+    Ok(Key::new(list(alloc, octet)?))
 }
 
 fn cause(group: u8, extended: bool, index: u8) -> CauseCode {
@@ -61,22 +89,56 @@ fn cause(group: u8, extended: bool, index: u8) -> CauseCode {
     }
 }
 
-fn subscriber(alloc: Global) -> Result<Subscriber, AllocError> {
-    Ok(Subscriber {
+/// A row whose lists are empty yet.
+fn row(alloc: Global) -> Subscriber {
+    Subscriber {
         number: 1,
         imsi: 208_930_000_000_001,
         tmsi: 2,
-        rand: octets(alloc, &[1])?,
-        autn: octets(alloc, &[2])?,
-        res: octets(alloc, &[3])?,
-        key: octets(alloc, &[4])?,
-        apn: octets(alloc, b"a")?,
+        rand: Octets::new(alloc),
+        autn: Octets::new(alloc),
+        res: Octets::new(alloc),
+        key: Octets::new(alloc),
+        apn: Octets::new(alloc),
         ip: 5,
         sgw: 6,
         teid: 7,
         ambr_dl: 8,
         ambr_ul: 9,
-        forbidden: Areas::from(Vec::from_slice(alloc, &[10])?),
+        forbidden: Areas::new(alloc),
+    }
+}
+
+/// Puts a value into each list of a row.
+fn fill(row: &mut Subscriber) -> Result<(), AllocError> {
+    row.rand.push(1)?;
+    row.autn.push(2)?;
+    row.res.push(3)?;
+    row.key.push(4)?;
+    row.apn.push(97)?;
+    row.forbidden.push(10)
+}
+
+fn subscriber(alloc: Global) -> Result<Subscriber, AllocError> {
+    let mut row = row(alloc);
+    fill(&mut row)?;
+    Ok(row)
+}
+
+fn auth_request(alloc: Global) -> Result<NasOut, AllocError> {
+    let rand = list(alloc, 1)?;
+    let autn = list(alloc, 2)?;
+    Ok(NasOut::AuthRequest { rand, autn })
+}
+
+fn attach_accept(alloc: Global) -> Result<NasOut, AllocError> {
+    let apn = list(alloc, 97)?;
+    Ok(NasOut::AttachAccept {
+        plmn: 1,
+        tac: 2,
+        pti: 3,
+        apn,
+        ip: 4,
     })
 }
 
@@ -89,16 +151,29 @@ fn message(number: u64, body: Body) -> Message {
     }
 }
 
-fn vectors(alloc: Global) -> Result<Answer, AllocError> {
-    Ok(Answer::Vectors(
-        octets(alloc, &[1])?,
-        octets(alloc, &[2])?,
-        octets(alloc, &[3])?,
-        octets(alloc, &[4])?,
-    ))
+fn response(alloc: Global) -> Result<Message, AllocError> {
+    let res = octets(alloc, &[0xa0, 0xa1])?;
+    Ok(message(1, Body::Response { res }))
+}
+
+/// The vectors of the subscriber.
+fn vectors(alloc: Global) -> Result<Input, AllocError> {
+    let Subscriber {
+        rand,
+        autn,
+        res,
+        key,
+        ..
+    } = subscriber(alloc)?;
+    Ok(Input::Answer {
+        lane: Lane::Subscriber,
+        k: 1,
+        answer: Answer::Vectors(rand, autn, res, key),
+    })
 }
 
 fn setup(alloc: Global) -> Result<Down, AllocError> {
+    let key = key(alloc, 17)?;
     Ok(Down::Setup {
         station: 1,
         enb: 2,
@@ -108,7 +183,7 @@ fn setup(alloc: Global) -> Result<Down, AllocError> {
         teid: 6,
         eea: 7,
         eia: 8,
-        key: Key::new(octets(alloc, &[17])?),
+        key,
         accept: Accept::Yes {
             plmn: 9,
             tac: 10,
@@ -118,7 +193,17 @@ fn setup(alloc: Global) -> Result<Down, AllocError> {
     })
 }
 
+fn release() -> Down {
+    Down::Release {
+        station: 1,
+        enb: 2,
+        cause: cause(2, false, 1),
+    }
+}
+
 fn connected(alloc: Global) -> Result<Session, AllocError> {
+    let res = list(alloc, 8)?;
+    let key = key(alloc, 9)?;
     Ok(Session {
         stage: Stage::Connected,
         link: Link::On { station: 1, enb: 2 },
@@ -127,8 +212,8 @@ fn connected(alloc: Global) -> Result<Session, AllocError> {
         eea: 5,
         eia: 6,
         pti: 7,
-        res: octets(alloc, &[8])?,
-        key: Key::new(octets(alloc, &[9])?),
+        res,
+        key,
         dl: 10,
         ul: 11,
         sgw: 12,
@@ -144,143 +229,126 @@ fn connected(alloc: Global) -> Result<Session, AllocError> {
     })
 }
 
-/// The copies of the values that a device is made of.
-fn put_parts(alloc: Global, text: &mut String) -> Result<(), Fail> {
-    put_copy(text, &octets(alloc, &[7, 0, 255])?)?;
-    put_copy(text, &Areas::from(Vec::from_slice(alloc, &[9, 65535])?))?;
-    put_copy(text, &Key::zeros(alloc))?;
-    put_copy(text, &Key::new(octets(alloc, &[17])?))?;
-    put_copy(text, &cause(2, false, 3))?;
-    put_copy(text, &subscriber(alloc)?)
-}
-
-/// The copies of what comes in.
-fn put_inputs(alloc: Global, text: &mut String) -> Result<(), Fail> {
-    let rand = octets(alloc, &[1])?;
-    let autn = octets(alloc, &[2])?;
-    put_copy(text, &NasOut::AuthRequest { rand, autn })?;
-    let apn = octets(alloc, b"a")?;
-    let accept = NasOut::AttachAccept {
-        plmn: 1,
-        tac: 2,
-        pti: 3,
-        apn,
-        ip: 4,
-    };
-    put_copy(text, &accept)?;
-    let res = octets(alloc, &[0xa0, 0xa1])?;
-    put_copy(text, &message(1, Body::Response { res }))?;
-    let cause = cause(0, true, 63);
-    put_copy(text, &message(2, Body::ReleaseAsked { cause }))?;
-    let input = Input::Answer {
-        lane: Lane::Subscriber,
-        k: 1,
-        answer: vectors(alloc)?,
-    };
-    put_copy(text, &input)?;
-    put_copy(text, &Answer::Created(1, 2, 3))
-}
-
-fn release() -> Down {
-    Down::Release {
-        station: 1,
-        enb: 2,
-        cause: cause(2, false, 1),
-    }
-}
-
-/// The copies of what goes out.
-fn put_effects(alloc: Global, text: &mut String) -> Result<(), Fail> {
-    let nas = NasOut::SecurityCommand { eea: 224, eia: 192 };
-    let (station, enb) = (1, 2);
-    put_copy(text, &Down::Nas { station, enb, nas })?;
-    put_copy(text, &setup(alloc)?)?;
-    put_copy(text, &release())?;
-    put_copy(text, &GwCall::Modify(1, 2))?;
-    put_copy(text, &SubCall::Purge)
-}
-
-/// The copies of what is kept of steps.
-fn put_steps(alloc: Global, text: &mut String) -> Result<(), Fail> {
-    put_copy(text, &Session::opening(alloc))?;
-    put_copy(text, &connected(alloc)?)?;
-    let mut effects = Effects::new(alloc);
-    effects.push(Effect::Gateway(GwCall::Create))?;
-    let reply = Reply {
+fn reply(alloc: Global) -> Result<Reply, AllocError> {
+    let downs = list(alloc, Effect::Gateway(GwCall::Create))?;
+    Ok(Reply {
         number: 1,
         version: 2,
-        downs: effects.copy()?,
-    };
-    put_copy(text, &reply)?;
-    let session = Session::opening(alloc);
-    put_copy(text, &Step { session, effects })
+        downs,
+    })
 }
 
-/// The copy of what became of a device.
-fn put_end(alloc: Global, text: &mut String) -> Result<(), Fail> {
-    let mut downs = Downs::new(alloc);
-    downs.push(release())?;
-    let mut gateway = GwCalls::new(alloc);
-    gateway.push(GwCall::Modify(1, 2))?;
-    let mut subscriber = SubCalls::new(alloc);
-    subscriber.push(SubCall::Purge)?;
-    let end = DeviceEnd {
+fn step(alloc: Global) -> Result<Step, AllocError> {
+    let effects = list(alloc, Effect::Gateway(GwCall::Create))?;
+    let session = Session::opening(alloc);
+    Ok(Step { session, effects })
+}
+
+fn end(alloc: Global) -> Result<DeviceEnd, AllocError> {
+    let downs = list(alloc, release())?;
+    let gateway = list(alloc, GwCall::Modify(1, 2))?;
+    let subscriber = list(alloc, SubCall::Purge)?;
+    let session = Session::opening(alloc);
+    Ok(DeviceEnd {
         messages: 1,
         steps: 2,
         downs,
         gateway,
         subscriber,
-        session: Session::opening(alloc),
-    };
-    put_copy(text, &end)
+        session,
+    })
+}
+
+/// The copies of the values that a device is made of, and of what comes in.
+fn put_inputs(alloc: Global, text: &mut String) -> Result<(), Fail> {
+    put(text, octets(alloc, &[7, 0, 255]))?;
+    put(text, areas(alloc, &[9, 65535]))?;
+    put(text, Ok(Key::zeros(alloc)))?;
+    put(text, key(alloc, 17))?;
+    put(text, Ok(cause(2, false, 3)))?;
+    put(text, subscriber(alloc))?;
+    put(text, auth_request(alloc))?;
+    put(text, attach_accept(alloc))?;
+    put(text, response(alloc))?;
+    let cause = cause(0, true, 63);
+    put(text, Ok(message(2, Body::ReleaseAsked { cause })))?;
+    put(text, vectors(alloc))?;
+    put(text, Ok(Answer::Created(1, 2, 3)))
+}
+
+/// The copies of what goes out, and of what is kept of steps.
+fn put_effects(alloc: Global, text: &mut String) -> Result<(), Fail> {
+    let (station, enb) = (1, 2);
+    let nas = NasOut::SecurityCommand { eea: 224, eia: 192 };
+    put(text, Ok(Down::Nas { station, enb, nas }))?;
+    put(text, setup(alloc))?;
+    put(text, Ok(release()))?;
+    put(text, Ok(GwCall::Modify(1, 2)))?;
+    put(text, Ok(SubCall::Purge))?;
+    put(text, Ok(Session::opening(alloc)))?;
+    put(text, connected(alloc))?;
+    put(text, reply(alloc))?;
+    put(text, step(alloc))?;
+    put(text, end(alloc))
 }
 
 #[test]
 fn copies_are_equal(rt: HostRuntime) -> Result<(), Fail> {
     let alloc = rt.alloc();
     let mut text = String::new(alloc);
-    put_parts(alloc, &mut text)?;
     put_inputs(alloc, &mut text)?;
     put_effects(alloc, &mut text)?;
-    put_steps(alloc, &mut text)?;
-    put_end(alloc, &mut text)?;
     assert_eq!(rt; text.as_str(), COPIES);
     Ok(())
 }
 
-/// The text of a list that was made by its calls: the first value, a copy of that list, and the second value.
-fn listed<T: TryCopy + Debug>(alloc: Global, first: T, second: T) -> Result<String, Fail> {
-    let mut list = ListOf::new(alloc);
-    list.push(first)?;
+/// Puts the copy of a list behind it.
+fn double<T: TryCopy>(list: &mut ListOf<T>) -> Result<(), AllocError> {
     let copy = list.copy()?;
-    list.append(copy)?;
+    list.append(copy)
+}
+
+/// A list of the first value twice and the second.
+fn doubled<T: TryCopy>(alloc: Global, first: T, second: T) -> Result<ListOf<T>, AllocError> {
+    let mut list = list(alloc, first)?;
+    double(&mut list)?;
     list.push(second)?;
+    Ok(list)
+}
+
+/// Adds a line with the count of a list, and its values.
+fn put_list<T: Debug + Drop>(
+    text: &mut String,
+    list: Result<ListOf<T>, AllocError>,
+) -> Result<(), Fail> {
+    let list = list?;
     let count = list.items().len();
     let items = list.into_items();
-    Ok(format!(in alloc; "{count} {items:?}")?)
+    writeln!(text, "{count} {items:?}")?;
+    Ok(())
 }
 
 #[test]
 fn lists_keep_their_items(rt: HostRuntime) -> Result<(), Fail> {
     let alloc = rt.alloc();
-    assert_eq!(rt; listed(alloc, 7u8, 9)?.as_str(), "3 [7, 7, 9]");
-    assert_eq!(rt; listed(alloc, 7u16, 9)?.as_str(), "3 [7, 7, 9]");
-    assert_eq!(rt;
-        listed(alloc, GwCall::Create, GwCall::Modify(1, 2))?.as_str(),
-        "3 [Create, Create, Modify(1, 2)]"
-    );
-    assert_eq!(rt;
-        listed(alloc, SubCall::Vectors, SubCall::Purge)?.as_str(),
-        "3 [Vectors, Vectors, Purge]"
-    );
-    let (first, second) = (
-        Effect::Gateway(GwCall::Create),
-        Effect::Subscriber(SubCall::Purge),
-    );
-    assert_eq!(rt;
-        listed(alloc, first, second)?.as_str(),
-        "3 [Gateway(Create), Gateway(Create), Subscriber(Purge)]"
-    );
+    let mut text = String::new(alloc);
+    put_list(&mut text, doubled(alloc, 7u8, 9))?;
+    put_list(&mut text, doubled(alloc, 7u16, 9))?;
+    put_list(
+        &mut text,
+        doubled(alloc, GwCall::Create, GwCall::Modify(1, 2)),
+    )?;
+    put_list(&mut text, doubled(alloc, SubCall::Vectors, SubCall::Purge))?;
+    let first = Effect::Gateway(GwCall::Create);
+    let second = Effect::Subscriber(SubCall::Purge);
+    put_list(&mut text, doubled(alloc, first, second))?;
+    assert_eq!(rt; text.as_str(), LISTS);
+    Ok(())
+}
+
+#[test]
+fn octets_are_lent(rt: HostRuntime) -> Result<(), Fail> {
+    let alloc = rt.alloc();
     let octets = octets(alloc, &[3, 2])?;
     assert_eq!(rt; octets.octets(), [3, 2].as_slice());
     assert_eq!(rt; Key::zeros(alloc).octets().len(), 32);

@@ -1,6 +1,7 @@
 //! Whole reads and writes over concrete sources and sinks, and the printed texts.
 use super::*;
 use std::alloc::Global;
+use std::fmt::Write as _;
 use std::io::{self, ErrorKind, Read, Write};
 use std::test::Fail;
 
@@ -152,101 +153,141 @@ fn writes_to_a_writer(rt: HostRuntime) -> Result<(), Fail> {
     Ok(())
 }
 
+/// Every reason as it is printed, with a place where it lies in octets.
+const REFUSALS: &str = "\
+1 Truncated at 0
+2 LongLength at 1
+3 NonZeroPadding at 9
+4 NotMinimal at 12
+5 OutOfRange at 3
+6 TooLong at 10
+7 SequenceExtension at 18446744073709551615
+8 BadChoice at 0
+9 OtherProcedure 17 at 1
+10 BadCriticality at 4
+11 MissingIe 96 at 20
+12 RepeatedIe 0 at 8
+13 TrailingBytes at 30
+14 WrongDirection at 1
+15 NasShort
+16 NasDiscriminator
+17 NasKind 5e
+17 NasKind 07
+18 NasIdentity
+19 BadJson
+20 MissingColumn
+21 BadColumn
+22 RepeatedImsi
+23 RepeatedTmsi
+24 TableFull
+25 BadSection
+26 BadLine
+27 TooManyLines
+28 LineTooLong
+29 BadHex
+30 UnknownDevice tmsi 2
+30 UnknownDevice imsi 000000000000007
+30 UnknownDevice imsi 262019876543210
+31 UnknownPair 1 1
+32 BadSession
+";
+
+/// Adds a line with a refusal as it is printed.
+fn put(text: &mut String, reason: Reason, place: u64) -> Result<(), Fail> {
+    let refusal = Refusal { reason, place };
+    writeln!(text, "{refusal}")?;
+    Ok(())
+}
+
+/// What is refused in aligned PER and in S1AP.
+fn put_s1ap(text: &mut String) -> Result<(), Fail> {
+    put(text, Reason::Truncated, 0)?;
+    put(text, Reason::LongLength, 1)?;
+    put(text, Reason::NonZeroPadding, 9)?;
+    put(text, Reason::NotMinimal, 12)?;
+    put(text, Reason::OutOfRange, 3)?;
+    put(text, Reason::TooLong, 10)?;
+    put(text, Reason::SequenceExtension, u64::MAX)?;
+    put(text, Reason::BadChoice, 0)?;
+    put(text, Reason::OtherProcedure(17), 1)?;
+    put(text, Reason::BadCriticality, 4)?;
+    put(text, Reason::MissingIe(96), 20)?;
+    put(text, Reason::RepeatedIe(0), 8)?;
+    put(text, Reason::TrailingBytes, 30)?;
+    put(text, Reason::WrongDirection, 1)
+}
+
+/// What is refused in NAS and in case texts, and of devices and sessions.
+fn put_others(text: &mut String) -> Result<(), Fail> {
+    put(text, Reason::NasShort, 0)?;
+    put(text, Reason::NasDiscriminator, 0)?;
+    put(text, Reason::NasKind(0x5e), 0)?;
+    put(text, Reason::NasKind(7), 0)?;
+    put(text, Reason::NasIdentity, 0)?;
+    put(text, Reason::BadJson, 0)?;
+    put(text, Reason::MissingColumn(Column::Imsi), 0)?;
+    put(text, Reason::BadColumn(Column::Forbidden), 0)?;
+    put(text, Reason::RepeatedImsi, 0)?;
+    put(text, Reason::RepeatedTmsi, 0)?;
+    put(text, Reason::TableFull, 0)?;
+    put(text, Reason::BadSection, 0)?;
+    put(text, Reason::BadLine, 0)?;
+    put(text, Reason::TooManyLines, 0)?;
+    put(text, Reason::LineTooLong, 0)?;
+    put(text, Reason::BadHex, 0)?;
+    put(text, Reason::UnknownDevice(Identity::Tmsi(2)), 0)?;
+    put(text, Reason::UnknownDevice(Identity::Imsi(7)), 0)?;
+    let identity = Identity::Imsi(262019876543210);
+    put(text, Reason::UnknownDevice(identity), 0)?;
+    put(text, Reason::UnknownPair(1, 1), 0)?;
+    put(text, Reason::BadSession, 0)
+}
+
 #[test]
 fn prints_refusals(rt: HostRuntime) -> Result<(), Fail> {
-    for (place, reason, want) in [
-        (0, Reason::Truncated, "1 Truncated at 0"),
-        (1, Reason::LongLength, "2 LongLength at 1"),
-        (9, Reason::NonZeroPadding, "3 NonZeroPadding at 9"),
-        (12, Reason::NotMinimal, "4 NotMinimal at 12"),
-        (3, Reason::OutOfRange, "5 OutOfRange at 3"),
-        (10, Reason::TooLong, "6 TooLong at 10"),
-        (
-            18446744073709551615,
-            Reason::SequenceExtension,
-            "7 SequenceExtension at 18446744073709551615",
-        ),
-        (0, Reason::BadChoice, "8 BadChoice at 0"),
-        (1, Reason::OtherProcedure(17), "9 OtherProcedure 17 at 1"),
-        (4, Reason::BadCriticality, "10 BadCriticality at 4"),
-        (20, Reason::MissingIe(96), "11 MissingIe 96 at 20"),
-        (8, Reason::RepeatedIe(0), "12 RepeatedIe 0 at 8"),
-        (30, Reason::TrailingBytes, "13 TrailingBytes at 30"),
-        (1, Reason::WrongDirection, "14 WrongDirection at 1"),
-        (0, Reason::NasShort, "15 NasShort"),
-        (0, Reason::NasDiscriminator, "16 NasDiscriminator"),
-        (0, Reason::NasKind(0x5e), "17 NasKind 5e"),
-        (0, Reason::NasKind(7), "17 NasKind 07"),
-        (0, Reason::NasIdentity, "18 NasIdentity"),
-        (0, Reason::BadJson, "19 BadJson"),
-        (0, Reason::MissingColumn(Column::Imsi), "20 MissingColumn"),
-        (0, Reason::BadColumn(Column::Forbidden), "21 BadColumn"),
-        (0, Reason::RepeatedImsi, "22 RepeatedImsi"),
-        (0, Reason::RepeatedTmsi, "23 RepeatedTmsi"),
-        (0, Reason::TableFull, "24 TableFull"),
-        (0, Reason::BadSection, "25 BadSection"),
-        (0, Reason::BadLine, "26 BadLine"),
-        (0, Reason::TooManyLines, "27 TooManyLines"),
-        (0, Reason::LineTooLong, "28 LineTooLong"),
-        (0, Reason::BadHex, "29 BadHex"),
-        (
-            0,
-            Reason::UnknownDevice(Identity::Tmsi(2)),
-            "30 UnknownDevice tmsi 2",
-        ),
-        (
-            0,
-            Reason::UnknownDevice(Identity::Imsi(7)),
-            "30 UnknownDevice imsi 000000000000007",
-        ),
-        (
-            0,
-            Reason::UnknownDevice(Identity::Imsi(262019876543210)),
-            "30 UnknownDevice imsi 262019876543210",
-        ),
-        (0, Reason::UnknownPair(1, 1), "31 UnknownPair 1 1"),
-        (0, Reason::BadSession, "32 BadSession"),
-    ] {
-        let text = Refusal { reason, place }.to_string(rt.alloc())?;
-        assert_eq!(rt; text.as_str(), want);
-    }
+    let mut text = String::new(rt.alloc());
+    put_s1ap(&mut text)?;
+    put_others(&mut text)?;
+    assert_eq!(rt; text.as_str(), REFUSALS);
     Ok(())
+}
+
+/// The exit code of each status, and the line that is printed.
+const STATUSES: &str = "\
+0 echo: done
+1 echo: usage
+2 echo: case refused 26 BadLine line 7
+2 echo: case refused 33 line 1
+2 echo: case refused 0 line 1
+3 echo: read fault
+4 echo: write fault
+5 echo: out of memory
+";
+
+/// Adds a line with the exit code of a status, and what is printed of it.
+fn put_status(text: &mut String, status: Status) -> Result<(), Fail> {
+    let code = status.code();
+    writeln!(text, "{code} {status}")?;
+    Ok(())
+}
+
+/// Adds a line of a case that is refused.
+fn put_refused(text: &mut String, number: u8, line: u32) -> Result<(), Fail> {
+    put_status(text, Status::CaseRefused { number, line })
 }
 
 #[test]
 fn prints_statuses(rt: HostRuntime) -> Result<(), Fail> {
-    for (status, code, want) in [
-        (Status::Done, 0, "echo: done"),
-        (Status::Usage, 1, "echo: usage"),
-        (
-            Status::CaseRefused {
-                number: 26,
-                line: 7,
-            },
-            2,
-            "echo: case refused 26 BadLine line 7",
-        ),
-        (
-            Status::CaseRefused {
-                number: 33,
-                line: 1,
-            },
-            2,
-            "echo: case refused 33 line 1",
-        ),
-        (
-            Status::CaseRefused { number: 0, line: 1 },
-            2,
-            "echo: case refused 0 line 1",
-        ),
-        (Status::ReadFault, 3, "echo: read fault"),
-        (Status::WriteFault, 4, "echo: write fault"),
-        (Status::OutOfMemory, 5, "echo: out of memory"),
-    ] {
-        let text = status.to_string(rt.alloc())?;
-        assert_eq!(rt; text.as_str(), want);
-        assert_eq!(rt; status.code(), code, "{want}");
-    }
+    let mut text = String::new(rt.alloc());
+    put_status(&mut text, Status::Done)?;
+    put_status(&mut text, Status::Usage)?;
+    put_refused(&mut text, 26, 7)?;
+    put_refused(&mut text, 33, 1)?;
+    put_refused(&mut text, 0, 1)?;
+    put_status(&mut text, Status::ReadFault)?;
+    put_status(&mut text, Status::WriteFault)?;
+    put_status(&mut text, Status::OutOfMemory)?;
+    assert_eq!(rt; text.as_str(), STATUSES);
     Ok(())
 }
 

@@ -155,30 +155,23 @@ fn answer(alloc: Global, line: &[u8]) -> Result<String, AllocError> {
     }
 }
 
+/// The row of the good line.
+const ROW: &str = "Subscriber { number: 7, imsi: 208930000000001, tmsi: 1, \
+rand: ListOf { items: [0, 1, 2, 3, 4, 5, 6, 7, 8, 9, 10, 11, 12, 13, 14, 15] }, \
+autn: ListOf { items: [16, 17, 18, 19, 20, 21, 22, 23, 24, 25, 26, 27, 28, 29, 30, 31] }, \
+res: ListOf { items: [160, 161, 162, 163, 164, 165, 166, 167] }, \
+key: ListOf { items: [17, 17, 17, 17, 17, 17, 17, 17, 17, 17, 17, 17, 17, 17, 17, 17, \
+17, 17, 17, 17, 17, 17, 17, 17, 17, 17, 17, 17, 17, 17, 17, 17] }, \
+apn: ListOf { items: [105, 110, 116, 101, 114, 110, 101, 116] }, ip: 170721281, sgw: 3232235521, teid: 1, \
+ambr_dl: 1000000000, ambr_ul: 1000000000, forbidden: ListOf { items: [9] } }";
+
 #[test]
 fn reads_every_column(rt: HostRuntime) -> Result<(), Fail> {
     let alloc = rt.alloc();
     let line = line_with(alloc, "", "")?;
     let row = read_row(alloc, line.as_bytes(), 7)?;
-    let rand = hex::decode(alloc, "000102030405060708090a0b0c0d0e0f")?;
-    let autn = hex::decode(alloc, "101112131415161718191a1b1c1d1e1f")?;
-    assert_eq!(rt; row.number, 7);
-    assert_eq!(rt; row.imsi, 208930000000001);
-    assert_eq!(rt; row.tmsi, 1);
-    assert_eq!(rt; row.rand.items(), rand.as_slice());
-    assert_eq!(rt; row.autn.items(), autn.as_slice());
-    assert_eq!(rt;
-        row.res.items(),
-        b"\xa0\xa1\xa2\xa3\xa4\xa5\xa6\xa7".as_slice()
-    );
-    assert_eq!(rt; row.key.items(), [0x11; 32].as_slice());
-    assert_eq!(rt; row.apn.items(), b"internet".as_slice());
-    assert_eq!(rt; row.ip, 0x0a2d_0001);
-    assert_eq!(rt; row.sgw, 0xc0a8_0001);
-    assert_eq!(rt; row.teid, 1);
-    assert_eq!(rt; row.ambr_dl, 1_000_000_000);
-    assert_eq!(rt; row.ambr_ul, 1_000_000_000);
-    assert_eq!(rt; row.forbidden.items(), [9].as_slice());
+    let text = format!(in alloc; "{row:?}")?;
+    assert_eq!(rt; text.as_str(), ROW);
     Ok(())
 }
 
