@@ -29,7 +29,7 @@ pub use cause::Cause;
 pub use cgi::Cgi;
 pub use erab_done::ErabDone;
 pub use erab_to_setup::ErabToSetup;
-pub use item::{read_item, write_item};
+pub use item::{begin_item, read_item};
 pub use laws::{spelled_is_right, written_is_spelled};
 pub use pieces::{read_choice, read_criticality, read_zero_bit, write_choice};
 pub use sec_caps::SecCaps;

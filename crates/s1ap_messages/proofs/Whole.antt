@@ -187,7 +187,7 @@ fields_periodic [] values = constant_periodic []
 fields_periodic (row ∷ rows) [] = constant_periodic []
 fields_periodic (row ∷ rows) (v ∷ values) = then_periodic _ _ (one_periodic row v) (fields_periodic rows values)
 
-ies_periodic : (kind : MessageKind) (values : List Slot) → IsPeriodic (ies_run kind values)
+pub ies_periodic : (kind : MessageKind) (values : List Slot) → IsPeriodic (ies_run kind values)
 unfolding ies_run
 ies_periodic kind values = then_periodic _ _ (fixed_bits_periodic 1 0) (then_periodic _ _ (number_periodic 0 65535 (count_of values)) (fields_periodic (rows_of kind) values))
 

@@ -13,10 +13,10 @@ ghost use Rattle.s1ap_ies.specs.Values.{erabs_to_setup, erabs_done};
 ghost use Rattle.s1ap_messages.specs.Reading.{skipped_at, erabs_skipped_at};
 ghost use Rattle.s1ap_messages.specs.Run.{AreSome};
 
-use aper_fields::{BitReader, BitWriter, Ranged, close};
+use aper_fields::{BitReader, BitWriter, Ranged, close, end_open};
 use device_types::ListOf;
 use echo_base::{Bad, OutOfMemory, Refusal};
-use s1ap_ies::{ErabDone, ErabToSetup, OwnedValue, names, read_item, write_item};
+use s1ap_ies::{ErabDone, ErabToSetup, OwnedValue, begin_item, names, read_item};
 use std::alloc::Global;
 use std::marker::{Model, PhantomData};
 
@@ -229,9 +229,7 @@ pub fn find_erabs_done<'a>(r: &mut BitReader<'a>) -> Result<FoundErabs<'a, ErabD
 }
 
 /// Writes an item of a list, with all of its open type.
-#[tactic(auto, using(crate::proofs::Writes::short_content))]
 fn write_one<T: Erab>(
-    alloc: Global,
     w: &mut BitWriter,
     id: u16,
     criticality: u8,
@@ -241,15 +239,14 @@ fn write_one<T: Erab>(
     requires right { IsItem T.asn1 erab.now }
     ensures { OnOk result (w.new ≡ then_written w.old (item_run id criticality (run T.asn1 erab.now 0))) }
 {
-    let mut body = BitWriter::new(alloc);
-    erab.write_erab(&mut body)?;
-    write_item(w, id, criticality, &body)
+    let start = begin_item(w, id, criticality)?;
+    erab.write_erab(w)?;
+    end_open(w, start)
 }
 
 /// Writes the items of a list.
 #[tactic(auto, unfolding(s1ap_ies::specs::Asn1::each_run))]
 fn write_items<T: Erab>(
-    alloc: Global,
     w: &mut BitWriter,
     id: u16,
     criticality: u8,
@@ -261,7 +258,7 @@ fn write_items<T: Erab>(
 {
     let mut left = erabs;
     while let [erab, rest @ ..] = left {
-        write_one(alloc, w, id, criticality, erab)?;
+        write_one(w, id, criticality, erab)?;
         left = rest;
     }
     Ok(())
@@ -270,7 +267,6 @@ fn write_items<T: Erab>(
 /// Writes a list whose items have that id and criticality: how many items there are, 1 to 256, and the items.
 #[tactic(auto, unfolding(s1ap_ies::specs::Asn1::list_run))]
 fn write_erabs<T: Erab>(
-    alloc: Global,
     w: &mut BitWriter,
     id: u16,
     criticality: u8,
@@ -281,31 +277,23 @@ fn write_erabs<T: Erab>(
     ensures { OnOk result (w.new ≡ then_written w.old (list_run 1 256 (λ a. item_run id criticality (run T.asn1 a 0)) erabs.now)) }
 {
     Ranged::<1, 256>::write(w, erabs.len() as u64)?;
-    write_items(alloc, w, id, criticality, erabs)
+    write_items(w, id, criticality, erabs)
 }
 
 /// Writes an E-RAB to Be Setup List.
 #[tactic(auto, unfolding(s1ap_ies::specs::Asn1::run, s1ap_ies::specs::Values::erabs_to_setup), using(s1ap_ies::proofs::Items::setup_items))]
-pub fn write_erabs_to_setup(
-    alloc: Global,
-    w: &mut BitWriter,
-    erabs: &[ErabToSetup],
-) -> Result<(), OutOfMemory>
+pub fn write_erabs_to_setup(w: &mut BitWriter, erabs: &[ErabToSetup]) -> Result<(), OutOfMemory>
     requires { AreSome IsErabToSetup erabs.now }
     ensures { OnOk result (w.new ≡ then_written w.old (run erabs_to_setup erabs.now)) }
 {
-    write_erabs(alloc, w, names::ERAB_TO_SETUP_ITEM, names::REJECT, erabs)
+    write_erabs(w, names::ERAB_TO_SETUP_ITEM, names::REJECT, erabs)
 }
 
 /// Writes an E-RAB Setup List.
 #[tactic(auto, unfolding(s1ap_ies::specs::Asn1::run, s1ap_ies::specs::Values::erabs_done), using(s1ap_ies::proofs::Items::done_items))]
-pub fn write_erabs_done(
-    alloc: Global,
-    w: &mut BitWriter,
-    erabs: &[ErabDone],
-) -> Result<(), OutOfMemory>
+pub fn write_erabs_done(w: &mut BitWriter, erabs: &[ErabDone]) -> Result<(), OutOfMemory>
     requires { AreSome IsErabDone erabs.now }
     ensures { OnOk result (w.new ≡ then_written w.old (run erabs_done erabs.now)) }
 {
-    write_erabs(alloc, w, names::ERAB_SETUP_ITEM, names::IGNORE, erabs)
+    write_erabs(w, names::ERAB_SETUP_ITEM, names::IGNORE, erabs)
 }
