@@ -8,8 +8,11 @@ ghost use Rattle.s1ap_ies.specs.Reading.{item_at};
 ghost use Rattle.s1ap_ies.specs.Grammar.{item_in};
 ghost use Rattle.s1ap_ies.specs.Kept.{Keeps};
 ghost use Rattle.s1ap_ies.specs.Asn1.{item_run};
+ghost use Rattle.s1ap_ies.specs.Names.{criticality_number};
 
 use crate::pieces::read_criticality;
+use crate::tables::Criticality;
+use crate::whole::all_or_nothing;
 use aper_fields::{BitReader, BitWriter, Ranged, read_open, write_bits_fixed, write_open};
 use echo_base::{OutOfMemory, Reason, Refusal};
 
@@ -43,36 +46,31 @@ pub fn read_item<'a>(r: &mut BitReader<'a>, id: u16) -> Result<BitReader<'a>, Re
 fn write_fields(
     w: &mut BitWriter,
     id: u16,
-    criticality: u8,
+    criticality: Criticality,
     body: &BitWriter,
 ) -> Result<(), OutOfMemory>
-    requires criticality { criticality ≤ 2 }
     requires short { length (content_of body.now) < 8 * 2 ^ 14 }
-    ensures ok { OnOk result (w.new ≡ then_written w.old (item_run id criticality body.now)) }
+    ensures ok { OnOk result (w.new ≡ then_written w.old (item_run id (criticality_number criticality) body.now)) }
     ensures kept { OnErr result (Keeps w.old w.new) }
 {
     Ranged::<0, 65535>::write(w, u64::from(id))?;
-    write_bits_fixed(w, u64::from(criticality), 2)?;
+    write_bits_fixed(w, u64::from(criticality.number()), 2)?;
     write_open(w, body)
 }
 
-/// Writes an item with its id, its criticality (0 reject, 1 ignore, 2 notify) and what it contains. Where memory runs
+/// Writes an item with its id, its criticality and what it contains. Where memory runs
 /// out, nothing is written.
 pub fn write_item(
     w: &mut BitWriter,
     id: u16,
-    criticality: u8,
+    criticality: Criticality,
     body: &BitWriter,
 ) -> Result<(), OutOfMemory>
-    requires criticality { criticality ≤ 2 }
     requires short { length (content_of body.now) < 8 * 2 ^ 14 }
-    ensures ok { OnOk result (w.new ≡ then_written w.old (item_run id criticality body.now)) }
+    ensures ok { OnOk result (w.new ≡ then_written w.old (item_run id (criticality_number criticality) body.now)) }
     ensures err { OnErr result (w.new ≡ w.old) }
 {
     let mark = w.mark();
-    if let Err(error) = write_fields(w, id, criticality, body) {
-        w.back_to(mark);
-        return Err(error);
-    }
-    Ok(())
+    let written = write_fields(w, id, criticality, body);
+    all_or_nothing(w, mark, written)
 }
