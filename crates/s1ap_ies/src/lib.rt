@@ -23,6 +23,7 @@ mod tai;
 mod tests;
 mod ue_ids;
 mod value;
+mod whole;
 
 pub use bit_rates::BitRates;
 pub use cause::Cause;
@@ -34,7 +35,7 @@ pub use laws::{spelled_is_right, written_is_spelled};
 pub use pieces::{read_choice, read_criticality, read_zero_bit, write_choice};
 pub use sec_caps::SecCaps;
 pub use stmsi::Stmsi;
-pub use tables::{IeRow, IeTable, MessageKind, ies_of};
+pub use tables::{Criticality, IeRow, IeTable, MessageKind, ies_of};
 pub use tai::Tai;
 pub use ue_ids::UeIds;
 pub use value::{OwnedValue, PlainValue};
