@@ -4,6 +4,7 @@ ghost use Rattle.std.specs.Prelude.{◌≡◌, ◌≤◌, [], IfOk, OnOk};
 ghost use Rattle.std.specs.List.{AllByRecursion};
 ghost use Rattle.aper_fields.specs.Reading.{Gives};
 ghost use Rattle.aper_fields.specs.Run.{then_written};
+ghost use Rattle.s1ap_ies.specs.Names.{criticality_number};
 ghost use Rattle.s1ap_ies.specs.Asn1.{AsnType, reading, run, contained_item_at, list_at, each_run, list_run, item_run, CanBeWritten, IsItem};
 ghost use Rattle.s1ap_ies.specs.Many.{many_at};
 ghost use Rattle.s1ap_ies.specs.Memory.{GivesIn};
@@ -16,7 +17,8 @@ ghost use Rattle.s1ap_messages.specs.Run.{AreSome};
 use aper_fields::{BitReader, BitWriter, Ranged, close, end_open};
 use device_types::ListOf;
 use echo_base::{Bad, OutOfMemory, Refusal};
-use s1ap_ies::{ErabDone, ErabToSetup, OwnedValue, begin_item, names, read_item};
+use s1ap_ies::names::MOST_ERABS;
+use s1ap_ies::{Criticality, ErabDone, ErabToSetup, OwnedValue, begin_item, names, read_item};
 use std::alloc::Global;
 use std::marker::{Model, PhantomData};
 
@@ -117,7 +119,7 @@ fn read_erabs<T: Erab>(alloc: Global, r: &mut BitReader, id: u16) -> Result<List
     ensures { GivesIn result r.old r.new (list_at 1 256 (contained_item_at id (reading T.asn1)) r.old) }
 {
     let mut ahead = r.ahead();
-    let count = Ranged::<1, 256>::read(&mut ahead)?;
+    let count = Ranged::<1, MOST_ERABS>::read(&mut ahead)?;
     let erabs = read_many(alloc, &mut ahead, id, count)?;
     *r = ahead;
     Ok(erabs)
@@ -158,7 +160,7 @@ fn skip_erabs<T: Erab>(r: &mut BitReader, id: u16) -> Result<(), Refusal>
     ensures { Gives result r.old r.new (erabs_skipped_at id (reading T.asn1) r.old) }
 {
     let mut ahead = r.ahead();
-    let count = Ranged::<1, 256>::read(&mut ahead)?;
+    let count = Ranged::<1, MOST_ERABS>::read(&mut ahead)?;
     skip_many::<T>(&mut ahead, id, count)?;
     *r = ahead;
     Ok(())
@@ -232,12 +234,11 @@ pub fn find_erabs_done<'a>(r: &mut BitReader<'a>) -> Result<FoundErabs<'a, ErabD
 fn write_one<T: Erab>(
     w: &mut BitWriter,
     id: u16,
-    criticality: u8,
+    criticality: Criticality,
     erab: &T,
 ) -> Result<(), OutOfMemory>
-    requires criticality { criticality ≤ 2 }
     requires right { IsItem T.asn1 erab.now }
-    ensures { OnOk result (w.new ≡ then_written w.old (item_run id criticality (run T.asn1 erab.now 0))) }
+    ensures { OnOk result (w.new ≡ then_written w.old (item_run id (criticality_number criticality) (run T.asn1 erab.now 0))) }
 {
     let start = begin_item(w, id, criticality)?;
     erab.write_erab(w)?;
@@ -249,12 +250,11 @@ fn write_one<T: Erab>(
 fn write_items<T: Erab>(
     w: &mut BitWriter,
     id: u16,
-    criticality: u8,
+    criticality: Criticality,
     erabs: &[T],
 ) -> Result<(), OutOfMemory>
-    requires criticality { criticality ≤ 2 }
     requires right { AllByRecursion (λ a. IsItem T.asn1 a) erabs.now }
-    ensures { OnOk result (w.new ≡ then_written w.old (each_run (λ a. item_run id criticality (run T.asn1 a 0)) erabs.now)) }
+    ensures { OnOk result (w.new ≡ then_written w.old (each_run (λ a. item_run id (criticality_number criticality) (run T.asn1 a 0)) erabs.now)) }
 {
     let mut left = erabs;
     while let [erab, rest @ ..] = left {
@@ -269,14 +269,13 @@ fn write_items<T: Erab>(
 fn write_erabs<T: Erab>(
     w: &mut BitWriter,
     id: u16,
-    criticality: u8,
+    criticality: Criticality,
     erabs: &[T],
 ) -> Result<(), OutOfMemory>
-    requires criticality { criticality ≤ 2 }
     requires right { AreSome (λ a. IsItem T.asn1 a) erabs.now }
-    ensures { OnOk result (w.new ≡ then_written w.old (list_run 1 256 (λ a. item_run id criticality (run T.asn1 a 0)) erabs.now)) }
+    ensures { OnOk result (w.new ≡ then_written w.old (list_run 1 256 (λ a. item_run id (criticality_number criticality) (run T.asn1 a 0)) erabs.now)) }
 {
-    Ranged::<1, 256>::write(w, erabs.len() as u64)?;
+    Ranged::<1, MOST_ERABS>::write(w, erabs.len() as u64)?;
     write_items(w, id, criticality, erabs)
 }
 
@@ -286,7 +285,7 @@ pub fn write_erabs_to_setup(w: &mut BitWriter, erabs: &[ErabToSetup]) -> Result<
     requires { AreSome IsErabToSetup erabs.now }
     ensures { OnOk result (w.new ≡ then_written w.old (run erabs_to_setup erabs.now)) }
 {
-    write_erabs(w, names::ERAB_TO_SETUP_ITEM, names::REJECT, erabs)
+    write_erabs(w, names::ERAB_TO_SETUP_ITEM, Criticality::Reject, erabs)
 }
 
 /// Writes an E-RAB Setup List.
@@ -295,5 +294,5 @@ pub fn write_erabs_done(w: &mut BitWriter, erabs: &[ErabDone]) -> Result<(), Out
     requires { AreSome IsErabDone erabs.now }
     ensures { OnOk result (w.new ≡ then_written w.old (run erabs_done erabs.now)) }
 {
-    write_erabs(w, names::ERAB_SETUP_ITEM, names::IGNORE, erabs)
+    write_erabs(w, names::ERAB_SETUP_ITEM, Criticality::Ignore, erabs)
 }

@@ -6,7 +6,7 @@ ghost use Rattle.aper_fields.specs.Run.{then_written};
 ghost use Rattle.s1ap_ies.specs.Tables.{rows_of};
 ghost use Rattle.s1ap_messages.specs.Messages.{kind_of, values_of};
 ghost use Rattle.s1ap_messages.specs.Lent.{seen, all_seen};
-ghost use Rattle.s1ap_messages.specs.Run.{value_run, ie_run, fields_run, ies_run, written, IsRightValue, IsRightField, IsRight, count_of, HasCriticality};
+ghost use Rattle.s1ap_messages.specs.Run.{value_run, ie_run, fields_run, ies_run, written, IsRightValue, IsRightField, IsRight, count_of};
 
 use crate::header::{header_of, write_header};
 use crate::lists::{write_erabs_done, write_erabs_to_setup};
@@ -20,6 +20,7 @@ use aper_fields::{
 };
 use device_types::Octets;
 use echo_base::OutOfMemory;
+use s1ap_ies::names::{MOST_ENB_UE_S1AP_ID, MOST_MME_UE_S1AP_ID, RRC_CAUSE_ROOTS};
 use s1ap_ies::{IeRow, MessageKind, PlainValue, begin_item, ies_of};
 use std::alloc::Global;
 
@@ -30,9 +31,9 @@ fn write_value(w: &mut BitWriter, value: &LentValue) -> Result<(), OutOfMemory>
     ensures { OnOk result (w.new ≡ then_written w.old (value_run (seen value.now))) }
 {
     match value {
-        IeValue::Mme(mme) => Ranged::<0, 4294967295>::write(w, u64::from(*mme)),
+        IeValue::Mme(mme) => Ranged::<0, MOST_MME_UE_S1AP_ID>::write(w, u64::from(*mme)),
         IeValue::Cause(cause) => cause.write(w),
-        IeValue::Enb(enb) => Ranged::<0, 16777215>::write(w, u64::from(*enb)),
+        IeValue::Enb(enb) => Ranged::<0, MOST_ENB_UE_S1AP_ID>::write(w, u64::from(*enb)),
         IeValue::Bearers(bearers) => write_erabs_to_setup(w, bearers.items()),
         IeValue::Nas(nas) => write_octet_string(w, nas.items()),
         IeValue::Done(done) => write_erabs_done(w, done.items()),
@@ -44,14 +45,13 @@ fn write_value(w: &mut BitWriter, value: &LentValue) -> Result<(), OutOfMemory>
         IeValue::Ids(ids) => ids.write(w),
         IeValue::Cgi(cgi) => cgi.write(w),
         IeValue::Caps(caps) => caps.write(w),
-        IeValue::Rrc(rrc) => write_enum(w, 5, true, *rrc),
+        IeValue::Rrc(rrc) => write_enum(w, RRC_CAUSE_ROOTS, true, *rrc),
     }
 }
 
 /// Writes an IE with the id and criticality of its row, where the message has it.
 #[tactic(auto, unfolding(crate::specs::Run::ie_run))]
 fn write_ie(w: &mut BitWriter, row: &IeRow, value: &Option<LentValue>) -> Result<(), OutOfMemory>
-    requires criticality { HasCriticality row.now }
     requires right { IfSome (option_map seen value.now) IsRightField }
     ensures { OnOk result (w.new ≡ then_written w.old (ie_run row.now (option_map seen value.now))) }
 {
@@ -70,7 +70,6 @@ fn write_fields(
     rows: &[IeRow],
     values: &[Option<LentValue>],
 ) -> Result<(), OutOfMemory>
-    requires criticalities { AllByRecursion HasCriticality rows.now }
     requires right { AllByRecursion (λ v. IfSome v IsRightField) (all_seen values.now) }
     ensures { OnOk result (w.new ≡ then_written w.old (fields_run rows.now (all_seen values.now))) }
 {

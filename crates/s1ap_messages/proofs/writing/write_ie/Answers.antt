@@ -1,4 +1,5 @@
 use Rattle.std.proofs.lemmas.Result.{on_ok_weaker}
+use Rattle.s1ap_ies.specs.Names.{criticality_number}
 use Rattle.s1ap_messages.specs.Lent.{seen}
 use Rattle.s1ap_messages.specs.Run.{ie_run, value_run, IsRightField}
 use Rattle.s1ap_messages.proofs.Runs.{value_periodic}
@@ -15,4 +16,4 @@ pub returns : goal.returns
 unfolding ie_run
 returns c =
     let v = seen c.in-Some.value in
-    rw c.in-Some.is (on_ok_weaker c.end_open.result (item_in_place c.args.w.now c.begin_item.new.w c.write_value.new.w c.end_open.new.w c.args.row.now.id c.args.row.now.criticality (value_run v) c.in_ok-start.start (value_periodic v) c.in_ok-start.ensures.ok c.in_ok-start.ensures.place c.in_ok-write_value.ensures) c.end_open.ensures.ok)
+    rw c.in-Some.is (on_ok_weaker c.end_open.result (item_in_place c.args.w.now c.begin_item.new.w c.write_value.new.w c.end_open.new.w c.args.row.now.id (criticality_number c.args.row.now.criticality) (value_run v) c.in_ok-start.start (value_periodic v) c.in_ok-start.ensures.ok c.in_ok-start.ensures.place c.in_ok-write_value.ensures) c.end_open.ensures.ok)
