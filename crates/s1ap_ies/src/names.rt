@@ -85,7 +85,7 @@ pub const MOST_BIT_RATE: u64 = 10_000_000_000;
 pub const MOST_ERABS: u64 = 256;
 
 /// How many root values an RRC Establishment Cause has (9.2.1.3a).
-pub const RRC_CAUSE_ROOTS: u64 = 5;
+pub const RRC_CAUSE_ROOTS: u32 = 5;
 
 /// How many octets a security key has (9.2.1.41).
 pub const SECURITY_KEY_OCTETS: usize = 32;

@@ -99,7 +99,7 @@ ie_there kind before row v at free is typed right octets =
     let body = open_run (value_run v 0) j in
     let spelled : IsSpelledBy (value_in row.id) v (value_run v) = subst (λ n. IsSpelledBy (value_in n) v (value_run v)) typed (value_spelled v right.0 octets) in
     let o = open_holds (value_in row.id) v (value_run v) j spelled (value_periodic v) (value_some v right.0, right.1) in
-    (row.id, first, second ++ body, refl, (row.id, rw free refl, ((omega arith, omega (arith, leb-true _ _ limits.0)), refl)), (row.criticality, second, body, refl, criticality_spelled (criticality_number row.criticality) i (leb-true _ _ limits.1), (o.0, body, [], sym (append-nil body), o.1, rw parts.0 (v, [], [], refl, (o.2, refl), (refl, refl)))))
+    (row.id, first, second ++ body, refl, (row.id, rw free refl, ((omega arith, omega (arith, leb-true _ _ limits.0)), refl)), (criticality_number row.criticality, second, body, refl, criticality_spelled (criticality_number row.criticality) i (leb-true _ _ limits.1), (o.0, body, [], sym (append-nil body), o.1, rw parts.0 (v, [], [], refl, (o.2, refl), (refl, refl)))))
 
 -- ---- the IEs of a table
 

@@ -68,14 +68,46 @@ pub fn header_of(kind: MessageKind) -> Header
     match kind {
         MessageKind::InitialUeMessage => begins(Initiating, names::INITIAL_UE_MESSAGE, Ignore),
         MessageKind::UplinkNasTransport => begins(Initiating, names::UPLINK_NAS_TRANSPORT, Ignore),
-        MessageKind::DownlinkNasTransport => begins(Initiating, names::DOWNLINK_NAS_TRANSPORT, Ignore),
-        MessageKind::InitialContextSetupRequest => begins(Initiating, names::INITIAL_CONTEXT_SETUP, Reject),
-        MessageKind::InitialContextSetupResponse => begins(Successful, names::INITIAL_CONTEXT_SETUP, Reject),
-        MessageKind::InitialContextSetupFailure => begins(Unsuccessful, names::INITIAL_CONTEXT_SETUP, Reject),
-        MessageKind::UeContextReleaseRequest => begins(Initiating, names::UE_CONTEXT_RELEASE_REQUEST, Ignore),
-        MessageKind::UeContextReleaseCommand => begins(Initiating, names::UE_CONTEXT_RELEASE, Reject),
-        MessageKind::UeContextReleaseComplete => begins(Successful, names::UE_CONTEXT_RELEASE, Reject),
-        MessageKind::UeCapabilityInfoIndication => begins(Initiating, names::UE_CAPABILITY_INFO_INDICATION, Ignore),
+        MessageKind::DownlinkNasTransport => begins(
+            Initiating,
+            names::DOWNLINK_NAS_TRANSPORT,
+            Ignore,
+        ),
+        MessageKind::InitialContextSetupRequest => begins(
+            Initiating,
+            names::INITIAL_CONTEXT_SETUP,
+            Reject,
+        ),
+        MessageKind::InitialContextSetupResponse => begins(
+            Successful,
+            names::INITIAL_CONTEXT_SETUP,
+            Reject,
+        ),
+        MessageKind::InitialContextSetupFailure => begins(
+            Unsuccessful,
+            names::INITIAL_CONTEXT_SETUP,
+            Reject,
+        ),
+        MessageKind::UeContextReleaseRequest => begins(
+            Initiating,
+            names::UE_CONTEXT_RELEASE_REQUEST,
+            Ignore,
+        ),
+        MessageKind::UeContextReleaseCommand => begins(
+            Initiating,
+            names::UE_CONTEXT_RELEASE,
+            Reject,
+        ),
+        MessageKind::UeContextReleaseComplete => begins(
+            Successful,
+            names::UE_CONTEXT_RELEASE,
+            Reject,
+        ),
+        MessageKind::UeCapabilityInfoIndication => begins(
+            Initiating,
+            names::UE_CAPABILITY_INFO_INDICATION,
+            Ignore,
+        ),
     }
 }
 

@@ -9,9 +9,8 @@ use crate::pdu::{ErabsDone, ErabsToSetup};
 use aper_fields::{BitReader, EnumValue, Ranged, read_enum, read_octet_string, read_octets_fixed};
 use device_types::Octets;
 use echo_base::{OutOfMemory, Refusal};
-use s1ap_ies::names;
 use s1ap_ies::{
-    BitRates, Cause, Cgi, ErabDone, ErabToSetup, PlainValue, SecCaps, Stmsi, Tai, UeIds,
+    BitRates, Cause, Cgi, ErabDone, ErabToSetup, PlainValue, SecCaps, Stmsi, Tai, UeIds, names,
 };
 use std::alloc::Global;
 use std::marker::Model;
@@ -107,9 +106,13 @@ pub fn find_value<'a>(r: &mut BitReader<'a>, id: u16) -> Result<FoundValue<'a>, 
     ensures { Gives result r.old r.new (value_at id r.old) }
 {
     match id {
-        names::MME_UE_S1AP_ID => Ok(IeValue::Mme(Ranged::<0, { names::MOST_MME_UE_S1AP_ID }>::read(r)? as u32)),
+        names::MME_UE_S1AP_ID => Ok(IeValue::Mme(
+            Ranged::<0, { names::MOST_MME_UE_S1AP_ID }>::read(r)? as u32,
+        )),
         names::CAUSE => Ok(IeValue::Cause(Cause::read(r)?)),
-        names::ENB_UE_S1AP_ID => Ok(IeValue::Enb(Ranged::<0, { names::MOST_ENB_UE_S1AP_ID }>::read(r)? as u32)),
+        names::ENB_UE_S1AP_ID => Ok(IeValue::Enb(
+            Ranged::<0, { names::MOST_ENB_UE_S1AP_ID }>::read(r)? as u32,
+        )),
         names::ERABS_TO_SETUP => Ok(IeValue::Bearers(find_erabs_to_setup(r)?)),
         names::NAS_PDU => Ok(IeValue::Nas(find_text(r, names::MOST_OCTETS_OF_NAS)?)),
         names::ERABS_DONE => Ok(IeValue::Done(find_erabs_done(r)?)),
