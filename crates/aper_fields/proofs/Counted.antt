@@ -5,13 +5,13 @@ use Rattle.std.proofs.lemmas.List.{take_at, drop_at, length-append, length-repli
 use Rattle.std.proofs.lemmas.List.Edits.{insert-append_right}
 use Rattle.std.proofs.Math.Seq.{set-append_seam}
 use Rattle.aper_fields.specs.Bits.{bits, bits_of, zeros, gap, filled}
-use Rattle.aper_fields.specs.Buffer.{FreeBehind, before_free}
-use Rattle.aper_fields.specs.Run.{Run, then_written, ◌▸◌, padding_run, length_octets, length_run, octet_string_run, content_of, open_run}
+use Rattle.aper_fields.specs.Buffer.{FreeBehind}
+use Rattle.aper_fields.specs.Run.{Run, then_written, ◌▸◌, length_octets, length_run, octet_string_run, content_of, open_run}
 use Rattle.aper_fields.proofs.BitLaws.{length-bits, length-bits_of, bits_of-append}
-use Rattle.aper_fields.proofs.Fill.{before_free-is, before_free-whole, filled-is, length-run, free-gap, two_more}
+use Rattle.aper_fields.proofs.Fill.{length-run, free-gap, two_more}
 use Rattle.aper_fields.proofs.Packed.{length-filled}
 use Rattle.aper_fields.proofs.Periodic.{IsPeriodic, open_periodic}
-use Rattle.aper_fields.proofs.Pieces.{length_octets-short, length_octets-long, length_run-ends, open_run-none, open_run-some}
+use Rattle.aper_fields.proofs.Pieces.{length_octets-short, length_octets-long, open_run-none, open_run-some}
 
 whole_filled : (octets : List ℕ) → filled (bits_of octets) ≡ bits_of octets
 whole_filled octets =

@@ -1,4 +1,4 @@
-use Rattle.std.proofs.Common.{◌-◌, length, arith}
+use Rattle.std.proofs.Common.{◌-◌, arith}
 use Rattle.aper_fields.proofs.Counted.{counted_none, counted_short, counted_long}
 use Rattle.aper_fields.proofs.writer.put_count.Goals as goal
 

@@ -1,4 +1,4 @@
-use Rattle.std.proofs.Common.{◌≡◌, ◌+◌, ◌-◌, ◌*◌, ◌^◌, ◌<◌, ◌≤◌, length, drop, ◌∙◌, arith}
+use Rattle.std.proofs.Common.{◌≡◌, ◌*◌, ◌^◌, ◌<◌, ◌≤◌, length, drop, ◌∙◌, arith}
 use Rattle.aper_fields.specs.Buffer.{before_free}
 use Rattle.aper_fields.specs.Run.{content_of}
 use Rattle.aper_fields.proofs.Counted.{counted_run, content_few}
