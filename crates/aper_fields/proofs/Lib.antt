@@ -15,3 +15,4 @@ pub mod Widths
 pub mod Written
 pub mod Lengths
 pub mod ReadBack
+pub mod Counted

@@ -13,7 +13,7 @@ use Rattle.aper_fields.proofs.BitLaws.{length-bits, length-bits_of, bits-add, bi
 
 -- ---- lengths
 
-length_octets-short : (n : ℕ) → n < 128 → bits 8 n ≡ length_octets n
+pub length_octets-short : (n : ℕ) → n < 128 → bits 8 n ≡ length_octets n
 unfolding bits length_octets
 length_octets-short n h =
     let none : n / 2 ^ 7 ≡ 0 = div-eq_of_lt h in
@@ -23,7 +23,7 @@ two_bits : bits 2 2 ≡ true ∷ false ∷ []
 unfolding bits
 two_bits = refl
 
-length_octets-long : (n : ℕ) → 128 ≤ n → n < 2 ^ 14 → bits 16 (32768 + n) ≡ length_octets n
+pub length_octets-long : (n : ℕ) → 128 ≤ n → n < 2 ^ 14 → bits 16 (32768 + n) ≡ length_octets n
 unfolding length_octets
 length_octets-long n h small =
     let e : 32768 + n ≡ 2 * 2 ^ 14 + n = omega arith in

@@ -23,5 +23,6 @@ pub use reading::{
 };
 pub use writer::{BitWriter, Mark};
 pub use writing::{
-    write_bits_fixed, write_enum, write_len, write_octet_string, write_octets_fixed, write_open,
+    begin_open, end_open, write_bits_fixed, write_enum, write_len, write_octet_string,
+    write_octets_fixed, write_open,
 };

@@ -1,9 +1,9 @@
 //! Writing bits.
 
-ghost use Rattle.std.specs.Prelude.{◌≡◌, ℕ, ◌+◌, ◌-◌, ◌*◌, ◌/◌, ◌%◌, ◌^◌, ◌<◌, ◌≤◌, ◌++◌, List, [], length, take, OnOk, OnErr, IfOk};
+ghost use Rattle.std.specs.Prelude.{◌≡◌, ℕ, ◌+◌, ◌-◌, ◌*◌, ◌/◌, ◌%◌, ◌^◌, ◌<◌, ◌≤◌, ◌++◌, List, [], length, take, drop, OnOk, OnErr, IfOk};
 ghost use Rattle.aper_fields.specs.Bits.{bits, bits_of, octets_of, zeros, filled, packed};
 ghost use Rattle.aper_fields.specs.Buffer.{FreeBehind, before_free};
-ghost use Rattle.aper_fields.specs.Run.{then_written, ◌▸◌, bits_run, padding_run, fixed_octets_run};
+ghost use Rattle.aper_fields.specs.Run.{then_written, ◌▸◌, bits_run, padding_run, fixed_octets_run, content_of, open_run};
 
 use std::alloc::{AllocError, Global};
 use std::marker::Model;
@@ -47,7 +47,8 @@ impl Model for Mark {
 
 /// Octets as they are: each is the number that its eight bits spell.
 fn as_octets(octets: &[u8]) -> &[u8]
-    ensures { result.now ≡ octets_of (length octets.now) (bits_of octets.now) }
+    ensures same { result.now ≡ octets.now }
+    ensures octets { result.now ≡ octets_of (length octets.now) (bits_of octets.now) }
 {
     octets
 }
@@ -124,6 +125,36 @@ fn add_two(bytes: &mut Vec<u8>, value: u64) -> Result<(), AllocError>
 {
     bytes.extend_from_slice(&[(value >> 8) as u8, (value & 0xff) as u8])?;
     Ok(())
+}
+
+/// Puts the count of the octets from a place on into the octet before the place, or into that and one octet more. Where there are
+/// none, an octet of zeros is put there first.
+fn put_count(bytes: &mut Vec<u8>, start: usize) -> Result<(), AllocError>
+    requires room { 1 ≤ start }
+    requires within { start ≤ length bytes.old.items }
+    requires few { length bytes.old.items - start < 2 ^ 14 }
+    ensures ok { OnOk result (bits_of bytes.new.items ≡ take (8 * start - 8) (bits_of bytes.old.items) ++ open_run (drop (8 * start) (bits_of bytes.old.items)) 0) }
+    ensures err { OnErr result (bytes.new.items ≡ bytes.old.items) }
+{
+    let count = bytes.len() - start;
+    if count == 0 {
+        bytes.push(0)?;
+        bytes[start - 1] = 1;
+        return Ok(());
+    }
+    if count < 128 {
+        bytes[start - 1] = count as u8;
+        return Ok(());
+    }
+    // the bits 10 before fourteen bits of the count
+    let word = 0x8000 + count;
+    match bytes.insert(start, (word % 256) as u8) {
+        Ok(()) => {
+            bytes[start - 1] = (word / 256) as u8;
+            Ok(())
+        }
+        Err(_) => Err(AllocError),
+    }
 }
 
 /// Writes a number of so many bits where bits are free.
@@ -213,6 +244,14 @@ impl BitWriter {
         as_octets(&self.bytes)
     }
 
+    /// The octets that were written, in the memory that they were written to: the last one is filled up with zeros.
+    pub fn into_bytes(self) -> Vec<u8>
+        ensures { result.items ≡ packed self }
+    {
+        as_octets(&self.bytes);
+        self.bytes
+    }
+
     /// Writes a number in so many bits.
     pub(crate) fn write_bits(&mut self, value: u64, count: u32) -> Result<(), AllocError>
         requires fits { value < 2 ^ count }
@@ -242,6 +281,20 @@ impl BitWriter {
     {
         begin(&mut self.bytes)?;
         self.bytes.extend_from_slice(octets)?;
+        self.free = 0;
+        Ok(())
+    }
+
+    /// Makes an open type of what was written behind a place: its count goes into the octet before the place.
+    pub(crate) fn put_count(&mut self, start: Mark) -> Result<(), AllocError>
+        requires whole { start % 8 ≡ 0 }
+        requires room { 8 ≤ start }
+        requires within { start ≤ length self.old }
+        requires few { length (content_of (drop start self.old)) < 8 * 2 ^ 14 }
+        ensures ok { OnOk result (self.new ≡ then_written (take (start - 8) self.old) (open_run (drop start self.old))) }
+        ensures err { OnErr result (self.new ≡ self.old) }
+    {
+        put_count(&mut self.bytes, start.octets)?;
         self.free = 0;
         Ok(())
     }

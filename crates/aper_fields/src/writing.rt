@@ -1,12 +1,12 @@
 //! Writing pieces: numbers, lengths, octets, bit strings, enumerations and open types.
 
-ghost use Rattle.std.specs.Prelude.{◌≡◌, ◌-◌, ◌*◌, ◌^◌, ◌<◌, ◌≤◌, length, OnOk, OnErr};
+ghost use Rattle.std.specs.Prelude.{◌≡◌, ◌-◌, ◌*◌, ◌%◌, ◌^◌, ◌<◌, ◌≤◌, length, take, drop, OnOk, OnErr, IfOk};
 ghost use Rattle.aper_fields.specs.Run.{then_written, number_run, counted_run, length_run, fixed_octets_run, octet_string_run, fixed_bits_run, enumerated_run, content_of, open_run};
 ghost use Rattle.aper_fields.specs.Spelling.{IsEnumValue};
 
 use crate::enumerated::EnumValue;
 use crate::width::{octet_count, width};
-use crate::writer::BitWriter;
+use crate::writer::{BitWriter, Mark};
 use std::alloc::AllocError;
 
 #[cfg(test)]
@@ -151,4 +151,30 @@ pub fn write_open(w: &mut BitWriter, body: &BitWriter) -> Result<(), AllocError>
     } else {
         write_octet_string(w, octets)
     }
+}
+
+/// Writes the octet that stands before what an open type contains, up to `end_open`, and says where that begins: the content is
+/// written behind it, in the same octets. Where memory runs out, nothing is written.
+pub fn begin_open(w: &mut BitWriter) -> Result<Mark, AllocError>
+    ensures ok { OnOk result (w.new ≡ then_written w.old (length_run 0)) }
+    ensures place { IfOk result (λ start. start ≡ length w.new) }
+    ensures whole { IfOk result (λ start. start % 8 ≡ 0) }
+    ensures room { IfOk result (λ start. 8 ≤ start) }
+    ensures err { OnErr result (w.new ≡ w.old) }
+{
+    write_len(w, 0)?;
+    Ok(w.mark())
+}
+
+/// Makes an open type of what was written behind a place that `begin_open` gave: the octet before it becomes the count of its octets, one
+/// more is put there where the count needs two (ITU-T X.691, Open type fields). Where memory runs out, nothing is changed.
+pub fn end_open(w: &mut BitWriter, start: Mark) -> Result<(), AllocError>
+    requires whole { start % 8 ≡ 0 }
+    requires room { 8 ≤ start }
+    requires within { start ≤ length w.old }
+    requires few { length (content_of (drop start w.old)) < 8 * 2 ^ 14 }
+    ensures ok { OnOk result (w.new ≡ then_written (take (start - 8) w.old) (open_run (drop start w.old))) }
+    ensures err { OnErr result (w.new ≡ w.old) }
+{
+    w.put_count(start)
 }

@@ -9,7 +9,7 @@ use Rattle.aper_fields.specs.Spelling.{IsEnumValue}
 use Rattle.aper_fields.specs.Format as formats
 use Rattle.aper_fields.specs.Format.{Format, ◌>>=◌, just, passing, mapped, either, fixed_bits_in, number_in, enumerated_in, octet_string_in}
 use Rattle.aper_fields.specs.Reading.{fixed_bits_at, number_at, enumerated_at, octet_string_at}
-use Rattle.aper_fields.specs.Run.{Run, ◌▸◌, fixed_bits_run, number_run, enumerated_run, nothing_run, octet_string_run, open_run}
+use Rattle.aper_fields.specs.Run.{Run, ◌▸◌, fixed_bits_run, number_run, enumerated_run, nothing_run, octet_string_run, open_run, length_run}
 use Rattle.s1ap_ies.specs.Grammar.{zero_bit_in, present_in, extensions_in, choice_in, item_in}
 use Rattle.s1ap_ies.specs.Many.{many_in, many_at, inside, inside_at}
 use Rattle.s1ap_ies.specs.Reading as reader
@@ -163,6 +163,10 @@ list_run low high run xs = number_run low (high - low) (length xs) ▸ each_run 
 -- an item of a list, with its id, its criticality and what it contains
 unfoldable pub item_run : ℕ → ℕ → List Bool → Run
 item_run id criticality body = number_run 0 65535 id ▸ fixed_bits_run 2 criticality ▸ open_run body
+
+-- the same up to what it contains, before that is counted
+abbrev pub item_start : ℕ → ℕ → Run
+item_start id criticality = number_run 0 65535 id ▸ fixed_bits_run 2 criticality ▸ length_run 0
 
 -- the bits that say what is present, and a run behind them
 unfoldable pub flags_run : {P A : Type 0} → Fields P A → A → Run → Run

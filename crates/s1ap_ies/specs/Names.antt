@@ -1,5 +1,7 @@
--- Ids, criticalities and limits by name (TS 36.413, 9.3).
+-- Criticalities, ids, procedure codes and limits by name (TS 36.413, 9.3).
 use Rattle.std.specs.Prelude.{ℕ}
+use Rattle.s1ap_ies.specs.declared.tables.Criticality.{Criticality}
+use Rattle.s1ap_ies.specs.declared.tables.Criticality.TheVariants.{Reject, Ignore, Notify}
 
 -- ---- criticalities (9.3.3)
 
@@ -11,6 +13,11 @@ ignore = 1
 
 abbrev pub notify : ℕ
 notify = 2
+
+abbrev pub criticality_number : Criticality → ℕ
+criticality_number Reject = reject
+criticality_number Ignore = ignore
+criticality_number Notify = notify
 
 -- ---- ids of IEs (9.3.7)
 
@@ -82,7 +89,54 @@ erab_setup_item = 50
 abbrev pub erab_to_setup_item : ℕ
 erab_to_setup_item = 52
 
+-- ---- procedure codes (9.3.6)
+
+abbrev pub initial_context_setup : ℕ
+initial_context_setup = 9
+
+abbrev pub downlink_nas_transport : ℕ
+downlink_nas_transport = 11
+
+abbrev pub initial_ue_message : ℕ
+initial_ue_message = 12
+
+abbrev pub uplink_nas_transport : ℕ
+uplink_nas_transport = 13
+
+abbrev pub ue_context_release_request : ℕ
+ue_context_release_request = 18
+
+abbrev pub ue_capability_info_indication : ℕ
+ue_capability_info_indication = 22
+
+abbrev pub ue_context_release : ℕ
+ue_context_release = 23
+
 -- ---- limits
+
+-- the greatest MME UE S1AP ID (9.2.3.3)
+abbrev pub most_mme_ue_s1ap_id : ℕ
+most_mme_ue_s1ap_id = 4294967295
+
+-- the greatest eNB UE S1AP ID (9.2.3.4)
+abbrev pub most_enb_ue_s1ap_id : ℕ
+most_enb_ue_s1ap_id = 16777215
+
+-- the greatest bit rate (9.2.1.19), in bit/s
+abbrev pub most_bit_rate : ℕ
+most_bit_rate = 10000000000
+
+-- root values of an RRC Establishment Cause (9.2.1.3a)
+abbrev pub rrc_cause_roots : ℕ
+rrc_cause_roots = 5
+
+-- octets of a security key (9.2.1.41)
+abbrev pub security_key_octets : ℕ
+security_key_octets = 32
+
+-- octets of an open type, and of a string, as a UE Radio Capability is: as many as one length says (X.691, 11.9)
+abbrev pub most_octets : ℕ
+most_octets = 16383
 
 -- maxnoofE-RABs
 abbrev pub most_erabs : ℕ

@@ -1,25 +1,26 @@
 -- The information elements of each kind of message (3GPP TS 36.413, 9.1).
 use Rattle.std.specs.Prelude.{ℕ, true, false, List, [], ◌∷◌}
 use Rattle.s1ap_ies.specs.Names as names
+use Rattle.s1ap_ies.specs.declared.tables.Criticality.TheVariants.{Reject, Ignore}
 use Rattle.s1ap_ies.specs.declared.tables.IeRow.{IeRow}
 use Rattle.s1ap_ies.specs.declared.tables.MessageKind.{MessageKind}
 use Rattle.s1ap_ies.specs.declared.tables.MessageKind.TheVariants.{InitialUeMessage, UplinkNasTransport, DownlinkNasTransport, InitialContextSetupRequest, InitialContextSetupResponse, InitialContextSetupFailure, UeContextReleaseRequest, UeContextReleaseCommand, UeContextReleaseComplete, UeCapabilityInfoIndication}
 
 -- a needed element, whose criticality is reject
 abbrev pub reject : ℕ → IeRow
-reject id = record { id = id; criticality = names.reject; needed = true }
+reject id = record { id = id; criticality = Reject; needed = true }
 
 -- a needed element, whose criticality is ignore
 abbrev pub ignore : ℕ → IeRow
-ignore id = record { id = id; criticality = names.ignore; needed = true }
+ignore id = record { id = id; criticality = Ignore; needed = true }
 
 -- an element that may be absent, whose criticality is reject
 abbrev pub optional : ℕ → IeRow
-optional id = record { id = id; criticality = names.reject; needed = false }
+optional id = record { id = id; criticality = Reject; needed = false }
 
 -- the row behind the last element
 abbrev pub no_row : IeRow
-no_row = record { id = 0; criticality = 0; needed = false }
+no_row = record { id = 0; criticality = Reject; needed = false }
 
 -- the elements of a message in order, each message under its own heading
 abbrev pub rows_of : MessageKind → List IeRow

@@ -4,7 +4,7 @@ use Rattle.std.proofs.Common.{inl, inr}
 use Rattle.echo_base.specs.declared.reason.Reason.TheVariants as reasons
 use Rattle.device_types.specs.Cause.{cause_roots}
 use Rattle.s1ap_ies.specs.Asn1.{AsnType, bit_string, integer, only, octet_string, enumerated, choice_index, extensible, on, choice, sequence, needed, optional, absent, also, named, container, sequence_of}
-use Rattle.s1ap_ies.specs.Names.{most_octets_of_nas, most_erabs, erab_to_setup_item, erab_setup_item, reject, ignore}
+use Rattle.s1ap_ies.specs.Names.{most_octets_of_nas, most_erabs, most_bit_rate, most_mme_ue_s1ap_id, most_enb_ue_s1ap_id, erab_to_setup_item, erab_setup_item, reject, ignore}
 use Rattle.s1ap_ies.specs.declared.tai.Tai.{Tai}
 use Rattle.s1ap_ies.specs.declared.cgi.Cgi.{Cgi}
 use Rattle.s1ap_ies.specs.declared.stmsi.Stmsi.{Stmsi}
@@ -35,7 +35,7 @@ stmsi = named (record { make = λ v. record { mmec = v.0; tmsi = v.1 }; parts = 
 -- UE Aggregate Maximum Bit Rate (9.2.1.20): downlink, then uplink, in bit/s
 abbrev pub bit_rates : AsnType BitRates
 bit_rates = named (record { make = λ v. record { dl = v.0; ul = v.1 }; parts = λ v. (v.dl, v.ul); back = λ v. refl; again = λ v. refl })
-    (sequence (also (needed (integer 0 10000000000 refl)) (needed (integer 0 10000000000 refl))))
+    (sequence (also (needed (integer 0 most_bit_rate refl)) (needed (integer 0 most_bit_rate refl))))
 
 -- algorithms: BIT STRING (SIZE (16, ...))
 abbrev pub algorithms : AsnType ℕ
@@ -81,7 +81,7 @@ ids_again (Mme mme) = refl
 -- UE S1AP IDs (9.2.3.18): a CHOICE of both identities, and that of the MME alone
 abbrev pub ue_ids : AsnType UeIds
 ue_ids = named (record { make = ids_of; parts = parts_of; back = ids_back; again = ids_again })
-    (choice (sequence (also (needed (integer 0 4294967295 refl)) (needed (integer 0 16777215 refl)))) (integer 0 4294967295 refl))
+    (choice (sequence (also (needed (integer 0 most_mme_ue_s1ap_id refl)) (needed (integer 0 most_enb_ue_s1ap_id refl)))) (integer 0 most_mme_ue_s1ap_id refl))
 
 -- E-RAB ID (9.2.1.2): INTEGER (0..15, ...)
 unfoldable pub erab_id : AsnType ℕ

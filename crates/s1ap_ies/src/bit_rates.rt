@@ -2,6 +2,7 @@
 
 ghost use Rattle.std.specs.Prelude.{◌≡◌, OnOk, OnErr};
 
+use crate::names::MOST_BIT_RATE;
 use crate::pieces::read_zero_bit;
 use crate::sequence::{read_present, skip_extensions, write_preamble};
 use crate::value::PlainValue;
@@ -30,8 +31,8 @@ impl PlainValue for BitRates {
         let mut ahead = r.ahead();
         read_zero_bit(&mut ahead, Reason::SequenceExtension)?;
         let more = read_present(&mut ahead)?;
-        let dl = Ranged::<0, 10000000000>::read(&mut ahead)?;
-        let ul = Ranged::<0, 10000000000>::read(&mut ahead)?;
+        let dl = Ranged::<0, MOST_BIT_RATE>::read(&mut ahead)?;
+        let ul = Ranged::<0, MOST_BIT_RATE>::read(&mut ahead)?;
         skip_extensions(&mut ahead, more)?;
         *r = ahead;
         Ok(BitRates { dl, ul })
@@ -40,7 +41,7 @@ impl PlainValue for BitRates {
     #[tactic(auto, unfolding(crate::specs::Asn1::run, crate::specs::Asn1::flags_run, crate::specs::Asn1::fields_run))]
     fn write_pieces(self, w: &mut BitWriter) -> Result<(), OutOfMemory> {
         write_preamble(w)?;
-        Ranged::<0, 10000000000>::write(w, self.dl)?;
-        Ranged::<0, 10000000000>::write(w, self.ul)
+        Ranged::<0, MOST_BIT_RATE>::write(w, self.dl)?;
+        Ranged::<0, MOST_BIT_RATE>::write(w, self.ul)
     }
 }

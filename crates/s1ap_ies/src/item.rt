@@ -1,16 +1,19 @@
 //! The items of lists.
 
-ghost use Rattle.std.specs.Prelude.{◌≡◌, ◌≤◌, ◌<◌, ◌*◌, ◌^◌, length, OnOk, OnErr};
+ghost use Rattle.std.specs.Prelude.{◌≡◌, ◌≤◌, ◌%◌, length, OnOk, OnErr, IfOk};
 ghost use Rattle.aper_fields.specs.Reading.{Gives};
 ghost use Rattle.aper_fields.specs.Format.{ReadsExactly};
-ghost use Rattle.aper_fields.specs.Run.{content_of, then_written};
+ghost use Rattle.aper_fields.specs.Run.{then_written};
 ghost use Rattle.s1ap_ies.specs.Reading.{item_at};
 ghost use Rattle.s1ap_ies.specs.Grammar.{item_in};
 ghost use Rattle.s1ap_ies.specs.Kept.{Keeps};
-ghost use Rattle.s1ap_ies.specs.Asn1.{item_run};
+ghost use Rattle.s1ap_ies.specs.Asn1.{item_start};
+ghost use Rattle.s1ap_ies.specs.Names.{criticality_number};
 
 use crate::pieces::read_criticality;
-use aper_fields::{BitReader, BitWriter, Ranged, read_open, write_bits_fixed, write_open};
+use crate::tables::Criticality;
+use crate::whole::all_or_nothing;
+use aper_fields::{BitReader, BitWriter, Mark, Ranged, begin_open, read_open, write_bits_fixed};
 use echo_base::{OutOfMemory, Reason, Refusal};
 
 /// Reads the id of an item, its criticality, and up to what it contains.
@@ -38,41 +41,37 @@ pub fn read_item<'a>(r: &mut BitReader<'a>, id: u16) -> Result<BitReader<'a>, Re
     read_fields(r, id)
 }
 
-/// Writes the id of an item, its criticality, and what it contains.
-#[tactic(auto, unfolding(crate::specs::Asn1::item_run))]
-fn write_fields(
+/// Writes the id of an item, its criticality, and the octet that stands before what it contains.
+fn begin_fields(
     w: &mut BitWriter,
     id: u16,
-    criticality: u8,
-    body: &BitWriter,
-) -> Result<(), OutOfMemory>
-    requires criticality { criticality ≤ 2 }
-    requires short { length (content_of body.now) < 8 * 2 ^ 14 }
-    ensures ok { OnOk result (w.new ≡ then_written w.old (item_run id criticality body.now)) }
+    criticality: Criticality,
+) -> Result<Mark, OutOfMemory>
+    ensures ok { OnOk result (w.new ≡ then_written w.old (item_start id (criticality_number criticality))) }
+    ensures place { IfOk result (λ start. start ≡ length w.new) }
+    ensures whole { IfOk result (λ start. start % 8 ≡ 0) }
+    ensures room { IfOk result (λ start. 8 ≤ start) }
     ensures kept { OnErr result (Keeps w.old w.new) }
 {
     Ranged::<0, 65535>::write(w, u64::from(id))?;
-    write_bits_fixed(w, u64::from(criticality), 2)?;
-    write_open(w, body)
+    write_bits_fixed(w, u64::from(criticality.number()), 2)?;
+    begin_open(w)
 }
 
-/// Writes an item with its id, its criticality (0 reject, 1 ignore, 2 notify) and what it contains. Where memory runs
-/// out, nothing is written.
-pub fn write_item(
+/// Writes an item's id, its criticality and the octet that stands before what it contains, and says where that begins: it is written
+/// behind it, up to `end_open`. Where memory runs out, nothing is written.
+pub fn begin_item(
     w: &mut BitWriter,
     id: u16,
-    criticality: u8,
-    body: &BitWriter,
-) -> Result<(), OutOfMemory>
-    requires criticality { criticality ≤ 2 }
-    requires short { length (content_of body.now) < 8 * 2 ^ 14 }
-    ensures ok { OnOk result (w.new ≡ then_written w.old (item_run id criticality body.now)) }
+    criticality: Criticality,
+) -> Result<Mark, OutOfMemory>
+    ensures ok { OnOk result (w.new ≡ then_written w.old (item_start id (criticality_number criticality))) }
+    ensures place { IfOk result (λ start. start ≡ length w.new) }
+    ensures whole { IfOk result (λ start. start % 8 ≡ 0) }
+    ensures room { IfOk result (λ start. 8 ≤ start) }
     ensures err { OnErr result (w.new ≡ w.old) }
 {
     let mark = w.mark();
-    if let Err(error) = write_fields(w, id, criticality, body) {
-        w.back_to(mark);
-        return Err(error);
-    }
-    Ok(())
+    let begun = begin_fields(w, id, criticality);
+    all_or_nothing(w, mark, begun)
 }

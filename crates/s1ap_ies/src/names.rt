@@ -1,10 +1,4 @@
-//! Criticalities, ids and limits by name (3GPP TS 36.413, 9.3).
-
-/// The criticality reject.
-pub const REJECT: u8 = 0;
-
-/// The criticality ignore.
-pub const IGNORE: u8 = 1;
+//! Ids, procedure codes and limits by name (3GPP TS 36.413, 9.3).
 
 /// The id of the IE MME UE S1AP ID (9.2.3.3).
 pub const MME_UE_S1AP_ID: u16 = 0;
@@ -56,6 +50,48 @@ pub const ERAB_SETUP_ITEM: u16 = 50;
 
 /// The id of an item of an E-RAB to Be Setup List.
 pub const ERAB_TO_SETUP_ITEM: u16 = 52;
+
+/// The procedure code of a downlink NAS transport (9.3.6).
+pub const DOWNLINK_NAS_TRANSPORT: u8 = 11;
+
+/// The procedure code of an initial UE message.
+pub const INITIAL_UE_MESSAGE: u8 = 12;
+
+/// The procedure code of an uplink NAS transport.
+pub const UPLINK_NAS_TRANSPORT: u8 = 13;
+
+/// The procedure code of an initial context setup.
+pub const INITIAL_CONTEXT_SETUP: u8 = 9;
+
+/// The procedure code of a request to release a UE context.
+pub const UE_CONTEXT_RELEASE_REQUEST: u8 = 18;
+
+/// The procedure code of an indication of UE capabilities.
+pub const UE_CAPABILITY_INFO_INDICATION: u8 = 22;
+
+/// The procedure code of the release of a UE context.
+pub const UE_CONTEXT_RELEASE: u8 = 23;
+
+/// The greatest MME UE S1AP ID (9.2.3.3).
+pub const MOST_MME_UE_S1AP_ID: u64 = 4_294_967_295;
+
+/// The greatest eNB UE S1AP ID (9.2.3.4).
+pub const MOST_ENB_UE_S1AP_ID: u64 = 16_777_215;
+
+/// The greatest bit rate (9.2.1.19), in bit/s.
+pub const MOST_BIT_RATE: u64 = 10_000_000_000;
+
+/// How many E-RABs a list has at most: maxnoofE-RABs.
+pub const MOST_ERABS: u64 = 256;
+
+/// How many root values an RRC Establishment Cause has (9.2.1.3a).
+pub const RRC_CAUSE_ROOTS: u32 = 5;
+
+/// How many octets a security key has (9.2.1.41).
+pub const SECURITY_KEY_OCTETS: usize = 32;
+
+/// How many octets a string with one length has at most, as a UE Radio Capability (ITU-T X.691, 11.9).
+pub const MOST_OCTETS: usize = 16_383;
 
 /// How many octets of a NAS-PDU are taken.
 pub const MOST_OCTETS_OF_NAS: usize = 2048;

@@ -9,6 +9,7 @@ ghost use Rattle.s1ap_ies.specs.Kept.{Keeps};
 ghost use Rattle.s1ap_ies.specs.Reading.{zero_bit_at, criticality_at, choice_at};
 ghost use Rattle.s1ap_ies.specs.Run.{choice_run};
 
+use crate::whole::all_or_nothing;
 use aper_fields::{BitReader, BitWriter, read_bits_fixed, write_bits_fixed};
 use echo_base::{OutOfMemory, Reason, Refusal};
 
@@ -116,9 +117,6 @@ pub fn write_choice(w: &mut BitWriter, count: u32, index: u64) -> Result<(), Out
     ensures err { OnErr result (w.new ≡ w.old) }
 {
     let mark = w.mark();
-    if let Err(error) = put_choice(w, count, index) {
-        w.back_to(mark);
-        return Err(error);
-    }
-    Ok(())
+    let written = put_choice(w, count, index);
+    all_or_nothing(w, mark, written)
 }

@@ -1,6 +1,7 @@
 //! The information elements of each kind of message, in order (3GPP TS 36.413, 9.1).
-ghost use Rattle.std.specs.Prelude.{◌≡◌, ◌-◌, ◌++◌, map, length, replicate, eqb};
+ghost use Rattle.std.specs.Prelude.{◌≡◌, ◌≤◌, ◌-◌, ◌++◌, map, length, replicate, eqb};
 ghost use Rattle.std.specs.List.{IsDistinct};
+ghost use Rattle.s1ap_ies.specs.Names.{criticality_number};
 ghost use Rattle.s1ap_ies.specs.Tables.{reject, ignore, optional, no_row, rows_of};
 
 use crate::names;
@@ -30,13 +31,38 @@ pub enum MessageKind {
     UeCapabilityInfoIndication,
 }
 
+/// What a receiver is to do with what it does not understand (3GPP TS 36.413, 10.3).
+#[derive(Clone, Copy, Debug, PartialEq, Eq)]
+pub enum Criticality {
+    /// It rejects the message.
+    Reject,
+    /// It ignores the element.
+    Ignore,
+    /// It ignores the element, and tells the sender.
+    Notify,
+}
+
+impl Criticality {
+    /// Its number: 0 reject, 1 ignore, 2 notify.
+    pub const fn number(self) -> u8
+        ensures number { result ≡ criticality_number self }
+        ensures most { result ≤ 2 }
+    {
+        match self {
+            Criticality::Reject => 0,
+            Criticality::Ignore => 1,
+            Criticality::Notify => 2,
+        }
+    }
+}
+
 /// An information element that a message has.
 #[derive(Clone, Copy, Debug, PartialEq, Eq)]
 pub struct IeRow {
     /// Its id.
     pub id: u16,
-    /// Its criticality: 0 reject, 1 ignore, 2 notify.
-    pub criticality: u8,
+    /// Its criticality.
+    pub criticality: Criticality,
     /// Whether each message of the kind must have it.
     pub needed: bool,
 }
@@ -56,7 +82,7 @@ const fn reject(id: u16) -> IeRow
 {
     IeRow {
         id,
-        criticality: names::REJECT,
+        criticality: Criticality::Reject,
         needed: true,
     }
 }
@@ -67,7 +93,7 @@ const fn ignore(id: u16) -> IeRow
 {
     IeRow {
         id,
-        criticality: names::IGNORE,
+        criticality: Criticality::Ignore,
         needed: true,
     }
 }
@@ -78,7 +104,7 @@ const fn optional(id: u16) -> IeRow
 {
     IeRow {
         id,
-        criticality: names::REJECT,
+        criticality: Criticality::Reject,
         needed: false,
     }
 }
@@ -86,7 +112,7 @@ const fn optional(id: u16) -> IeRow
 /// The row behind the last element.
 const NO_ROW: IeRow = IeRow {
     id: 0,
-    criticality: 0,
+    criticality: Criticality::Reject,
     needed: false,
 };
 

@@ -23,7 +23,7 @@ fn has_the_elements_of_the_standard(rt: HostRuntime) -> Result<(), Fail> {
         assert_eq!(rt; table.len, elements.len(), "{kind:?}");
         for (place, row) in table.rows.iter().enumerate() {
             let element = elements.get(place).copied().unwrap_or((0, 0, false));
-            assert_eq!(rt; (row.id, row.criticality, row.needed), element, "{kind:?}, row {place}");
+            assert_eq!(rt; (row.id, row.criticality.number(), row.needed), element, "{kind:?}, row {place}");
         }
     }
     Ok(())

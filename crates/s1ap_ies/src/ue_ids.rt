@@ -2,6 +2,7 @@
 
 ghost use Rattle.std.specs.Prelude.{◌≡◌, OnOk, OnErr};
 
+use crate::names::{MOST_ENB_UE_S1AP_ID, MOST_MME_UE_S1AP_ID};
 use crate::pieces::{read_choice, read_zero_bit, write_choice};
 use crate::sequence::{read_present, skip_extensions, write_preamble};
 use crate::value::PlainValue;
@@ -36,13 +37,13 @@ impl PlainValue for UeIds {
         if read_choice(&mut ahead, 2, 1)? == 0 {
             read_zero_bit(&mut ahead, Reason::SequenceExtension)?;
             let more = read_present(&mut ahead)?;
-            let mme = Ranged::<0, 4294967295>::read(&mut ahead)? as u32;
-            let enb = Ranged::<0, 16777215>::read(&mut ahead)? as u32;
+            let mme = Ranged::<0, MOST_MME_UE_S1AP_ID>::read(&mut ahead)? as u32;
+            let enb = Ranged::<0, MOST_ENB_UE_S1AP_ID>::read(&mut ahead)? as u32;
             skip_extensions(&mut ahead, more)?;
             *r = ahead;
             Ok(UeIds::Pair { mme, enb })
         } else {
-            let mme = Ranged::<0, 4294967295>::read(&mut ahead)? as u32;
+            let mme = Ranged::<0, MOST_MME_UE_S1AP_ID>::read(&mut ahead)? as u32;
             *r = ahead;
             Ok(UeIds::Mme(mme))
         }
@@ -54,12 +55,12 @@ impl PlainValue for UeIds {
             UeIds::Pair { mme, enb } => {
                 write_choice(w, 1, 0)?;
                 write_preamble(w)?;
-                Ranged::<0, 4294967295>::write(w, u64::from(mme))?;
-                Ranged::<0, 16777215>::write(w, u64::from(enb))
+                Ranged::<0, MOST_MME_UE_S1AP_ID>::write(w, u64::from(mme))?;
+                Ranged::<0, MOST_ENB_UE_S1AP_ID>::write(w, u64::from(enb))
             }
             UeIds::Mme(mme) => {
                 write_choice(w, 1, 1)?;
-                Ranged::<0, 4294967295>::write(w, u64::from(mme))
+                Ranged::<0, MOST_MME_UE_S1AP_ID>::write(w, u64::from(mme))
             }
         }
     }

@@ -9,6 +9,7 @@ ghost use Rattle.s1ap_ies.specs.Memory.{GivesIn, ReadsIn};
 ghost use Rattle.s1ap_ies.specs.Reading.{skipping};
 ghost use Rattle.s1ap_ies.specs.Asn1.{AsnType, format, reading, run, CanBeWritten};
 
+use crate::whole::all_or_nothing;
 use aper_fields::{BitReader, BitWriter};
 use echo_base::{Bad, OutOfMemory, Refusal};
 use std::alloc::Global;
@@ -42,12 +43,9 @@ pub trait PlainValue: Copy {
         ensures ok { OnOk result (w.new ≡ then_written w.old (run asn1 self)) }
         ensures err { OnErr result (w.new ≡ w.old) }
     {
-        let start = w.mark();
-        if let Err(error) = self.write_pieces(w) {
-            w.back_to(start);
-            return Err(error);
-        }
-        Ok(())
+        let mark = w.mark();
+        let written = self.write_pieces(w);
+        all_or_nothing(w, mark, written)
     }
 }
 
@@ -85,11 +83,8 @@ pub trait OwnedValue: Drop {
         ensures err { OnErr result (w.new ≡ w.old) }
     {
         let mark = w.mark();
-        if let Err(error) = self.write_pieces(w) {
-            w.back_to(mark);
-            return Err(error);
-        }
-        Ok(())
+        let written = self.write_pieces(w);
+        all_or_nothing(w, mark, written)
     }
 }
 

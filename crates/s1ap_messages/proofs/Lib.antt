@@ -25,3 +25,4 @@ pub mod UsualErabs
 pub mod UsualForm
 pub mod UsualRead
 pub mod UsualWrite
+pub mod InPlace

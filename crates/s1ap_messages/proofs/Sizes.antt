@@ -10,6 +10,7 @@ use Rattle.aper_fields.proofs.BitLaws.{length-bits}
 use Rattle.aper_fields.proofs.Packed.{length-filled}
 use Rattle.s1ap_ies.specs.declared.tables.IeRow.{IeRow}
 use Rattle.s1ap_ies.specs.Asn1.{item_run}
+use Rattle.s1ap_ies.specs.Names.{criticality_number}
 use Rattle.s1ap_messages.specs.Values.{FieldValue}
 use Rattle.s1ap_messages.specs.Grammar.{Ie, Named, Other, found}
 use Rattle.s1ap_messages.specs.Run.{value_run, ie_run, fields_run}
@@ -70,8 +71,8 @@ length-fields_run (row ∷ rows) (None ∷ values) at whole =
     omega (arith, rest, sum_by-cons cost None values)
 length-fields_run (row ∷ rows) (Some v ∷ values) at whole =
     let body = value_run v 0 in
-    let item = item_run row.id row.criticality body at in
-    let len : length item ≡ size body = omega (arith, whole, length-item_run row.id row.criticality at body) in
+    let item = item_run row.id (criticality_number row.criticality) body at in
+    let len : length item ≡ size body = omega (arith, whole, length-item_run row.id (criticality_number row.criticality) at body) in
     let next : (at + length item) % 8 ≡ 0 = omega (arith, whole, len, size_whole body) in
     omega (arith, len, length-fields_run rows values (at + length item) next, length-append item (fields_run rows values (at + length item)), sum_by-cons cost (Some v) values)
 

@@ -13,6 +13,7 @@ use Rattle.s1ap_ies.specs.Tables.{rows_of}
 use Rattle.s1ap_ies.specs.Values as types
 use Rattle.s1ap_ies.proofs.Items.{done_sound, setup_sound, done_fits, setup_fits, no_string}
 use Rattle.s1ap_ies.proofs.Sizes.{more_takes, item_takes, each_takes, takes}
+use Rattle.s1ap_ies.specs.Names.{criticality_number}
 use Rattle.s1ap_messages.specs.declared.pdu.Pdu.{Pdu}
 use Rattle.s1ap_messages.specs.declared.pdu.Pdu.TheVariants as pdus
 use Rattle.s1ap_messages.specs.declared.value.IeValue.TheVariants as value
@@ -71,7 +72,7 @@ value_takes (value.Rrc rrc) small = more_takes 75 17000 _ (omega arith) (enumera
 ie_takes : (row : IeRow) (v : Option FieldValue) → IfSome v IsSmallValue → Takes 17114 (ie_run row v)
 unfolding ie_run
 ie_takes row None small = λ at. omega arith
-ie_takes row (Some v) small = item_takes row.id row.criticality 17000 (value_run v 0) (value_takes v small 0)
+ie_takes row (Some v) small = item_takes row.id (criticality_number row.criticality) 17000 (value_run v 0) (value_takes v small 0)
 
 fields_take : (rows : List IeRow) (values : List (Option FieldValue)) → AllByRecursion (λ v. IfSome v IsSmallValue) values → Takes (length values * 17114) (fields_run rows values)
 unfolding fields_run

@@ -13,9 +13,10 @@ use Rattle.s1ap_ies.specs.declared.tables.IeRow.{IeRow}
 use Rattle.s1ap_ies.specs.declared.tables.MessageKind.{MessageKind}
 use Rattle.s1ap_ies.specs.declared.tables.MessageKind.TheVariants as kind
 use Rattle.s1ap_ies.specs.Tables.{rows_of}
+use Rattle.s1ap_ies.specs.Names.{criticality_number}
 use Rattle.s1ap_messages.specs.declared.value.IeValue.TheVariants as value
 use Rattle.s1ap_messages.specs.declared.pdu.Pdu.{Pdu}
-use Rattle.s1ap_messages.specs.Messages.{header_of, kind_of, values_of}
+use Rattle.s1ap_messages.specs.Messages.{outcome_index, header_of, kind_of, values_of}
 use Rattle.s1ap_messages.specs.Grammar.{Spells}
 use Rattle.s1ap_messages.specs.Built.{message_at}
 use Rattle.s1ap_messages.specs.Run.{value_run, ie_run, fields_run, ies_run, header_run, pdu_run, written, count_of, IsShort, IsRightValue, IsRightField, IsRight, HasOctetsIn, HasOctets}
@@ -68,8 +69,8 @@ fields_are (row ∷ rows) (None ∷ values) small right few =
     octets_then (ie_run row None) (fields_run rows values) [] (fields_octets rows values) (λ k. refl) (fields_are rows values parts.1 right.1 few)
 fields_are (row ∷ rows) (Some v ∷ values) small right few =
     let parts = and_parts (ltb row.id 256) (list_all (λ (row : IeRow). ltb row.id 256) rows) small in
-    let l = ie_few row.id row.criticality (value_octets v) (fields_octets rows values) few in
-    octets_then (ie_run row (Some v)) (fields_run rows values) (ie_octets row.id row.criticality (value_octets v)) (fields_octets rows values) (item_is row.id row.criticality (value_run v 0) (value_octets v) (ltb-true _ _ parts.0) (value_is v right.0) l.0) (fields_are rows values parts.1 right.1 l.1)
+    let l = ie_few row.id (criticality_number row.criticality) (value_octets v) (fields_octets rows values) few in
+    octets_then (ie_run row (Some v)) (fields_run rows values) (ie_octets row.id (criticality_number row.criticality) (value_octets v)) (fields_octets rows values) (item_is row.id (criticality_number row.criticality) (value_run v 0) (value_octets v) (ltb-true _ _ parts.0) (value_is v right.0) l.0) (fields_are rows values parts.1 right.1 l.1)
 
 -- ---- the message
 
@@ -96,7 +97,7 @@ body_is p usual =
 body_content : (p : Pdu) → IsUsual p → Contains (ies_run (kind_of p) (values_of p) 0) (body_octets p)
 body_content p usual = contains_octets _ (body_octets p) (omega arith) (body_is p usual)
 
-header_is : (kind : MessageKind) → header_run (header_of kind) 0 ≡ bits 8 (32 * (header_of kind).outcome) ++ (bits 8 (header_of kind).code ++ bits 2 (header_of kind).criticality)
+header_is : (kind : MessageKind) → header_run (header_of kind) 0 ≡ bits 8 (32 * (outcome_index (header_of kind).outcome)) ++ (bits 8 (header_of kind).code ++ bits 2 (criticality_number (header_of kind).criticality))
 unfolding header_run fixed_bits_run number_run bits
 header_is kind.InitialUeMessage = refl
 header_is _ = refl
@@ -105,9 +106,9 @@ message_is : (p : Pdu) → IsUsual p → pdu_run (kind_of p) (values_of p) 0 ≡
 unfolding pdu_run usual_octets bits_of
 message_is p usual =
     let header = header_of (kind_of p) in
-    let front : List Bool = bits 8 (32 * header.outcome) ++ (bits 8 header.code ++ bits 2 header.criticality) in
-    let l : 0 + length front ≡ 18 = omega (arith, length-append (bits 8 (32 * header.outcome)) (bits 8 header.code ++ bits 2 header.criticality), length-append (bits 8 header.code) (bits 2 header.criticality), length-bits 8 (32 * header.outcome), length-bits 8 header.code, length-bits 2 header.criticality) in
-    rw (header_is (kind_of p), l, open_octets _ (body_octets p) 18 (body_content p usual) usual.1, two_bits header.criticality) (simp append_assoc)
+    let front : List Bool = bits 8 (32 * (outcome_index header.outcome)) ++ (bits 8 header.code ++ bits 2 (criticality_number header.criticality)) in
+    let l : 0 + length front ≡ 18 = omega (arith, length-append (bits 8 (32 * (outcome_index header.outcome))) (bits 8 header.code ++ bits 2 (criticality_number header.criticality)), length-append (bits 8 header.code) (bits 2 (criticality_number header.criticality)), length-bits 8 (32 * (outcome_index header.outcome)), length-bits 8 header.code, length-bits 2 (criticality_number header.criticality)) in
+    rw (header_is (kind_of p), l, open_octets _ (body_octets p) 18 (body_content p usual) usual.1, two_bits (criticality_number header.criticality)) (simp append_assoc)
 
 -- octets in the usual form of a message are what is written for it
 pub usual_is_written : (p : Pdu) (octets : List ℕ) → IsBytes octets → octets ≡ usual_octets p → IsUsual p → octets ≡ written p
@@ -133,7 +134,7 @@ fields_right rows [] whole right few = tt
 fields_right [] (v ∷ values) whole right few = absurd (omega (arith, whole))
 fields_right (row ∷ rows) (None ∷ values) whole right few = (tt, fields_right rows values (omega (arith, whole)) right.1 few)
 fields_right (row ∷ rows) (Some v ∷ values) whole right few =
-    let l = ie_few row.id row.criticality (value_octets v) (fields_octets rows values) few in
+    let l = ie_few row.id (criticality_number row.criticality) (value_octets v) (fields_octets rows values) few in
     ((right.0, short_content _ _ (value_is v right.0) l.0), fields_right rows values (omega (arith, whole)) right.1 l.1)
 
 pub usual_right : (p : Pdu) → IsUsual p → IsRight p
@@ -168,7 +169,7 @@ fields_behind rows [] whole h = tt
 fields_behind [] (v ∷ values) whole h = absurd (omega (arith, whole))
 fields_behind (row ∷ rows) (None ∷ values) whole h = (tt, fields_behind rows values (omega (arith, whole)) h)
 fields_behind (row ∷ rows) (Some v ∷ values) whole h =
-    let r = item_behind row.id row.criticality (value_octets v) (fields_octets rows values) h in
+    let r = item_behind row.id (criticality_number row.criticality) (value_octets v) (fields_octets rows values) h in
     (value_behind v r.0, fields_behind rows values (omega (arith, whole)) r.1)
 
 usual_has_octets : (p : Pdu) (octets : List ℕ) → IsBytes octets → octets ≡ usual_octets p → HasOctets p

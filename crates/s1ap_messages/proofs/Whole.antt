@@ -18,11 +18,12 @@ use Rattle.s1ap_ies.specs.Run.{choice_run}
 use Rattle.s1ap_ies.specs.Asn1.{IsSpelledBy, item_run}
 use Rattle.s1ap_ies.proofs.Distinct.{ids_distinct}
 use Rattle.s1ap_ies.proofs.Spelled.{choice_spelled}
+use Rattle.s1ap_ies.specs.Names.{criticality_number}
 use Rattle.s1ap_messages.specs.declared.pdu.Pdu.{Pdu}
 use Rattle.s1ap_messages.specs.declared.pdu.Pdu.TheVariants as pdus
 use Rattle.s1ap_ies.specs.Many.{InOrder}
 use Rattle.s1ap_messages.specs.Values.{FieldValue, value_in}
-use Rattle.s1ap_messages.specs.Messages.{header_of, kind_of, values_of}
+use Rattle.s1ap_messages.specs.Messages.{outcome_index, header_of, kind_of, values_of}
 use Rattle.s1ap_messages.specs.Grammar.{Ie, Named, found, has_ie, or_other, kind_with, kind_among, header_in, ie_in, ies_in, pdu_in, Spells}
 use Rattle.s1ap_messages.specs.Run.{value_run, ie_run, fields_run, count_of, ies_run, header_run, pdu_run, written, IsRightField, HasOctetsIn, IsRight, HasOctets}
 use Rattle.s1ap_messages.proofs.Kept.{found-append}
@@ -49,7 +50,7 @@ named (row ∷ rows) (Some v ∷ values) = Named row.id v ∷ named rows values
 
 -- a row of the table of a kind of message, which can be written
 abbrev is_row : MessageKind → IeRow → Bool
-is_row kind row = has_ie kind row.id && (leb row.id 65535 && leb row.criticality 2)
+is_row kind row = has_ie kind row.id && (leb row.id 65535 && leb (criticality_number row.criticality) 2)
 
 each_is_row : (kind : MessageKind) → list_all (is_row kind) (rows_of kind) ≡ true
 each_is_row kind.InitialUeMessage = refl
@@ -89,16 +90,16 @@ free_of_none (row ∷ rows) = (refl, free_of_none rows)
 ie_there : (kind : MessageKind) (before : List Ie) (row : IeRow) (v : FieldValue) (at : ℕ) → found row.id before ≡ None → is_row kind row ≡ true → id_of v ≡ row.id → IsRightField v → HasOctetsIn v → (ie_in kind before).Spells at (Named row.id v) (ie_run row (Some v) at)
 unfolding ie_in ie_run item_run
 ie_there kind before row v at free is typed right octets =
-    let parts = and_parts (has_ie kind row.id) (leb row.id 65535 && leb row.criticality 2) is in
-    let limits = and_parts (leb row.id 65535) (leb row.criticality 2) parts.1 in
+    let parts = and_parts (has_ie kind row.id) (leb row.id 65535 && leb (criticality_number row.criticality) 2) is in
+    let limits = and_parts (leb row.id 65535) (leb (criticality_number row.criticality) 2) parts.1 in
     let first = number_run 0 65535 row.id at in
     let i = at + length first in
-    let second = fixed_bits_run 2 row.criticality i in
+    let second = fixed_bits_run 2 (criticality_number row.criticality) i in
     let j = i + length second in
     let body = open_run (value_run v 0) j in
     let spelled : IsSpelledBy (value_in row.id) v (value_run v) = subst (λ n. IsSpelledBy (value_in n) v (value_run v)) typed (value_spelled v right.0 octets) in
     let o = open_holds (value_in row.id) v (value_run v) j spelled (value_periodic v) (value_some v right.0, right.1) in
-    (row.id, first, second ++ body, refl, (row.id, rw free refl, ((omega arith, omega (arith, leb-true _ _ limits.0)), refl)), (row.criticality, second, body, refl, criticality_spelled row.criticality i (leb-true _ _ limits.1), (o.0, body, [], sym (append-nil body), o.1, rw parts.0 (v, [], [], refl, (o.2, refl), (refl, refl)))))
+    (row.id, first, second ++ body, refl, (row.id, rw free refl, ((omega arith, omega (arith, leb-true _ _ limits.0)), refl)), (criticality_number row.criticality, second, body, refl, criticality_spelled (criticality_number row.criticality) i (leb-true _ _ limits.1), (o.0, body, [], sym (append-nil body), o.1, rw parts.0 (v, [], [], refl, (o.2, refl), (refl, refl)))))
 
 -- ---- the IEs of a table
 
@@ -179,7 +180,7 @@ ies_there kind values whole of right = record {
 one_periodic : (row : IeRow) (v : Slot) → IsPeriodic (ie_run row v)
 unfolding ie_run
 one_periodic row None = constant_periodic []
-one_periodic row (Some v) = item_periodic row.id row.criticality (value_run v 0)
+one_periodic row (Some v) = item_periodic row.id (criticality_number row.criticality) (value_run v 0)
 
 fields_periodic : (rows : List IeRow) (values : List Slot) → IsPeriodic (fields_run rows values)
 unfolding fields_run
@@ -187,7 +188,7 @@ fields_periodic [] values = constant_periodic []
 fields_periodic (row ∷ rows) [] = constant_periodic []
 fields_periodic (row ∷ rows) (v ∷ values) = then_periodic _ _ (one_periodic row v) (fields_periodic rows values)
 
-ies_periodic : (kind : MessageKind) (values : List Slot) → IsPeriodic (ies_run kind values)
+pub ies_periodic : (kind : MessageKind) (values : List Slot) → IsPeriodic (ies_run kind values)
 unfolding ies_run
 ies_periodic kind values = then_periodic _ _ (fixed_bits_periodic 1 0) (then_periodic _ _ (number_periodic 0 65535 (count_of values)) (fields_periodic (rows_of kind) values))
 
@@ -197,14 +198,14 @@ ies_some kind values = omega (arith, length-append (fixed_bits_run 1 0 0) ((numb
 
 -- ---- the message
 
-kind_back : (kind : MessageKind) → kind_with (header_of kind).outcome (header_of kind).code ≡ Some kind
+kind_back : (kind : MessageKind) → kind_with (outcome_index (header_of kind).outcome) (header_of kind).code ≡ Some kind
 unfolding kind_among
 kind_back kind.InitialUeMessage = refl
 kind_back _ = refl
 
 -- the header of a kind can be written
 abbrev is_header : MessageKind → Bool
-is_header kind = ltb (header_of kind).outcome 3 && (leb (header_of kind).code 255 && leb (header_of kind).criticality 2)
+is_header kind = ltb (outcome_index (header_of kind).outcome) 3 && (leb (header_of kind).code 255 && leb (criticality_number (header_of kind).criticality) 2)
 
 each_is_header : (kind : MessageKind) → is_header kind ≡ true
 each_is_header kind.InitialUeMessage = refl
@@ -215,18 +216,18 @@ unfolding header_in header_run
 header_there kind = record {
   everywhere = λ at.
       let header = header_of kind in
-      let a = and_parts (ltb header.outcome 3) (leb header.code 255 && leb header.criticality 2) (each_is_header kind) in
-      let b = and_parts (leb header.code 255) (leb header.criticality 2) a.1 in
-      let outcome : header.outcome < 3 = ltb-true _ _ a.0 in
+      let a = and_parts (ltb (outcome_index header.outcome) 3) (leb header.code 255 && leb (criticality_number header.criticality) 2) (each_is_header kind) in
+      let b = and_parts (leb header.code 255) (leb (criticality_number header.criticality) 2) a.1 in
+      let outcome : (outcome_index header.outcome) < 3 = ltb-true _ _ a.0 in
       let code : header.code ≤ 255 = leb-true _ _ b.0 in
-      let first = choice_run 2 header.outcome at in
+      let first = choice_run 2 (outcome_index header.outcome) at in
       let i = at + length first in
       let second = fixed_bits_run 5 0 i in
       let j = i + length second in
       let third = number_run 0 255 header.code j in
       let k = j + length third in
-      let last = fixed_bits_run 2 header.criticality k in
-      (header.outcome, first, second ++ (third ++ last), refl, choice_spelled 3 2 header.outcome outcome (omega (arith, outcome)) at, (0, second, third ++ last, refl, (refl, (omega arith, refl)), (kind, third, last, refl, (header.code, ap (or_other header.code) (kind_back kind), ((omega arith, omega (arith, code)), refl)), (header.criticality, last, [], sym (append-nil last), criticality_spelled header.criticality k (leb-true _ _ b.1), (refl, refl)))));
+      let last = fixed_bits_run 2 (criticality_number header.criticality) k in
+      ((outcome_index header.outcome), first, second ++ (third ++ last), refl, choice_spelled 3 2 (outcome_index header.outcome) outcome (omega (arith, outcome)) at, (0, second, third ++ last, refl, (refl, (omega arith, refl)), (kind, third, last, refl, (header.code, ap (or_other header.code) (kind_back kind), ((omega arith, omega (arith, code)), refl)), ((criticality_number header.criticality), last, [], sym (append-nil last), criticality_spelled (criticality_number header.criticality) k (leb-true _ _ b.1), (refl, refl)))));
 }
 
 pub written_ies : (p : Pdu) → List Ie

@@ -1,8 +1,8 @@
 -- What is written piece by piece is the run of the message.
-use Rattle.std.proofs.Common.{◌≡◌, ℕ, ◌*◌, ◌-◌, ◌^◌, ◌<◌, Bool, eqb, List, ◌++◌, length, take, replicate, Option, None, Result, IfOk, refl, sym, ap, ◌∙◌, subst, inl, inr, arith}
+use Rattle.std.proofs.Common.{◌≡◌, ℕ, ◌*◌, ◌-◌, ◌^◌, ◌<◌, Bool, eqb, List, ◌++◌, length, take, replicate, Option, None, Result, OnOk, refl, sym, ap, ◌∙◌, subst, inl, inr, arith}
 use Rattle.std.proofs.lemmas.Bool.{cases_Bool}
 use Rattle.std.proofs.lemmas.List.{take_at, take-map}
-use Rattle.aper_fields.specs.Run.{content_of}
+use Rattle.aper_fields.specs.Run.{content_of, then_written}
 use Rattle.aper_fields.proofs.Packed.{length-filled}
 use Rattle.s1ap_ies.specs.declared.tables.MessageKind.{MessageKind}
 use Rattle.s1ap_ies.specs.Tables.{rows_of}
@@ -32,5 +32,5 @@ values_front p kind values len k l seen =
     let n : len ≡ length (values_of p) = l ∙ ap (λ x. length (rows_of x)) k ∙ sym (values-length p) in
     sym (take-map _ len values) ∙ ap (take len) seen ∙ take_at (values_of p) _ len (sym n)
 
-pub body_is : {E : Type 0} (p : Pdu) (kind : MessageKind) (front : List (Option FieldValue)) (r : Result (List Bool) E) → kind ≡ kind_of p → front ≡ values_of p → IfOk r (λ w. w ≡ ies_run kind front 0) → IfOk r (λ w. w ≡ ies_run (kind_of p) (values_of p) 0)
-body_is p kind front r k v h = subst (λ (x : MessageKind). IfOk r (λ w. w ≡ ies_run x (values_of p) 0)) k (subst (λ (x : List (Option FieldValue)). IfOk r (λ w. w ≡ ies_run kind x 0)) v h)
+pub body_is : {A E : Type 0} (p : Pdu) (kind : MessageKind) (front : List (Option FieldValue)) (r : Result A E) (old new : List Bool) → kind ≡ kind_of p → front ≡ values_of p → OnOk r (new ≡ then_written old (ies_run kind front)) → OnOk r (new ≡ then_written old (ies_run (kind_of p) (values_of p)))
+body_is p kind front r old new k v h = subst (λ (x : MessageKind). OnOk r (new ≡ then_written old (ies_run x (values_of p)))) k (subst (λ (x : List (Option FieldValue)). OnOk r (new ≡ then_written old (ies_run kind x))) v h)

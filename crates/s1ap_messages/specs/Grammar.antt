@@ -16,7 +16,7 @@ use Rattle.s1ap_messages.specs.declared.pdu.Pdu.{Pdu}
 use Rattle.s1ap_messages.specs.Many.{looked_up}
 use Rattle.s1ap_ies.specs.Many.{many_in, inside}
 use Rattle.s1ap_messages.specs.Values.{FieldValue, value_in}
-use Rattle.s1ap_messages.specs.Messages.{header_of, kinds, kind_of, values_of, is_downlink}
+use Rattle.s1ap_messages.specs.Messages.{outcome_index, header_of, kinds, kind_of, values_of, is_downlink}
 
 -- an IE as it stands in a message: one of the message's table, its id and its value; or another, which is passed over
 pub data Ie : Type 0 where
@@ -28,7 +28,7 @@ pub data Ie : Type 0 where
 -- the kind of message that begins with that outcome and procedure code
 unfoldable pub kind_among : List MessageKind → ℕ → ℕ → Option MessageKind
 kind_among [] outcome code = None
-kind_among (kind ∷ rest) outcome code = if (header_of kind).outcome == outcome && (header_of kind).code == code then Some kind else kind_among rest outcome code
+kind_among (kind ∷ rest) outcome code = if outcome_index (header_of kind).outcome == outcome && (header_of kind).code == code then Some kind else kind_among rest outcome code
 
 abbrev pub kind_with : ℕ → ℕ → Option MessageKind
 kind_with outcome code = kind_among kinds outcome code

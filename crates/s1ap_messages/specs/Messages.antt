@@ -1,28 +1,39 @@
 -- The messages (TS 36.413, 9.1): how each begins, and the values of its IEs in the order of its table.
 use Rattle.std.specs.Prelude.{ℕ, Bool, true, false, List, [], ◌∷◌, Option, Some, option_map}
+use Rattle.s1ap_ies.specs.Names as names
+use Rattle.s1ap_ies.specs.declared.tables.Criticality.{Criticality}
+use Rattle.s1ap_ies.specs.declared.tables.Criticality.TheVariants.{Reject, Ignore}
 use Rattle.s1ap_ies.specs.declared.tables.MessageKind.{MessageKind}
 use Rattle.s1ap_ies.specs.declared.tables.MessageKind.TheVariants as kind
 use Rattle.s1ap_messages.specs.declared.header.Header.{Header}
+use Rattle.s1ap_messages.specs.declared.header.Outcome.{Outcome}
+use Rattle.s1ap_messages.specs.declared.header.Outcome.TheVariants.{Initiating, Successful, Unsuccessful}
 use Rattle.s1ap_messages.specs.declared.pdu.Pdu.{Pdu}
 use Rattle.s1ap_messages.specs.declared.pdu.Pdu.TheVariants.{InitialUeMessage, UplinkNasTransport, DownlinkNasTransport, InitialContextSetupRequest, InitialContextSetupResponse, InitialContextSetupFailure, UeContextReleaseRequest, UeContextReleaseCommand, UeContextReleaseComplete, UeCapabilityInfoIndication}
 use Rattle.s1ap_messages.specs.declared.value.IeValue.TheVariants as value
 use Rattle.s1ap_messages.specs.Values.{FieldValue}
 
--- outcome (0 initiating message, 1 successful, 2 unsuccessful), procedure code (9.3.6), and criticality (0 reject, 1 ignore) with which it is written
-abbrev pub begins : ℕ → ℕ → ℕ → Header
+-- the alternatives of S1AP-PDU (9.3.2)
+abbrev pub outcome_index : Outcome → ℕ
+outcome_index Initiating = 0
+outcome_index Successful = 1
+outcome_index Unsuccessful = 2
+
+-- outcome, procedure code, and the criticality with which it is written
+abbrev pub begins : Outcome → ℕ → Criticality → Header
 begins outcome code criticality = record { outcome = outcome; code = code; criticality = criticality }
 
 abbrev pub header_of : MessageKind → Header
-header_of kind.InitialUeMessage = begins 0 12 1
-header_of kind.UplinkNasTransport = begins 0 13 1
-header_of kind.DownlinkNasTransport = begins 0 11 1
-header_of kind.InitialContextSetupRequest = begins 0 9 0
-header_of kind.InitialContextSetupResponse = begins 1 9 0
-header_of kind.InitialContextSetupFailure = begins 2 9 0
-header_of kind.UeContextReleaseRequest = begins 0 18 1
-header_of kind.UeContextReleaseCommand = begins 0 23 0
-header_of kind.UeContextReleaseComplete = begins 1 23 0
-header_of kind.UeCapabilityInfoIndication = begins 0 22 1
+header_of kind.InitialUeMessage = begins Initiating names.initial_ue_message Ignore
+header_of kind.UplinkNasTransport = begins Initiating names.uplink_nas_transport Ignore
+header_of kind.DownlinkNasTransport = begins Initiating names.downlink_nas_transport Ignore
+header_of kind.InitialContextSetupRequest = begins Initiating names.initial_context_setup Reject
+header_of kind.InitialContextSetupResponse = begins Successful names.initial_context_setup Reject
+header_of kind.InitialContextSetupFailure = begins Unsuccessful names.initial_context_setup Reject
+header_of kind.UeContextReleaseRequest = begins Initiating names.ue_context_release_request Ignore
+header_of kind.UeContextReleaseCommand = begins Initiating names.ue_context_release Reject
+header_of kind.UeContextReleaseComplete = begins Successful names.ue_context_release Reject
+header_of kind.UeCapabilityInfoIndication = begins Initiating names.ue_capability_info_indication Ignore
 
 abbrev pub kinds : List MessageKind
 kinds = kind.InitialUeMessage ∷ kind.UplinkNasTransport ∷ kind.DownlinkNasTransport ∷ kind.InitialContextSetupRequest ∷ kind.InitialContextSetupResponse ∷ kind.InitialContextSetupFailure ∷ kind.UeContextReleaseRequest ∷ kind.UeContextReleaseCommand ∷ kind.UeContextReleaseComplete ∷ kind.UeCapabilityInfoIndication ∷ []

@@ -9,6 +9,7 @@ use Rattle.s1ap_ies.specs.declared.tables.MessageKind.{MessageKind}
 use Rattle.s1ap_ies.specs.Tables.{rows_of}
 use Rattle.s1ap_ies.specs.Reading.{Reader, ◌>>=◌, done, skipping, passing_at, zero_bit_at, criticality_at, choice_at}
 use Rattle.s1ap_ies.specs.Asn1.{reading, contained_item_at}
+use Rattle.s1ap_ies.specs.Names as names
 use Rattle.s1ap_ies.specs.Values as types
 use Rattle.s1ap_messages.specs.declared.value.IeValue.TheVariants as value
 use Rattle.s1ap_messages.specs.Many.{looked_up_at}
@@ -36,21 +37,21 @@ listed (Err e) = []
 
 unfoldable pub value_at : ℕ → Reader FieldValue
 value_at id = λ i.
-    if id == 0 then mapped_at value.Mme (number_at 0 4294967295) i
-    else (if id == 2 then mapped_at value.Cause (reading types.cause) i
-    else (if id == 8 then mapped_at value.Enb (number_at 0 16777215) i
-    else (if id == 24 then mapped_at value.Bearers (reading types.erabs_to_setup) i
-    else (if id == 26 then mapped_at value.Nas (octet_string_at 2048) i
-    else (if id == 51 then mapped_at value.Done (reading types.erabs_done) i
-    else (if id == 66 then mapped_at value.Rates (reading types.bit_rates) i
-    else (if id == 67 then mapped_at value.Tai (reading types.tai) i
-    else (if id == 73 then mapped_at value.Key (fixed_octets_at 32) i
-    else (if id == 74 then mapped_at value.Radio (octet_string_at 16383) i
-    else (if id == 96 then mapped_at value.Stmsi (reading types.stmsi) i
-    else (if id == 99 then mapped_at value.Ids (reading types.ue_ids) i
-    else (if id == 100 then mapped_at value.Cgi (reading types.cgi) i
-    else (if id == 107 then mapped_at value.Caps (reading types.sec_caps) i
-    else mapped_at value.Rrc (enumerated_at 5 true) i)))))))))))))
+    if id == names.mme_ue_s1ap_id then mapped_at value.Mme (number_at 0 names.most_mme_ue_s1ap_id) i
+    else (if id == names.cause then mapped_at value.Cause (reading types.cause) i
+    else (if id == names.enb_ue_s1ap_id then mapped_at value.Enb (number_at 0 names.most_enb_ue_s1ap_id) i
+    else (if id == names.erabs_to_setup then mapped_at value.Bearers (reading types.erabs_to_setup) i
+    else (if id == names.nas_pdu then mapped_at value.Nas (octet_string_at names.most_octets_of_nas) i
+    else (if id == names.erabs_done then mapped_at value.Done (reading types.erabs_done) i
+    else (if id == names.bit_rates then mapped_at value.Rates (reading types.bit_rates) i
+    else (if id == names.tai then mapped_at value.Tai (reading types.tai) i
+    else (if id == names.security_key then mapped_at value.Key (fixed_octets_at names.security_key_octets) i
+    else (if id == names.radio_capability then mapped_at value.Radio (octet_string_at names.most_octets) i
+    else (if id == names.stmsi then mapped_at value.Stmsi (reading types.stmsi) i
+    else (if id == names.ue_ids then mapped_at value.Ids (reading types.ue_ids) i
+    else (if id == names.cgi then mapped_at value.Cgi (reading types.cgi) i
+    else (if id == names.sec_caps then mapped_at value.Caps (reading types.sec_caps) i
+    else mapped_at value.Rrc (enumerated_at names.rrc_cause_roots true) i)))))))))))))
 
 -- ---- the header
 

@@ -11,19 +11,20 @@ use Rattle.s1ap_ies.specs.Tables.{rows_of}
 use Rattle.s1ap_ies.specs.Run.{IsTai, IsCgi, IsStmsi, IsBitRates, IsSecCaps, IsCause, IsUeIds, IsErabDone, IsErabToSetup, IsNas, choice_run}
 use Rattle.s1ap_ies.specs.Asn1.{item_run}
 use Rattle.s1ap_ies.specs.Asn1.{run}
+use Rattle.s1ap_ies.specs.Names as names
 use Rattle.s1ap_ies.specs.Values as types
 use Rattle.s1ap_messages.specs.declared.header.Header.{Header}
 use Rattle.s1ap_messages.specs.declared.pdu.Pdu.{Pdu}
 use Rattle.s1ap_messages.specs.declared.value.IeValue.TheVariants as value
 use Rattle.s1ap_messages.specs.Values.{FieldValue}
-use Rattle.s1ap_messages.specs.Messages.{header_of, kind_of, values_of}
+use Rattle.s1ap_messages.specs.Messages.{outcome_index, header_of, kind_of, values_of}
 
 -- ---- values
 
 unfoldable pub value_run : FieldValue → Run
-value_run (value.Mme mme) = number_run 0 4294967295 mme
+value_run (value.Mme mme) = number_run 0 names.most_mme_ue_s1ap_id mme
 value_run (value.Cause cause) = run types.cause cause
-value_run (value.Enb enb) = number_run 0 16777215 enb
+value_run (value.Enb enb) = number_run 0 names.most_enb_ue_s1ap_id enb
 value_run (value.Bearers bearers) = run types.erabs_to_setup bearers
 value_run (value.Nas nas) = octet_string_run nas
 value_run (value.Done done) = run types.erabs_done done
@@ -35,15 +36,15 @@ value_run (value.Stmsi stmsi) = run types.stmsi stmsi
 value_run (value.Ids ids) = run types.ue_ids ids
 value_run (value.Cgi cgi) = run types.cgi cgi
 value_run (value.Caps caps) = run types.sec_caps caps
-value_run (value.Rrc rrc) = enumerated_run 5 true rrc
+value_run (value.Rrc rrc) = enumerated_run names.rrc_cause_roots true rrc
 
 -- an open type has at most 16,383 octets
 abbrev pub IsShort : List Bool → Type 0
-IsShort body = length body ≤ 8 * 16383
+IsShort body = length body ≤ 8 * names.most_octets
 
 -- a list of 1 to 256 values, each in its range
 abbrev pub AreSome : {A : Type 0} → (A → Type 0) → List A → Type 0
-AreSome In xs = (1 ≤ length xs) × (length xs ≤ 256) × AllByRecursion In xs
+AreSome In xs = (1 ≤ length xs) × (length xs ≤ names.most_erabs) × AllByRecursion In xs
 
 -- a value in its range
 abbrev pub IsRightValue : FieldValue → Type 0
@@ -55,24 +56,20 @@ IsRightValue (value.Nas nas) = IsNas nas
 IsRightValue (value.Done done) = AreSome IsErabDone done
 IsRightValue (value.Rates rates) = IsBitRates rates
 IsRightValue (value.Tai tai) = IsTai tai
-IsRightValue (value.Key key) = length key ≡ 32
+IsRightValue (value.Key key) = length key ≡ names.security_key_octets
 IsRightValue (value.Radio radio) = length radio < 2 ^ 14
 IsRightValue (value.Stmsi stmsi) = IsStmsi stmsi
 IsRightValue (value.Ids ids) = IsUeIds ids
 IsRightValue (value.Cgi cgi) = IsCgi cgi
 IsRightValue (value.Caps caps) = IsSecCaps caps
-IsRightValue (value.Rrc rrc) = IsEnumValue 5 true rrc
+IsRightValue (value.Rrc rrc) = IsEnumValue names.rrc_cause_roots true rrc
 
 -- ---- the message
-
--- reject, ignore or notify
-abbrev pub HasCriticality : IeRow → Type 0
-HasCriticality row = row.criticality ≤ 2
 
 -- an IE, where the message has it
 unfoldable pub ie_run : IeRow → Option FieldValue → Run
 ie_run row None = nothing_run
-ie_run row (Some v) = item_run row.id row.criticality (value_run v 0)
+ie_run row (Some v) = item_run row.id (names.criticality_number row.criticality) (value_run v 0)
 
 -- the IEs of a table, with their values
 unfoldable pub fields_run : List IeRow → List (Option FieldValue) → Run
@@ -89,7 +86,7 @@ ies_run kind values = fixed_bits_run 1 0 ▸ number_run 0 65535 (count_of values
 
 -- outcome, in an octet of its own, procedure code, and criticality
 unfoldable pub header_run : Header → Run
-header_run header = choice_run 2 header.outcome ▸ fixed_bits_run 5 0 ▸ number_run 0 255 header.code ▸ fixed_bits_run 2 header.criticality
+header_run header = choice_run 2 (outcome_index header.outcome) ▸ fixed_bits_run 5 0 ▸ number_run 0 255 header.code ▸ fixed_bits_run 2 (names.criticality_number header.criticality)
 
 unfoldable pub pdu_run : MessageKind → List (Option FieldValue) → Run
 pdu_run kind values = header_run (header_of kind) ▸ open_run (ies_run kind values 0)

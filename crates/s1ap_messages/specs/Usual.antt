@@ -14,12 +14,13 @@ use Rattle.s1ap_ies.specs.declared.erab_done.ErabDone.{ErabDone}
 use Rattle.s1ap_ies.specs.declared.erab_to_setup.ErabToSetup.{ErabToSetup}
 use Rattle.s1ap_ies.specs.declared.tables.IeRow.{IeRow}
 use Rattle.s1ap_ies.specs.declared.tables.MessageKind.{MessageKind}
+use Rattle.s1ap_ies.specs.Names as names
 use Rattle.s1ap_ies.specs.Tables.{rows_of}
 use Rattle.s1ap_messages.specs.declared.header.Header.{Header}
 use Rattle.s1ap_messages.specs.declared.pdu.Pdu.{Pdu}
 use Rattle.s1ap_messages.specs.declared.value.IeValue.TheVariants as value
 use Rattle.s1ap_messages.specs.Values.{FieldValue}
-use Rattle.s1ap_messages.specs.Messages.{header_of, kind_of, values_of}
+use Rattle.s1ap_messages.specs.Messages.{outcome_index, header_of, kind_of, values_of}
 use Rattle.s1ap_messages.specs.Run.{count_of, IsRightValue}
 
 -- ---- pieces
@@ -110,9 +111,9 @@ abbrev pub value_octets : FieldValue → List ℕ
 value_octets (value.Mme mme) = number_octets 0 64 mme
 value_octets (value.Cause cause) = cause_octets cause
 value_octets (value.Enb enb) = number_octets 0 64 enb
-value_octets (value.Bearers bearers) = erabs_octets 52 0 setup_octets bearers
+value_octets (value.Bearers bearers) = erabs_octets names.erab_to_setup_item names.reject setup_octets bearers
 value_octets (value.Nas nas) = counted nas
-value_octets (value.Done done) = erabs_octets 50 1 done_octets done
+value_octets (value.Done done) = erabs_octets names.erab_setup_item names.ignore done_octets done
 value_octets (value.Rates rates) = rates_octets rates
 value_octets (value.Tai tai) = tai_octets tai
 value_octets (value.Key key) = key
@@ -128,7 +129,7 @@ abbrev pub fields_octets : List IeRow → List (Option FieldValue) → List ℕ
 fields_octets [] values = []
 fields_octets (row ∷ rows) [] = []
 fields_octets (row ∷ rows) (None ∷ values) = fields_octets rows values
-fields_octets (row ∷ rows) (Some v ∷ values) = ie_octets row.id row.criticality (value_octets v) ++ fields_octets rows values
+fields_octets (row ∷ rows) (Some v ∷ values) = ie_octets row.id (names.criticality_number row.criticality) (value_octets v) ++ fields_octets rows values
 
 -- ---- the message
 
@@ -137,14 +138,14 @@ body_octets p = 0 ∷ 0 ∷ count_of (values_of p) ∷ fields_octets (rows_of (k
 
 -- a header, and an open type
 abbrev pub message_octets : Header → List ℕ → List ℕ
-message_octets header body = 32 * header.outcome ∷ header.code ∷ 64 * header.criticality ∷ counted body
+message_octets header body = 32 * outcome_index header.outcome ∷ header.code ∷ 64 * names.criticality_number header.criticality ∷ counted body
 
 unfoldable pub usual_octets : Pdu → List ℕ
 usual_octets p = message_octets (header_of (kind_of p)) (body_octets p)
 
 -- the same with an octet of zeros in place of the length of the body
 unfoldable pub unfinished_octets : Pdu → List ℕ
-unfinished_octets p = 32 * (header_of (kind_of p)).outcome ∷ (header_of (kind_of p)).code ∷ 64 * (header_of (kind_of p)).criticality ∷ 0 ∷ body_octets p
+unfinished_octets p = 32 * outcome_index (header_of (kind_of p)).outcome ∷ (header_of (kind_of p)).code ∷ 64 * names.criticality_number (header_of (kind_of p)).criticality ∷ 0 ∷ body_octets p
 
 -- its fields are in their ranges
 abbrev pub HasRightValues : Pdu → Type 0
@@ -160,4 +161,4 @@ AreFieldsOf kind octets count p = (kind_of p ≡ kind) × (octets ≡ fields_oct
 
 -- the octets of the header of a kind of message
 abbrev pub BeginsAs : MessageKind → ℕ → ℕ → ℕ → Type 0
-BeginsAs kind outcome code criticality = (outcome ≡ 32 * (header_of kind).outcome) × (code ≡ (header_of kind).code) × (criticality ≡ 64 * (header_of kind).criticality)
+BeginsAs kind outcome code criticality = (outcome ≡ 32 * outcome_index (header_of kind).outcome) × (code ≡ (header_of kind).code) × (criticality ≡ 64 * names.criticality_number (header_of kind).criticality)

@@ -3,28 +3,53 @@
 ghost use Rattle.std.specs.Prelude.{◌≡◌, ◌≤◌, ◌<◌, OnOk};
 ghost use Rattle.aper_fields.specs.Reading.{Gives};
 ghost use Rattle.aper_fields.specs.Run.{then_written};
-ghost use Rattle.s1ap_messages.specs.Messages.{header_of};
+ghost use Rattle.s1ap_messages.specs.Messages.{outcome_index, header_of};
 ghost use Rattle.s1ap_messages.specs.Grammar.{kind_with};
 ghost use Rattle.s1ap_messages.specs.Reading.{header_at};
 ghost use Rattle.s1ap_messages.specs.Run.{header_run};
 
 use aper_fields::{BitReader, BitWriter, Ranged, read_bits_fixed, write_bits_fixed};
 use echo_base::{OutOfMemory, Reason, Refusal};
-use s1ap_ies::{MessageKind, read_choice, read_criticality, write_choice};
+use s1ap_ies::{Criticality, MessageKind, names, read_choice, read_criticality, write_choice};
 
-/// The beginning of a message (TS 36.413, 9.3.2): what kind of outcome it is, the procedure code, the criticality.
+/// The alternatives of S1AP-PDU (TS 36.413, 9.3.2).
+#[derive(Clone, Copy, Debug)]
+pub enum Outcome {
+    /// An initiating message.
+    Initiating,
+    /// A successful outcome.
+    Successful,
+    /// An unsuccessful outcome.
+    Unsuccessful,
+}
+
+impl Outcome {
+    /// The index of the alternative.
+    fn index(self) -> u8
+        ensures index { result ≡ outcome_index self }
+        ensures root { result < 3 }
+    {
+        match self {
+            Outcome::Initiating => 0,
+            Outcome::Successful => 1,
+            Outcome::Unsuccessful => 2,
+        }
+    }
+}
+
+/// The beginning of a message (TS 36.413, 9.3.2).
 #[derive(Clone, Copy, Debug)]
 pub struct Header {
-    /// 0 initiating message, 1 successful outcome, 2 unsuccessful outcome.
-    pub outcome: u8,
+    /// What kind of outcome it is.
+    pub outcome: Outcome,
     /// The procedure code (9.3.6).
     pub code: u8,
-    /// 0 reject, 1 ignore, 2 notify.
-    pub criticality: u8,
+    /// What a receiver does that does not know the procedure.
+    pub criticality: Criticality,
 }
 
 /// A header of these parts.
-const fn begins(outcome: u8, code: u8, criticality: u8) -> Header
+const fn begins(outcome: Outcome, code: u8, criticality: Criticality) -> Header
     ensures { result ≡ record { outcome = outcome; code = code; criticality = criticality } }
 {
     Header {
@@ -38,36 +63,70 @@ const fn begins(outcome: u8, code: u8, criticality: u8) -> Header
 pub fn header_of(kind: MessageKind) -> Header
     ensures { result ≡ header_of kind }
 {
+    use Criticality::{Ignore, Reject};
+    use Outcome::{Initiating, Successful, Unsuccessful};
     match kind {
-        MessageKind::InitialUeMessage => begins(0, 12, 1),
-        MessageKind::UplinkNasTransport => begins(0, 13, 1),
-        MessageKind::DownlinkNasTransport => begins(0, 11, 1),
-        MessageKind::InitialContextSetupRequest => begins(0, 9, 0),
-        MessageKind::InitialContextSetupResponse => begins(1, 9, 0),
-        MessageKind::InitialContextSetupFailure => begins(2, 9, 0),
-        MessageKind::UeContextReleaseRequest => begins(0, 18, 1),
-        MessageKind::UeContextReleaseCommand => begins(0, 23, 0),
-        MessageKind::UeContextReleaseComplete => begins(1, 23, 0),
-        MessageKind::UeCapabilityInfoIndication => begins(0, 22, 1),
+        MessageKind::InitialUeMessage => begins(Initiating, names::INITIAL_UE_MESSAGE, Ignore),
+        MessageKind::UplinkNasTransport => begins(Initiating, names::UPLINK_NAS_TRANSPORT, Ignore),
+        MessageKind::DownlinkNasTransport => begins(
+            Initiating,
+            names::DOWNLINK_NAS_TRANSPORT,
+            Ignore,
+        ),
+        MessageKind::InitialContextSetupRequest => begins(
+            Initiating,
+            names::INITIAL_CONTEXT_SETUP,
+            Reject,
+        ),
+        MessageKind::InitialContextSetupResponse => begins(
+            Successful,
+            names::INITIAL_CONTEXT_SETUP,
+            Reject,
+        ),
+        MessageKind::InitialContextSetupFailure => begins(
+            Unsuccessful,
+            names::INITIAL_CONTEXT_SETUP,
+            Reject,
+        ),
+        MessageKind::UeContextReleaseRequest => begins(
+            Initiating,
+            names::UE_CONTEXT_RELEASE_REQUEST,
+            Ignore,
+        ),
+        MessageKind::UeContextReleaseCommand => begins(
+            Initiating,
+            names::UE_CONTEXT_RELEASE,
+            Reject,
+        ),
+        MessageKind::UeContextReleaseComplete => begins(
+            Successful,
+            names::UE_CONTEXT_RELEASE,
+            Reject,
+        ),
+        MessageKind::UeCapabilityInfoIndication => begins(
+            Initiating,
+            names::UE_CAPABILITY_INFO_INDICATION,
+            Ignore,
+        ),
     }
 }
 
 /// The kind of message that begins with that outcome and procedure code.
 #[tactic(auto, unfolding(crate::specs::Grammar::kind_among))]
-fn kind_with(outcome: u64, code: u64) -> Option<MessageKind>
+fn kind_with(outcome: u64, code: u8) -> Option<MessageKind>
     ensures { result ≡ kind_with outcome code }
 {
     match (outcome, code) {
-        (0, 12) => Some(MessageKind::InitialUeMessage),
-        (0, 13) => Some(MessageKind::UplinkNasTransport),
-        (0, 11) => Some(MessageKind::DownlinkNasTransport),
-        (0, 9) => Some(MessageKind::InitialContextSetupRequest),
-        (1, 9) => Some(MessageKind::InitialContextSetupResponse),
-        (2, 9) => Some(MessageKind::InitialContextSetupFailure),
-        (0, 18) => Some(MessageKind::UeContextReleaseRequest),
-        (0, 23) => Some(MessageKind::UeContextReleaseCommand),
-        (1, 23) => Some(MessageKind::UeContextReleaseComplete),
-        (0, 22) => Some(MessageKind::UeCapabilityInfoIndication),
+        (0, names::INITIAL_UE_MESSAGE) => Some(MessageKind::InitialUeMessage),
+        (0, names::UPLINK_NAS_TRANSPORT) => Some(MessageKind::UplinkNasTransport),
+        (0, names::DOWNLINK_NAS_TRANSPORT) => Some(MessageKind::DownlinkNasTransport),
+        (0, names::INITIAL_CONTEXT_SETUP) => Some(MessageKind::InitialContextSetupRequest),
+        (1, names::INITIAL_CONTEXT_SETUP) => Some(MessageKind::InitialContextSetupResponse),
+        (2, names::INITIAL_CONTEXT_SETUP) => Some(MessageKind::InitialContextSetupFailure),
+        (0, names::UE_CONTEXT_RELEASE_REQUEST) => Some(MessageKind::UeContextReleaseRequest),
+        (0, names::UE_CONTEXT_RELEASE) => Some(MessageKind::UeContextReleaseCommand),
+        (1, names::UE_CONTEXT_RELEASE) => Some(MessageKind::UeContextReleaseComplete),
+        (0, names::UE_CAPABILITY_INFO_INDICATION) => Some(MessageKind::UeCapabilityInfoIndication),
         _ => None,
     }
 }
@@ -84,9 +143,9 @@ pub fn read_header(r: &mut BitReader) -> Result<MessageKind, Refusal>
         return Err(place.refusal(Reason::NonZeroPadding));
     }
     let place = ahead.ahead();
-    let code = Ranged::<0, 255>::read(&mut ahead)?;
+    let code = Ranged::<0, 255>::read(&mut ahead)? as u8;
     let Some(kind) = kind_with(outcome, code) else {
-        return Err(place.refusal(Reason::OtherProcedure(code as u8)));
+        return Err(place.refusal(Reason::OtherProcedure(code)));
     };
     read_criticality(&mut ahead)?;
     *r = ahead;
@@ -96,12 +155,10 @@ pub fn read_header(r: &mut BitReader) -> Result<MessageKind, Refusal>
 /// Writes the header of a message.
 #[tactic(auto, unfolding(crate::specs::Run::header_run))]
 pub fn write_header(w: &mut BitWriter, header: Header) -> Result<(), OutOfMemory>
-    requires outcome { header.outcome < 3 }
-    requires criticality { header.criticality ≤ 2 }
     ensures { OnOk result (w.new ≡ then_written w.old (header_run header)) }
 {
-    write_choice(w, 2, u64::from(header.outcome))?;
+    write_choice(w, 2, u64::from(header.outcome.index()))?;
     write_bits_fixed(w, 0, 5)?;
     Ranged::<0, 255>::write(w, u64::from(header.code))?;
-    write_bits_fixed(w, u64::from(header.criticality), 2)
+    write_bits_fixed(w, u64::from(header.criticality.number()), 2)
 }

@@ -4,6 +4,7 @@ ghost use Rattle.std.specs.Prelude.{◌≡◌, ◌≤◌, [], IfOk, OnOk};
 ghost use Rattle.std.specs.List.{AllByRecursion};
 ghost use Rattle.aper_fields.specs.Reading.{Gives};
 ghost use Rattle.aper_fields.specs.Run.{then_written};
+ghost use Rattle.s1ap_ies.specs.Names.{criticality_number};
 ghost use Rattle.s1ap_ies.specs.Asn1.{AsnType, reading, run, contained_item_at, list_at, each_run, list_run, item_run, CanBeWritten, IsItem};
 ghost use Rattle.s1ap_ies.specs.Many.{many_at};
 ghost use Rattle.s1ap_ies.specs.Memory.{GivesIn};
@@ -13,10 +14,11 @@ ghost use Rattle.s1ap_ies.specs.Values.{erabs_to_setup, erabs_done};
 ghost use Rattle.s1ap_messages.specs.Reading.{skipped_at, erabs_skipped_at};
 ghost use Rattle.s1ap_messages.specs.Run.{AreSome};
 
-use aper_fields::{BitReader, BitWriter, Ranged, close};
+use aper_fields::{BitReader, BitWriter, Ranged, close, end_open};
 use device_types::ListOf;
 use echo_base::{Bad, OutOfMemory, Refusal};
-use s1ap_ies::{ErabDone, ErabToSetup, OwnedValue, names, read_item, write_item};
+use s1ap_ies::names::MOST_ERABS;
+use s1ap_ies::{Criticality, ErabDone, ErabToSetup, OwnedValue, begin_item, names, read_item};
 use std::alloc::Global;
 use std::marker::{Model, PhantomData};
 
@@ -117,7 +119,7 @@ fn read_erabs<T: Erab>(alloc: Global, r: &mut BitReader, id: u16) -> Result<List
     ensures { GivesIn result r.old r.new (list_at 1 256 (contained_item_at id (reading T.asn1)) r.old) }
 {
     let mut ahead = r.ahead();
-    let count = Ranged::<1, 256>::read(&mut ahead)?;
+    let count = Ranged::<1, MOST_ERABS>::read(&mut ahead)?;
     let erabs = read_many(alloc, &mut ahead, id, count)?;
     *r = ahead;
     Ok(erabs)
@@ -158,7 +160,7 @@ fn skip_erabs<T: Erab>(r: &mut BitReader, id: u16) -> Result<(), Refusal>
     ensures { Gives result r.old r.new (erabs_skipped_at id (reading T.asn1) r.old) }
 {
     let mut ahead = r.ahead();
-    let count = Ranged::<1, 256>::read(&mut ahead)?;
+    let count = Ranged::<1, MOST_ERABS>::read(&mut ahead)?;
     skip_many::<T>(&mut ahead, id, count)?;
     *r = ahead;
     Ok(())
@@ -229,39 +231,34 @@ pub fn find_erabs_done<'a>(r: &mut BitReader<'a>) -> Result<FoundErabs<'a, ErabD
 }
 
 /// Writes an item of a list, with all of its open type.
-#[tactic(auto, using(crate::proofs::Writes::short_content))]
 fn write_one<T: Erab>(
-    alloc: Global,
     w: &mut BitWriter,
     id: u16,
-    criticality: u8,
+    criticality: Criticality,
     erab: &T,
 ) -> Result<(), OutOfMemory>
-    requires criticality { criticality ≤ 2 }
     requires right { IsItem T.asn1 erab.now }
-    ensures { OnOk result (w.new ≡ then_written w.old (item_run id criticality (run T.asn1 erab.now 0))) }
+    ensures { OnOk result (w.new ≡ then_written w.old (item_run id (criticality_number criticality) (run T.asn1 erab.now 0))) }
 {
-    let mut body = BitWriter::new(alloc);
-    erab.write_erab(&mut body)?;
-    write_item(w, id, criticality, &body)
+    let start = begin_item(w, id, criticality)?;
+    erab.write_erab(w)?;
+    end_open(w, start)
 }
 
 /// Writes the items of a list.
 #[tactic(auto, unfolding(s1ap_ies::specs::Asn1::each_run))]
 fn write_items<T: Erab>(
-    alloc: Global,
     w: &mut BitWriter,
     id: u16,
-    criticality: u8,
+    criticality: Criticality,
     erabs: &[T],
 ) -> Result<(), OutOfMemory>
-    requires criticality { criticality ≤ 2 }
     requires right { AllByRecursion (λ a. IsItem T.asn1 a) erabs.now }
-    ensures { OnOk result (w.new ≡ then_written w.old (each_run (λ a. item_run id criticality (run T.asn1 a 0)) erabs.now)) }
+    ensures { OnOk result (w.new ≡ then_written w.old (each_run (λ a. item_run id (criticality_number criticality) (run T.asn1 a 0)) erabs.now)) }
 {
     let mut left = erabs;
     while let [erab, rest @ ..] = left {
-        write_one(alloc, w, id, criticality, erab)?;
+        write_one(w, id, criticality, erab)?;
         left = rest;
     }
     Ok(())
@@ -270,42 +267,32 @@ fn write_items<T: Erab>(
 /// Writes a list whose items have that id and criticality: how many items there are, 1 to 256, and the items.
 #[tactic(auto, unfolding(s1ap_ies::specs::Asn1::list_run))]
 fn write_erabs<T: Erab>(
-    alloc: Global,
     w: &mut BitWriter,
     id: u16,
-    criticality: u8,
+    criticality: Criticality,
     erabs: &[T],
 ) -> Result<(), OutOfMemory>
-    requires criticality { criticality ≤ 2 }
     requires right { AreSome (λ a. IsItem T.asn1 a) erabs.now }
-    ensures { OnOk result (w.new ≡ then_written w.old (list_run 1 256 (λ a. item_run id criticality (run T.asn1 a 0)) erabs.now)) }
+    ensures { OnOk result (w.new ≡ then_written w.old (list_run 1 256 (λ a. item_run id (criticality_number criticality) (run T.asn1 a 0)) erabs.now)) }
 {
-    Ranged::<1, 256>::write(w, erabs.len() as u64)?;
-    write_items(alloc, w, id, criticality, erabs)
+    Ranged::<1, MOST_ERABS>::write(w, erabs.len() as u64)?;
+    write_items(w, id, criticality, erabs)
 }
 
 /// Writes an E-RAB to Be Setup List.
 #[tactic(auto, unfolding(s1ap_ies::specs::Asn1::run, s1ap_ies::specs::Values::erabs_to_setup), using(s1ap_ies::proofs::Items::setup_items))]
-pub fn write_erabs_to_setup(
-    alloc: Global,
-    w: &mut BitWriter,
-    erabs: &[ErabToSetup],
-) -> Result<(), OutOfMemory>
+pub fn write_erabs_to_setup(w: &mut BitWriter, erabs: &[ErabToSetup]) -> Result<(), OutOfMemory>
     requires { AreSome IsErabToSetup erabs.now }
     ensures { OnOk result (w.new ≡ then_written w.old (run erabs_to_setup erabs.now)) }
 {
-    write_erabs(alloc, w, names::ERAB_TO_SETUP_ITEM, names::REJECT, erabs)
+    write_erabs(w, names::ERAB_TO_SETUP_ITEM, Criticality::Reject, erabs)
 }
 
 /// Writes an E-RAB Setup List.
 #[tactic(auto, unfolding(s1ap_ies::specs::Asn1::run, s1ap_ies::specs::Values::erabs_done), using(s1ap_ies::proofs::Items::done_items))]
-pub fn write_erabs_done(
-    alloc: Global,
-    w: &mut BitWriter,
-    erabs: &[ErabDone],
-) -> Result<(), OutOfMemory>
+pub fn write_erabs_done(w: &mut BitWriter, erabs: &[ErabDone]) -> Result<(), OutOfMemory>
     requires { AreSome IsErabDone erabs.now }
     ensures { OnOk result (w.new ≡ then_written w.old (run erabs_done erabs.now)) }
 {
-    write_erabs(alloc, w, names::ERAB_SETUP_ITEM, names::IGNORE, erabs)
+    write_erabs(w, names::ERAB_SETUP_ITEM, Criticality::Ignore, erabs)
 }

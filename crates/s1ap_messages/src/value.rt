@@ -9,9 +9,8 @@ use crate::pdu::{ErabsDone, ErabsToSetup};
 use aper_fields::{BitReader, EnumValue, Ranged, read_enum, read_octet_string, read_octets_fixed};
 use device_types::Octets;
 use echo_base::{OutOfMemory, Refusal};
-use s1ap_ies::names::MOST_OCTETS_OF_NAS;
 use s1ap_ies::{
-    BitRates, Cause, Cgi, ErabDone, ErabToSetup, PlainValue, SecCaps, Stmsi, Tai, UeIds,
+    BitRates, Cause, Cgi, ErabDone, ErabToSetup, PlainValue, SecCaps, Stmsi, Tai, UeIds, names,
 };
 use std::alloc::Global;
 use std::marker::Model;
@@ -97,30 +96,34 @@ fn find_text<'a>(r: &mut BitReader<'a>, most: usize) -> Result<FoundOctets<'a>, 
 fn find_key<'a>(r: &mut BitReader<'a>) -> Result<FoundOctets<'a>, Refusal>
     ensures { Gives result r.old r.new (fixed_octets_at 32 r.old) }
 {
-    let octets = read_octets_fixed(r, 32)?;
+    let octets = read_octets_fixed(r, names::SECURITY_KEY_OCTETS)?;
     Ok(FoundOctets { octets })
 }
 
-/// Finds the value of the IE with that id; the last is 134.
+/// Finds the value of the IE with that id; the last is an RRC Establishment Cause.
 #[tactic(auto, unfolding(crate::specs::Reading::value_at))]
 pub fn find_value<'a>(r: &mut BitReader<'a>, id: u16) -> Result<FoundValue<'a>, Refusal>
     ensures { Gives result r.old r.new (value_at id r.old) }
 {
     match id {
-        0 => Ok(IeValue::Mme(Ranged::<0, 4294967295>::read(r)? as u32)),
-        2 => Ok(IeValue::Cause(Cause::read(r)?)),
-        8 => Ok(IeValue::Enb(Ranged::<0, 16777215>::read(r)? as u32)),
-        24 => Ok(IeValue::Bearers(find_erabs_to_setup(r)?)),
-        26 => Ok(IeValue::Nas(find_text(r, MOST_OCTETS_OF_NAS)?)),
-        51 => Ok(IeValue::Done(find_erabs_done(r)?)),
-        66 => Ok(IeValue::Rates(BitRates::read(r)?)),
-        67 => Ok(IeValue::Tai(Tai::read(r)?)),
-        73 => Ok(IeValue::Key(find_key(r)?)),
-        74 => Ok(IeValue::Radio(find_text(r, 16383)?)),
-        96 => Ok(IeValue::Stmsi(Stmsi::read(r)?)),
-        99 => Ok(IeValue::Ids(UeIds::read(r)?)),
-        100 => Ok(IeValue::Cgi(Cgi::read(r)?)),
-        107 => Ok(IeValue::Caps(SecCaps::read(r)?)),
-        _ => Ok(IeValue::Rrc(read_enum(r, 5, true)?)),
+        names::MME_UE_S1AP_ID => Ok(IeValue::Mme(
+            Ranged::<0, { names::MOST_MME_UE_S1AP_ID }>::read(r)? as u32,
+        )),
+        names::CAUSE => Ok(IeValue::Cause(Cause::read(r)?)),
+        names::ENB_UE_S1AP_ID => Ok(IeValue::Enb(
+            Ranged::<0, { names::MOST_ENB_UE_S1AP_ID }>::read(r)? as u32,
+        )),
+        names::ERABS_TO_SETUP => Ok(IeValue::Bearers(find_erabs_to_setup(r)?)),
+        names::NAS_PDU => Ok(IeValue::Nas(find_text(r, names::MOST_OCTETS_OF_NAS)?)),
+        names::ERABS_DONE => Ok(IeValue::Done(find_erabs_done(r)?)),
+        names::BIT_RATES => Ok(IeValue::Rates(BitRates::read(r)?)),
+        names::TAI => Ok(IeValue::Tai(Tai::read(r)?)),
+        names::SECURITY_KEY => Ok(IeValue::Key(find_key(r)?)),
+        names::RADIO_CAPABILITY => Ok(IeValue::Radio(find_text(r, names::MOST_OCTETS)?)),
+        names::STMSI => Ok(IeValue::Stmsi(Stmsi::read(r)?)),
+        names::UE_IDS => Ok(IeValue::Ids(UeIds::read(r)?)),
+        names::CGI => Ok(IeValue::Cgi(Cgi::read(r)?)),
+        names::SEC_CAPS => Ok(IeValue::Caps(SecCaps::read(r)?)),
+        _ => Ok(IeValue::Rrc(read_enum(r, names::RRC_CAUSE_ROOTS, true)?)),
     }
 }

@@ -1,12 +1,12 @@
 //! Writing messages.
 
-ghost use Rattle.std.specs.Prelude.{◌≡◌, ◌+◌, ◌*◌, ◌<◌, ◌≤◌, ◌^◌, [], OnOk, IfOk, IfSome, option_map, length};
+ghost use Rattle.std.specs.Prelude.{◌≡◌, ◌+◌, ◌≤◌, OnOk, IfOk, IfSome, option_map, length};
 ghost use Rattle.std.specs.List.{AllByRecursion};
-ghost use Rattle.aper_fields.specs.Run.{then_written, content_of};
+ghost use Rattle.aper_fields.specs.Run.{then_written};
 ghost use Rattle.s1ap_ies.specs.Tables.{rows_of};
 ghost use Rattle.s1ap_messages.specs.Messages.{kind_of, values_of};
 ghost use Rattle.s1ap_messages.specs.Lent.{seen, all_seen};
-ghost use Rattle.s1ap_messages.specs.Run.{value_run, ie_run, fields_run, ies_run, written, IsRightValue, IsRightField, IsRight, count_of, HasCriticality};
+ghost use Rattle.s1ap_messages.specs.Run.{value_run, ie_run, fields_run, ies_run, written, IsRightValue, IsRightField, IsRight, count_of};
 
 use crate::header::{header_of, write_header};
 use crate::lists::{write_erabs_done, write_erabs_to_setup};
@@ -15,27 +15,28 @@ use crate::reading::rows;
 use crate::usual::write_usual;
 use crate::value::{IeValue, LentValue};
 use aper_fields::{
-    BitWriter, Ranged, write_bits_fixed, write_enum, write_octet_string, write_octets_fixed,
-    write_open,
+    BitWriter, Ranged, begin_open, end_open, write_bits_fixed, write_enum, write_octet_string,
+    write_octets_fixed,
 };
 use device_types::Octets;
 use echo_base::OutOfMemory;
-use s1ap_ies::{IeRow, MessageKind, PlainValue, ies_of, write_item};
+use s1ap_ies::names::{MOST_ENB_UE_S1AP_ID, MOST_MME_UE_S1AP_ID, RRC_CAUSE_ROOTS};
+use s1ap_ies::{IeRow, MessageKind, PlainValue, begin_item, ies_of};
 use std::alloc::Global;
 
 /// Writes the value of an IE.
 #[tactic(auto, unfolding(crate::specs::Run::value_run))]
-fn write_value(alloc: Global, w: &mut BitWriter, value: &LentValue) -> Result<(), OutOfMemory>
+fn write_value(w: &mut BitWriter, value: &LentValue) -> Result<(), OutOfMemory>
     requires { IsRightValue (seen value.now) }
     ensures { OnOk result (w.new ≡ then_written w.old (value_run (seen value.now))) }
 {
     match value {
-        IeValue::Mme(mme) => Ranged::<0, 4294967295>::write(w, u64::from(*mme)),
+        IeValue::Mme(mme) => Ranged::<0, MOST_MME_UE_S1AP_ID>::write(w, u64::from(*mme)),
         IeValue::Cause(cause) => cause.write(w),
-        IeValue::Enb(enb) => Ranged::<0, 16777215>::write(w, u64::from(*enb)),
-        IeValue::Bearers(bearers) => write_erabs_to_setup(alloc, w, bearers.items()),
+        IeValue::Enb(enb) => Ranged::<0, MOST_ENB_UE_S1AP_ID>::write(w, u64::from(*enb)),
+        IeValue::Bearers(bearers) => write_erabs_to_setup(w, bearers.items()),
         IeValue::Nas(nas) => write_octet_string(w, nas.items()),
-        IeValue::Done(done) => write_erabs_done(alloc, w, done.items()),
+        IeValue::Done(done) => write_erabs_done(w, done.items()),
         IeValue::Rates(rates) => rates.write(w),
         IeValue::Tai(tai) => tai.write(w),
         IeValue::Key(key) => write_octets_fixed(w, key.items()),
@@ -44,56 +45,41 @@ fn write_value(alloc: Global, w: &mut BitWriter, value: &LentValue) -> Result<()
         IeValue::Ids(ids) => ids.write(w),
         IeValue::Cgi(cgi) => cgi.write(w),
         IeValue::Caps(caps) => caps.write(w),
-        IeValue::Rrc(rrc) => write_enum(w, 5, true, *rrc),
+        IeValue::Rrc(rrc) => write_enum(w, RRC_CAUSE_ROOTS, true, *rrc),
     }
 }
 
-/// Writes an IE with the id and criticality of its row, where the message has it. Its value is written into a body first, which
-/// is empty before it and behind it.
+/// Writes an IE with the id and criticality of its row, where the message has it.
 #[tactic(auto, unfolding(crate::specs::Run::ie_run))]
-fn write_ie(
-    alloc: Global,
-    w: &mut BitWriter,
-    body: &mut BitWriter,
-    row: &IeRow,
-    value: &Option<LentValue>,
-) -> Result<(), OutOfMemory>
-    requires empty { body.old ≡ [] }
-    requires criticality { HasCriticality row.now }
+fn write_ie(w: &mut BitWriter, row: &IeRow, value: &Option<LentValue>) -> Result<(), OutOfMemory>
     requires right { IfSome (option_map seen value.now) IsRightField }
-    ensures ok { OnOk result (w.new ≡ then_written w.old (ie_run row.now (option_map seen value.now))) }
-    ensures empty { OnOk result (body.new ≡ []) }
+    ensures { OnOk result (w.new ≡ then_written w.old (ie_run row.now (option_map seen value.now))) }
 {
     let Some(value) = value else {
         return Ok(());
     };
-    let start = body.mark();
-    write_value(alloc, body, value)?;
-    write_item(w, row.id, row.criticality, body)?;
-    body.back_to(start);
-    Ok(())
+    let start = begin_item(w, row.id, row.criticality)?;
+    write_value(w, value)?;
+    end_open(w, start)
 }
 
 /// Writes the IEs of the rows of a table.
 #[tactic(auto, unfolding(crate::specs::Run::fields_run))]
 fn write_fields(
-    alloc: Global,
     w: &mut BitWriter,
     rows: &[IeRow],
     values: &[Option<LentValue>],
 ) -> Result<(), OutOfMemory>
-    requires criticalities { AllByRecursion HasCriticality rows.now }
     requires right { AllByRecursion (λ v. IfSome v IsRightField) (all_seen values.now) }
     ensures { OnOk result (w.new ≡ then_written w.old (fields_run rows.now (all_seen values.now))) }
 {
-    let mut body = BitWriter::new(alloc);
     let mut rows = rows;
     let mut values = values;
     while let [row, later @ ..] = rows {
         let [value, others @ ..] = values else {
             return Ok(());
         };
-        write_ie(alloc, w, &mut body, row, value)?;
+        write_ie(w, row, value)?;
         rows = later;
         values = others;
     }
@@ -111,42 +97,40 @@ fn count_of(values: &[Option<LentValue>]) -> usize
 /// Writes the SEQUENCE of IEs of a table, with their values.
 #[tactic(auto, unfolding(crate::specs::Run::ies_run))]
 fn write_ies(
-    alloc: Global,
+    w: &mut BitWriter,
     kind: MessageKind,
     values: &[Option<LentValue>],
-) -> Result<BitWriter, OutOfMemory>
+) -> Result<(), OutOfMemory>
     requires length { length values.now ≡ length (rows_of kind) }
     requires right { AllByRecursion (λ v. IfSome v IsRightField) (all_seen values.now) }
-    ensures { IfOk result (λ w. w ≡ ies_run kind (all_seen values.now) 0) }
+    ensures { OnOk result (w.new ≡ then_written w.old (ies_run kind (all_seen values.now))) }
 {
     let table = ies_of(kind);
-    let mut w = BitWriter::new(alloc);
-    write_bits_fixed(&mut w, 0, 1)?;
-    Ranged::<0, 65535>::write(&mut w, count_of(values) as u64)?;
-    write_fields(alloc, &mut w, rows(&table), values)?;
-    Ok(w)
+    write_bits_fixed(w, 0, 1)?;
+    Ranged::<0, 65535>::write(w, count_of(values) as u64)?;
+    write_fields(w, rows(&table), values)
 }
 
 /// Writes the IEs of a message.
-fn write_body(alloc: Global, p: &Pdu) -> Result<BitWriter, OutOfMemory>
+fn write_body(w: &mut BitWriter, p: &Pdu) -> Result<(), OutOfMemory>
     requires { AllByRecursion (λ v. IfSome v IsRightField) (values_of p.now) }
-    ensures { IfOk result (λ w. w ≡ ies_run (kind_of p.now) (values_of p.now) 0) }
+    ensures { OnOk result (w.new ≡ then_written w.old (ies_run (kind_of p.now) (values_of p.now))) }
 {
     let kind = p.kind();
-    write_ies(alloc, kind, &p.values()[..ies_of(kind).len])
+    write_ies(w, kind, &p.values()[..ies_of(kind).len])
 }
 
-/// Writes a message piece by piece.
-#[tactic(auto, unfolding(crate::specs::Run::pdu_run, crate::specs::Run::written), using(crate::proofs::Writes::short_content))]
+/// Writes a message piece by piece, into octets that are begun once: what an open type contains is written where it stands, and counted then.
 pub(crate) fn write_pieces(alloc: Global, p: &Pdu) -> Result<Octets, OutOfMemory>
     requires { IsRight p.now }
     ensures { IfOk result (λ octets. octets ≡ written p.now) }
 {
-    let body = write_body(alloc, p)?;
     let mut w = BitWriter::new(alloc);
     write_header(&mut w, header_of(p.kind()))?;
-    write_open(&mut w, &body)?;
-    Ok(Octets::from(Vec::from_slice(alloc, w.bytes())?))
+    let start = begin_open(&mut w)?;
+    write_body(&mut w, p)?;
+    end_open(&mut w, start)?;
+    Ok(Octets::from(w.into_bytes()))
 }
 
 /// Writes a message: its IEs in the order of its table (TS 36.413, 9.1), each with the criticality of the table, and no

@@ -1,13 +1,14 @@
 use Rattle.std.proofs.Common.{◌≡◌, length}
 use Rattle.std.specs.List.{AllByRecursion}
 use Rattle.aper_fields.specs.Run.{then_written}
+use Rattle.s1ap_ies.specs.Names.{criticality_number}
 use Rattle.s1ap_ies.specs.Asn1.{run, each_run, item_run, IsItem}
 use Rattle.s1ap_messages.proofs.lists.write_items.Given as goal
 
 -- the items that are left, behind those that were written
 abbrev pub invariant-loop-left : goal.invariant-loop-left
 invariant-loop-left g l = record {
-  goes_on : then_written l.w (each_run (λ a. item_run l.id l.criticality (run g.T.Erab.asn1 a 0)) l.left) ≡ then_written l.fn.w (each_run (λ a. item_run l.fn.id l.fn.criticality (run g.T.Erab.asn1 a 0)) l.fn.erabs);
+  goes_on : then_written l.w (each_run (λ a. item_run l.id (criticality_number l.criticality) (run g.T.Erab.asn1 a 0)) l.left) ≡ then_written l.fn.w (each_run (λ a. item_run l.fn.id (criticality_number l.fn.criticality) (run g.T.Erab.asn1 a 0)) l.fn.erabs);
   right : AllByRecursion (λ a. IsItem g.T.Erab.asn1 a) l.left;
 }
 

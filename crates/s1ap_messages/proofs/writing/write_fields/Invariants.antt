@@ -1,16 +1,14 @@
-use Rattle.std.proofs.Common.{◌≡◌, [], length, IfSome}
+use Rattle.std.proofs.Common.{◌≡◌, length, IfSome}
 use Rattle.std.specs.List.{AllByRecursion}
 use Rattle.aper_fields.specs.Run.{then_written}
 use Rattle.s1ap_messages.specs.Lent.{all_seen}
-use Rattle.s1ap_messages.specs.Run.{fields_run, HasCriticality, IsRightField}
+use Rattle.s1ap_messages.specs.Run.{fields_run, IsRightField}
 use Rattle.s1ap_messages.proofs.writing.write_fields.Given as goal
 
--- the IEs that are left, behind those that were written; the body is empty between two of them
+-- the IEs that are left, behind those that were written
 abbrev pub invariant-loop-rows : goal.invariant-loop-rows
 invariant-loop-rows l = record {
   goes_on : then_written l.w (fields_run l.rows (all_seen l.values)) ≡ then_written l.fn.w (fields_run l.fn.rows (all_seen l.fn.values));
-  criticalities : AllByRecursion HasCriticality l.rows;
-  empty : l.body ≡ [];
   right : AllByRecursion (λ v. IfSome v IsRightField) (all_seen l.values);
 }
 
