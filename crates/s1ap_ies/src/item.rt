@@ -42,11 +42,7 @@ pub fn read_item<'a>(r: &mut BitReader<'a>, id: u16) -> Result<BitReader<'a>, Re
 }
 
 /// Writes the id of an item, its criticality, and the octet that stands before what it contains.
-fn begin_fields(
-    w: &mut BitWriter,
-    id: u16,
-    criticality: Criticality,
-) -> Result<Mark, OutOfMemory>
+fn begin_fields(w: &mut BitWriter, id: u16, criticality: Criticality) -> Result<Mark, OutOfMemory>
     ensures ok { OnOk result (w.new ≡ then_written w.old (item_start id (criticality_number criticality))) }
     ensures place { IfOk result (λ start. start ≡ length w.new) }
     ensures whole { IfOk result (λ start. start % 8 ≡ 0) }
@@ -60,11 +56,7 @@ fn begin_fields(
 
 /// Writes an item's id, its criticality and the octet that stands before what it contains, and says where that begins: it is written
 /// behind it, up to `end_open`. Where memory runs out, nothing is written.
-pub fn begin_item(
-    w: &mut BitWriter,
-    id: u16,
-    criticality: Criticality,
-) -> Result<Mark, OutOfMemory>
+pub fn begin_item(w: &mut BitWriter, id: u16, criticality: Criticality) -> Result<Mark, OutOfMemory>
     ensures ok { OnOk result (w.new ≡ then_written w.old (item_start id (criticality_number criticality))) }
     ensures place { IfOk result (λ start. start ≡ length w.new) }
     ensures whole { IfOk result (λ start. start % 8 ≡ 0) }
