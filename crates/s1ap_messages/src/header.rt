@@ -35,6 +35,18 @@ impl Outcome {
             Outcome::Unsuccessful => 2,
         }
     }
+
+    /// The alternative with that index.
+    fn with_index(index: u64) -> Outcome
+        requires { index < 3 }
+        ensures { outcome_index result ≡ index }
+    {
+        match index {
+            0 => Outcome::Initiating,
+            1 => Outcome::Successful,
+            _ => Outcome::Unsuccessful,
+        }
+    }
 }
 
 /// The beginning of a message (TS 36.413, 9.3.2).
@@ -60,6 +72,7 @@ const fn begins(outcome: Outcome, code: u8, criticality: Criticality) -> Header
 }
 
 /// How a message of that kind begins.
+#[rattlefmt::skip]
 pub fn header_of(kind: MessageKind) -> Header
     ensures { result ≡ header_of kind }
 {
@@ -68,65 +81,35 @@ pub fn header_of(kind: MessageKind) -> Header
     match kind {
         MessageKind::InitialUeMessage => begins(Initiating, names::INITIAL_UE_MESSAGE, Ignore),
         MessageKind::UplinkNasTransport => begins(Initiating, names::UPLINK_NAS_TRANSPORT, Ignore),
-        MessageKind::DownlinkNasTransport => begins(
-            Initiating,
-            names::DOWNLINK_NAS_TRANSPORT,
-            Ignore,
-        ),
-        MessageKind::InitialContextSetupRequest => begins(
-            Initiating,
-            names::INITIAL_CONTEXT_SETUP,
-            Reject,
-        ),
-        MessageKind::InitialContextSetupResponse => begins(
-            Successful,
-            names::INITIAL_CONTEXT_SETUP,
-            Reject,
-        ),
-        MessageKind::InitialContextSetupFailure => begins(
-            Unsuccessful,
-            names::INITIAL_CONTEXT_SETUP,
-            Reject,
-        ),
-        MessageKind::UeContextReleaseRequest => begins(
-            Initiating,
-            names::UE_CONTEXT_RELEASE_REQUEST,
-            Ignore,
-        ),
-        MessageKind::UeContextReleaseCommand => begins(
-            Initiating,
-            names::UE_CONTEXT_RELEASE,
-            Reject,
-        ),
-        MessageKind::UeContextReleaseComplete => begins(
-            Successful,
-            names::UE_CONTEXT_RELEASE,
-            Reject,
-        ),
-        MessageKind::UeCapabilityInfoIndication => begins(
-            Initiating,
-            names::UE_CAPABILITY_INFO_INDICATION,
-            Ignore,
-        ),
+        MessageKind::DownlinkNasTransport => begins(Initiating, names::DOWNLINK_NAS_TRANSPORT, Ignore),
+        MessageKind::InitialContextSetupRequest => begins(Initiating, names::INITIAL_CONTEXT_SETUP, Reject),
+        MessageKind::InitialContextSetupResponse => begins(Successful, names::INITIAL_CONTEXT_SETUP, Reject),
+        MessageKind::InitialContextSetupFailure => begins(Unsuccessful, names::INITIAL_CONTEXT_SETUP, Reject),
+        MessageKind::UeContextReleaseRequest => begins(Initiating, names::UE_CONTEXT_RELEASE_REQUEST, Ignore),
+        MessageKind::UeContextReleaseCommand => begins(Initiating, names::UE_CONTEXT_RELEASE, Reject),
+        MessageKind::UeContextReleaseComplete => begins(Successful, names::UE_CONTEXT_RELEASE, Reject),
+        MessageKind::UeCapabilityInfoIndication => begins(Initiating, names::UE_CAPABILITY_INFO_INDICATION, Ignore),
     }
 }
 
 /// The kind of message that begins with that outcome and procedure code.
 #[tactic(auto, unfolding(crate::specs::Grammar::kind_among))]
-fn kind_with(outcome: u64, code: u8) -> Option<MessageKind>
-    ensures { result ≡ kind_with outcome code }
+#[rattlefmt::skip]
+fn kind_with(outcome: Outcome, code: u8) -> Option<MessageKind>
+    ensures { result ≡ kind_with (outcome_index outcome) code }
 {
+    use Outcome::{Initiating, Successful, Unsuccessful};
     match (outcome, code) {
-        (0, names::INITIAL_UE_MESSAGE) => Some(MessageKind::InitialUeMessage),
-        (0, names::UPLINK_NAS_TRANSPORT) => Some(MessageKind::UplinkNasTransport),
-        (0, names::DOWNLINK_NAS_TRANSPORT) => Some(MessageKind::DownlinkNasTransport),
-        (0, names::INITIAL_CONTEXT_SETUP) => Some(MessageKind::InitialContextSetupRequest),
-        (1, names::INITIAL_CONTEXT_SETUP) => Some(MessageKind::InitialContextSetupResponse),
-        (2, names::INITIAL_CONTEXT_SETUP) => Some(MessageKind::InitialContextSetupFailure),
-        (0, names::UE_CONTEXT_RELEASE_REQUEST) => Some(MessageKind::UeContextReleaseRequest),
-        (0, names::UE_CONTEXT_RELEASE) => Some(MessageKind::UeContextReleaseCommand),
-        (1, names::UE_CONTEXT_RELEASE) => Some(MessageKind::UeContextReleaseComplete),
-        (0, names::UE_CAPABILITY_INFO_INDICATION) => Some(MessageKind::UeCapabilityInfoIndication),
+        (Initiating, names::INITIAL_UE_MESSAGE) => Some(MessageKind::InitialUeMessage),
+        (Initiating, names::UPLINK_NAS_TRANSPORT) => Some(MessageKind::UplinkNasTransport),
+        (Initiating, names::DOWNLINK_NAS_TRANSPORT) => Some(MessageKind::DownlinkNasTransport),
+        (Initiating, names::INITIAL_CONTEXT_SETUP) => Some(MessageKind::InitialContextSetupRequest),
+        (Successful, names::INITIAL_CONTEXT_SETUP) => Some(MessageKind::InitialContextSetupResponse),
+        (Unsuccessful, names::INITIAL_CONTEXT_SETUP) => Some(MessageKind::InitialContextSetupFailure),
+        (Initiating, names::UE_CONTEXT_RELEASE_REQUEST) => Some(MessageKind::UeContextReleaseRequest),
+        (Initiating, names::UE_CONTEXT_RELEASE) => Some(MessageKind::UeContextReleaseCommand),
+        (Successful, names::UE_CONTEXT_RELEASE) => Some(MessageKind::UeContextReleaseComplete),
+        (Initiating, names::UE_CAPABILITY_INFO_INDICATION) => Some(MessageKind::UeCapabilityInfoIndication),
         _ => None,
     }
 }
@@ -137,7 +120,7 @@ pub fn read_header(r: &mut BitReader) -> Result<MessageKind, Refusal>
     ensures { Gives result r.old r.new (header_at r.old) }
 {
     let mut ahead = r.ahead();
-    let outcome = read_choice(&mut ahead, 3, 2)?;
+    let outcome = Outcome::with_index(read_choice(&mut ahead, 3, 2)?);
     let place = ahead.ahead();
     if read_bits_fixed(&mut ahead, 5)? != 0 {
         return Err(place.refusal(Reason::NonZeroPadding));
