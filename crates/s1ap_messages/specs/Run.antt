@@ -105,21 +105,11 @@ IsRight p = AllByRecursion (λ v. IfSome v IsRightField) (values_of p) × IsShor
 
 -- its strings are octets, as those of a program are
 abbrev pub HasOctetsIn : FieldValue → Type 0
-HasOctetsIn (value.Mme mme) = Unit {0}
-HasOctetsIn (value.Cause cause) = Unit {0}
-HasOctetsIn (value.Enb enb) = Unit {0}
 HasOctetsIn (value.Bearers bearers) = AllByRecursion (λ (b : ErabToSetup). IfSome b.nas IsOctets) bearers
 HasOctetsIn (value.Nas nas) = IsOctets nas
-HasOctetsIn (value.Done done) = Unit {0}
-HasOctetsIn (value.Rates rates) = Unit {0}
-HasOctetsIn (value.Tai tai) = Unit {0}
 HasOctetsIn (value.Key key) = IsOctets key
 HasOctetsIn (value.Radio radio) = IsOctets radio
-HasOctetsIn (value.Stmsi stmsi) = Unit {0}
-HasOctetsIn (value.Ids ids) = Unit {0}
-HasOctetsIn (value.Cgi cgi) = Unit {0}
-HasOctetsIn (value.Caps caps) = Unit {0}
-HasOctetsIn (value.Rrc rrc) = Unit {0}
+HasOctetsIn _ = Unit {0}
 
 abbrev pub HasOctets : Pdu → Type 0
 HasOctets p = AllByRecursion (λ v. IfSome v HasOctetsIn) (values_of p)

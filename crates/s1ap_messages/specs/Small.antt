@@ -9,21 +9,10 @@ use Rattle.s1ap_messages.specs.Run.{IsRightValue}
 
 -- at most one E-RAB that is to be set up, 40 that were set up, and 2,048 octets of radio capability
 abbrev pub IsFew : FieldValue → Type 0
-IsFew (value.Mme mme) = Unit {0}
-IsFew (value.Cause cause) = Unit {0}
-IsFew (value.Enb enb) = Unit {0}
 IsFew (value.Bearers bearers) = length bearers ≤ 1
-IsFew (value.Nas nas) = Unit {0}
 IsFew (value.Done done) = length done ≤ 40
-IsFew (value.Rates rates) = Unit {0}
-IsFew (value.Tai tai) = Unit {0}
-IsFew (value.Key key) = Unit {0}
 IsFew (value.Radio radio) = length radio ≤ 2048
-IsFew (value.Stmsi stmsi) = Unit {0}
-IsFew (value.Ids ids) = Unit {0}
-IsFew (value.Cgi cgi) = Unit {0}
-IsFew (value.Caps caps) = Unit {0}
-IsFew (value.Rrc rrc) = Unit {0}
+IsFew _ = Unit {0}
 
 -- a small value in its range
 abbrev pub IsSmallValue : FieldValue → Type 0
