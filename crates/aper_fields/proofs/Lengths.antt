@@ -14,6 +14,9 @@ use Rattle.aper_fields.proofs.Widths.{width_below, octet_count_most}
 abbrev pub Takes : ℕ → Run → Type 0
 Takes most f = (at : ℕ) → length (f at) ≤ most
 
+pub more_takes : (m n : ℕ) (f : Run) → m ≤ n → Takes m f → Takes n f
+more_takes m n f le t = λ at. omega (arith, t at)
+
 pub then_takes : (m n : ℕ) (f g : Run) → Takes m f → Takes n g → Takes (m + n) (f ▸ g)
 then_takes m n f g p q at = omega (arith, length-append (f at) (g (at + length (f at))), p at, q (at + length (f at)))
 

@@ -16,3 +16,7 @@ pub mod Written
 pub mod Lengths
 pub mod ReadBack
 pub mod Counted
+pub mod NotEmpty
+pub mod Ends
+pub mod Opens
+pub mod Room

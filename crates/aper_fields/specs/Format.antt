@@ -218,3 +218,9 @@ IsReadBack read run v = (at : ℕ) (rest : List Bool) → read (record { offset 
 -- the same of an open type: it is read as what it contains, at its place
 abbrev pub IsOpenReadBack : List Bool → Type 0
 IsOpenReadBack body = (at : ℕ) (rest : List Bool) → open_at (record { offset = at; left = open_run body at ++ rest }) ≡ Ok (record { offset = at + length (length_run (length (content_of body) / 8) at); left = content_of body }, record { offset = at + length (open_run body at); left = rest })
+
+-- ---- what is written
+
+-- a run that spells a value wherever it stands
+pub record IsSpelledBy {A : Type 0} (F : Format A) (v : A) (run : Run) : Type 0 where
+  pub everywhere : (at : ℕ) → F.Spells at v (run at)

@@ -10,7 +10,7 @@ use Rattle.aper_fields.specs.Format.{Format}
 use Rattle.s1ap_ies.specs.Grammar.{zero_bit_in, present_in, choice_in}
 use Rattle.s1ap_ies.specs.Many.{InOrder}
 use Rattle.s1ap_ies.specs.Asn1.{AsnType, Fields, part_run, bit_string, integer, only, enumerated, octet_string, fixed_octets, choice_index, extensible, on, choice, sequence, sequence_of, container, by_test, variant, named, needed, optional, absent, also, format, fields_in, flags_in, run, fields_run, flags_run, each_run, list_run, present_run, index_run, IsBetween, Fits, FieldsFit, IsSound, AreSound}
-use Rattle.s1ap_ies.proofs.Ends.{EndsBy, nothing_ends, then_ends, front_ends, number_ends, fixed_bits_ends, enumerated_ends, octet_string_ends, fixed_octets_ends}
+use Rattle.aper_fields.proofs.Ends.{EndsBy, nothing_ends, then_ends, front_ends, number_ends, fixed_bits_ends, enumerated_ends, octet_string_ends, fixed_octets_ends}
 use Rattle.s1ap_ies.proofs.Types.{in_order, periodic}
 use Rattle.s1ap_ies.proofs.Room.{item_least}
 use Rattle.s1ap_ies.proofs.Sizes.{some}

@@ -1,8 +1,6 @@
 pub mod Exact
 pub mod Inside
 pub mod Manys
-pub mod Opens
-pub mod Ends
 pub mod Types
 pub mod Sizes
 pub mod Spelled

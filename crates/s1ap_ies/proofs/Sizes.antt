@@ -1,89 +1,21 @@
 -- How many bits are written for a value: at least one, and at most so many.
-use Rattle.std.proofs.Common.{ℕ, ◌≡◌, ◌+◌, ◌-◌, ◌*◌, ◌^◌, ◌<◌, ◌≤◌, Bool, true, false, cond, List, [], ◌∷◌, length, eqb, ltb, refl, inl, inr, arith, Option, Some, None, is_some, IsSomeAnd}
+use Rattle.std.proofs.Common.{ℕ, ◌≡◌, ◌+◌, ◌-◌, ◌*◌, ◌<◌, ◌≤◌, Bool, true, false, List, [], ◌∷◌, length, arith, inl, inr, Option, Some, None, is_some, IsSomeAnd}
 use Rattle.std.specs.List.{AllByRecursion}
-use Rattle.std.proofs.lemmas.List.{length-append}
-use Rattle.std.proofs.lemmas.Bool.{cases_lt, lt-ltb, le-ltb, ne_eqb, ltb-true, ltb-false}
+use Rattle.std.proofs.lemmas.Bool.{ltb-true}
 use Rattle.std.proofs.lemmas.Nat.{mul-le}
-use Rattle.aper_fields.specs.declared.enumerated.EnumValue.{EnumValue}
-use Rattle.aper_fields.specs.Bits.{bits, bits_of, zeros, gap}
-use Rattle.aper_fields.specs.Reading.{width}
-use Rattle.aper_fields.specs.Run.{Run, ◌▸◌, bits_run, padding_run, octet_count, length_octets, length_run, octet_string_run, fixed_octets_run, enumerated_run, fixed_bits_run, number_run, nothing_run, open_run}
-use Rattle.aper_fields.proofs.BitLaws.{length-bits, length-bits_of}
-use Rattle.aper_fields.proofs.Counts.{octet_count_more, octet_count_few}
-use Rattle.aper_fields.proofs.Widths.{width_some}
+use Rattle.aper_fields.specs.Run.{Run, ◌▸◌, fixed_bits_run, number_run, open_run}
 use Rattle.aper_fields.proofs.Lengths.{Takes, then_takes, number_takes, fixed_bits_takes, octet_string_takes, fixed_octets_takes, enumerated_takes, open_takes}
+use Rattle.aper_fields.proofs.NotEmpty.{first_some, bit_some, number_some, text_some, marked_some, octets_some}
 use Rattle.s1ap_ies.specs.Asn1.{AsnType, Fields, bit_string, integer, only, enumerated, octet_string, fixed_octets, choice_index, extensible, on, choice, sequence, sequence_of, container, by_test, variant, named, needed, optional, absent, also, run, fields_run, flags_run, each_run, list_run, item_run, part_run, present_run, index_run, Fits, FieldsFit, most_bits, most_flags, most_fields, takes_some, IsSound, AreSound}
 use Rattle.s1ap_ies.proofs.Types.{small_top}
 
 -- ---- at least a bit
 
-pub first_some : (f g : Run) (at : ℕ) → 0 < length (f at) → 0 < length ((f ▸ g) at)
-first_some f g at h = omega (arith, h, length-append (f at) (g (at + length (f at))))
-
-bit_some : 0 < length (fixed_bits_run 1 0 0)
-unfolding fixed_bits_run
-bit_some = omega (arith, length-bits 1 0)
-
 false_true : {Q : Type 0} → false ≡ true → Q
 false_true e = absurd cc
 
--- a number above 65,536 values begins with the count of its octets
-counted_some : (top n : ℕ) → 255 < top → top < 2 ^ 64 → 0 < length (bits_run (width (octet_count top - 1)) n 0)
-counted_some top n large small =
-    let more : 1 < octet_count top = octet_count_more top large small in
-    let few : octet_count top ≤ 8 = octet_count_few top small in
-    omega (arith, width_some (octet_count top - 1) (omega arith) (omega arith), length-bits (width (octet_count top - 1)) n)
-
-counted_octets_some : (b : Bool) (n : ℕ) → 0 < length ((padding_run ▸ bits_run (cond b 8 16) n) 0)
-counted_octets_some true n = omega (arith, length-append (zeros (gap 0)) (bits 8 n), length-bits 8 n)
-counted_octets_some false n = omega (arith, length-append (zeros (gap 0)) (bits 16 n), length-bits 16 n)
-
-chosen_some : (a b c : Bool) (f g h : Run) → a ≡ false → (b ≡ true → 0 < length (f 0)) → (c ≡ true → 0 < length (g 0)) → (c ≡ false → 0 < length (h 0)) → 0 < length ((cond a nothing_run (cond b f (cond c g h))) 0)
-chosen_some true b c f g h e p q r = absurd cc
-chosen_some false true c f g h e p q r = p refl
-chosen_some false false true f g h e p q r = q refl
-chosen_some false false false f g h e p q r = r refl
-
-number_some : (low top v : ℕ) → 0 < top → top < 2 ^ 64 → 0 < length (number_run low top v 0)
-unfolding number_run
-number_some low top v large small =
-    let n = v - low in
-    let octets : Run = padding_run ▸ bits_run (cond (eqb top 255) 8 16) n in
-    let first : Run = bits_run (width (octet_count top - 1)) (octet_count n - 1) in
-    let behind : Run = padding_run ▸ bits_run (8 * octet_count n) n in
-    chosen_some (eqb top 0) (ltb top 255) (ltb top 65536) (bits_run (width top) n) octets (first ▸ behind) (ne_eqb top 0 (λ z. absurd (omega (arith, z, large))))
-    (λ t. omega (arith, width_some top large small, length-bits (width top) n)) (λ t. counted_octets_some (eqb top 255) n)
-    (λ t. first_some first behind 0 (counted_some top (octet_count n - 1) (omega (arith, ltb-false top 65536 t)) small))
-
-length_octets_some : (n : ℕ) → 0 < length (length_octets n)
-unfolding length_octets
-length_octets_some n =
-    elim (cases_lt n 128) [
-      | inl short ↦ rw (lt-ltb n 128 short) (omega arith)
-      | inr long ↦ rw (le-ltb n 128 long) (omega arith)
-    ]
-
-text_some : (text : List ℕ) → 0 < length (octet_string_run text 0)
-unfolding octet_string_run length_run
-text_some text = first_some (padding_run ▸ λ at. length_octets (length text)) (λ at. bits_of text) 0 (omega (arith, length_octets_some (length text), length-append (zeros (gap 0)) (length_octets (length text))))
-
-either_some : (b : Bool) (f g : Run) → 0 < length (f 0) → 0 < length (g 0) → 0 < length ((cond b f g) 0)
-either_some true f g p q = p
-either_some false f g p q = q
-
-marked_some : (roots : ℕ) (v : EnumValue) → 0 < length (enumerated_run roots true v 0)
-unfolding enumerated_run
-marked_some roots v =
-    let beyond : Run = bits_run 1 0 ▸ bits_run 6 v.index in
-    let within : Run = number_run 0 (roots - 1) v.index in
-    either_some v.extended (bits_run 1 1 ▸ beyond) (bits_run 1 0 ▸ within) (first_some (bits_run 1 1) beyond 0 (omega (arith, length-bits 1 1))) (first_some (bits_run 1 0) within 0 (omega (arith, length-bits 1 0)))
-
 index_some : (n index : ℕ) → 0 < length (index_run n index 0)
 index_some n index = first_some (fixed_bits_run 1 0) (fixed_bits_run n index) 0 bit_some
-
-octets_some : (n : ℕ) (octets : List ℕ) → 0 < n → length octets ≡ n → 0 < length (fixed_octets_run octets 0)
-unfolding fixed_octets_run
-octets_some n octets large whole = omega (arith, large, whole, length-bits_of octets, length-append (zeros (gap 0)) (bits_of octets))
 
 part_some : {A : Type 0} (In : A → Type 0) (f : A → Run) → ((a : A) → In a → 0 < length (f a 0)) → (o : Option A) → IsSomeAnd o In → 0 < length (part_run f o 0)
 part_some In f each (Some a) fits = each a fits
@@ -110,9 +42,6 @@ some S (named same p) b v fits = some S p b (same.parts v) fits
 some S _ b v fits = false_true b
 
 -- ---- at most so many
-
-pub more_takes : (m n : ℕ) (f : Run) → m ≤ n → Takes m f → Takes n f
-more_takes m n f le t = λ at. omega (arith, t at)
 
 pub index_takes : (n index : ℕ) → Takes (8 + (7 + n)) (index_run n index)
 index_takes n index = then_takes 8 (7 + n) (fixed_bits_run 1 0) (fixed_bits_run n index) (fixed_bits_takes 1 0) (fixed_bits_takes n index)

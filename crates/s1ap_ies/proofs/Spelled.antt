@@ -7,13 +7,13 @@ use Rattle.echo_base.specs.declared.reason.Reason.{Reason}
 use Rattle.echo_base.specs.declared.reason.Reason.TheVariants as reasons
 use Rattle.aper_fields.specs.Run.{Run, fixed_bits_run, number_run, open_run}
 use Rattle.aper_fields.specs.Spelling.{IsOctets}
-use Rattle.aper_fields.specs.Format.{Format, ◌>>=◌, just, mapped}
+use Rattle.aper_fields.specs.Format.{Format, ◌>>=◌, just, mapped, IsSpelledBy}
 use Rattle.aper_fields.proofs.Periodic.{IsPeriodic}
 use Rattle.s1ap_ies.specs.Grammar.{zero_bit_in, present_in, extensions_in, choice_in, criticality_in, item_in}
 use Rattle.s1ap_ies.specs.Many.{InOrder, inside}
-use Rattle.s1ap_ies.specs.Asn1.{AsnType, Fields, Variant, are_bounds, part_run, bit_string, integer, only, enumerated, octet_string, fixed_octets, choice_index, extensible, on, choice, sequence, sequence_of, container, by_test, variant, named, needed, optional, absent, also, format, fields_in, flags_in, run, fields_run, flags_run, each_run, list_run, item_run, present_run, index_run, IsBetween, Fits, FieldsFit, IsSpelledBy, IsSound, AreSound}
+use Rattle.s1ap_ies.specs.Asn1.{AsnType, Fields, Variant, are_bounds, part_run, bit_string, integer, only, enumerated, octet_string, fixed_octets, choice_index, extensible, on, choice, sequence, sequence_of, container, by_test, variant, named, needed, optional, absent, also, format, fields_in, flags_in, run, fields_run, flags_run, each_run, list_run, item_run, present_run, index_run, IsBetween, Fits, FieldsFit, IsSound, AreSound}
 use Rattle.s1ap_ies.proofs.Types.{in_order, periodic}
-use Rattle.s1ap_ies.proofs.Opens.{FitsOpen, open_holds}
+use Rattle.aper_fields.proofs.Opens.{FitsOpen, open_holds}
 use Rattle.s1ap_ies.proofs.Sizes.{some, takes}
 
 between_low : (low high v : ℕ) → IsBetween low high v → low ≤ v

@@ -224,10 +224,6 @@ unfoldable mutual
   fields_run (absent reason) v = nothing_run
   fields_run (also p q) v = fields_run p v.0 ▸ fields_run q v.1
 
--- a run that spells a value wherever it stands
-pub record IsSpelledBy {A : Type 0} (F : Format A) (v : A) (run : Run) : Type 0 where
-  pub everywhere : (at : ℕ) → F.Spells at v (run at)
-
 -- ---- a value in its range
 
 abbrev pub IsBetween : ℕ → ℕ → ℕ → Type 0

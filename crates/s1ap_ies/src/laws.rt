@@ -1,8 +1,9 @@
 //! Laws of the values, as clauses of functions that do nothing.
 
 ghost use Rattle.std.specs.Prelude.{ℕ, List, Bool};
+ghost use Rattle.aper_fields.specs.Format.{IsSpelledBy};
 ghost use Rattle.aper_fields.specs.Spelling.{IsOctets};
-ghost use Rattle.s1ap_ies.specs.Asn1.{format, run, Fits, IsSpelledBy, IsSound};
+ghost use Rattle.s1ap_ies.specs.Asn1.{format, run, Fits, IsSound};
 
 use crate::value::OwnedValue;
 

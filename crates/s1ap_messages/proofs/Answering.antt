@@ -13,7 +13,7 @@ use Rattle.s1ap_messages.specs.Messages.{kind_of}
 use Rattle.s1ap_messages.specs.Grammar.{Spells, Refused}
 use Rattle.s1ap_messages.specs.Built.{message_at}
 use Rattle.s1ap_messages.proofs.Frame.{pdu_some}
-use Rattle.s1ap_ies.proofs.Opens.{closing_some}
+use Rattle.aper_fields.proofs.Opens.{closing_some}
 use Rattle.s1ap_messages.proofs.Exact.{found_message, only_message, wrong_message, refused_message}
 
 pub one_message : (octets : List ℕ) (p q : Pdu) → Spells octets p → Spells octets q → p ≡ q

@@ -27,9 +27,10 @@ use Rattle.s1ap_messages.specs.Messages.{kind_of}
 use Rattle.s1ap_messages.specs.Grammar.{Ie, Named, Other, found, has_ie, fields_of, ie_in, ies_in, pdu_in, Spells}
 use Rattle.s1ap_messages.specs.Run.{value_run, fields_run, count_of, ies_run, IsShort, IsRightValue, IsRightField, IsRight, HasOctetsIn, HasOctets}
 use Rattle.s1ap_messages.specs.Answer.{Answers}
-use Rattle.s1ap_ies.proofs.Ends.{EndsBy, front_ends, open_ends}
-use Rattle.s1ap_ies.proofs.Opens.{open_offset}
-use Rattle.s1ap_ies.proofs.Room.{HasRoom, open_room, head_ends}
+use Rattle.aper_fields.proofs.Ends.{EndsBy, front_ends, open_ends}
+use Rattle.aper_fields.proofs.Opens.{open_offset}
+use Rattle.aper_fields.proofs.Room.{HasRoom, open_room}
+use Rattle.s1ap_ies.proofs.Room.{head_ends}
 use Rattle.s1ap_messages.proofs.Ies.{right_value, value_octets, value_least}
 use Rattle.s1ap_messages.proofs.Sizes.{length-item_run, cost, ie_cost, length-fields_run, found_cost}
 

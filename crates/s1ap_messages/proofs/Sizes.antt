@@ -14,7 +14,7 @@ use Rattle.s1ap_ies.specs.Names.{criticality_number}
 use Rattle.s1ap_messages.specs.Values.{FieldValue}
 use Rattle.s1ap_messages.specs.Grammar.{Ie, Named, Other, found}
 use Rattle.s1ap_messages.specs.Run.{value_run, ie_run, fields_run}
-use Rattle.s1ap_ies.proofs.Opens.{length-length_octets}
+use Rattle.aper_fields.proofs.Opens.{length-length_octets}
 use Rattle.s1ap_messages.proofs.Whole.{named_behind}
 
 abbrev Slot : Type 0

@@ -2,13 +2,13 @@
 use Rattle.std.proofs.Common.{◌+◌, ◌*◌, ◌≤◌, List, [], ◌∷◌, length, Option, Some, None, IfSome, arith}
 use Rattle.std.specs.List.{AllByRecursion}
 use Rattle.aper_fields.specs.Run.{◌▸◌, number_run, fixed_bits_run}
-use Rattle.aper_fields.proofs.Lengths.{Takes, then_takes, number_takes, fixed_bits_takes}
+use Rattle.aper_fields.proofs.Lengths.{Takes, more_takes, then_takes, number_takes, fixed_bits_takes}
 use Rattle.s1ap_messages.specs.declared.tables.IeRow.{IeRow}
 use Rattle.s1ap_messages.specs.declared.tables.MessageKind.{MessageKind}
 use Rattle.s1ap_ies.specs.Asn1.{run}
 use Rattle.s1ap_messages.specs.Messages.{rows_of}
 use Rattle.s1ap_ies.specs.Values as types
-use Rattle.s1ap_ies.proofs.Sizes.{more_takes, item_takes, most_of, takes_of}
+use Rattle.s1ap_ies.proofs.Sizes.{item_takes, most_of, takes_of}
 use Rattle.s1ap_ies.specs.Names.{criticality_number}
 use Rattle.s1ap_messages.specs.declared.pdu.Pdu.{Pdu}
 use Rattle.s1ap_messages.specs.declared.value.IeValue.TheVariants as value

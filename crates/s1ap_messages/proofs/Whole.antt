@@ -15,7 +15,8 @@ use Rattle.s1ap_messages.specs.declared.tables.MessageKind.TheVariants as kind
 use Rattle.s1ap_messages.specs.Messages.{rows_of}
 use Rattle.s1ap_ies.specs.Grammar.{zero_bit_in}
 use Rattle.s1ap_ies.specs.Run.{choice_run}
-use Rattle.s1ap_ies.specs.Asn1.{IsSpelledBy, format, item_run}
+use Rattle.aper_fields.specs.Format.{IsSpelledBy}
+use Rattle.s1ap_ies.specs.Asn1.{format, item_run}
 use Rattle.s1ap_messages.proofs.Distinct.{ids_distinct, few_rows}
 use Rattle.s1ap_ies.proofs.Spelled.{choice_spelled}
 use Rattle.s1ap_ies.specs.Names.{criticality_number}
@@ -28,7 +29,7 @@ use Rattle.s1ap_messages.specs.Grammar.{Ie, Named, found, has_ie, or_other, kind
 use Rattle.s1ap_messages.specs.Run.{value_run, ie_run, fields_run, count_of, ies_run, header_run, pdu_run, written, IsRightField, HasOctetsIn, IsRight, HasOctets}
 use Rattle.s1ap_messages.proofs.Kept.{found-append}
 use Rattle.s1ap_messages.proofs.Frame.{pdu_some}
-use Rattle.s1ap_ies.proofs.Opens.{open_holds, closing_some}
+use Rattle.aper_fields.proofs.Opens.{open_holds, closing_some}
 use Rattle.s1ap_messages.proofs.Ies.{value_periodic, value_some, value_spelled}
 use Rattle.s1ap_ies.proofs.Types.{item_periodic}
 use Rattle.s1ap_ies.proofs.Spelled.{criticality_spelled}

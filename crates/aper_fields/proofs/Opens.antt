@@ -6,12 +6,11 @@ use Rattle.aper_fields.specs.Bits.{zeros, gap, filled}
 use Rattle.aper_fields.specs.Reading.{Input}
 use Rattle.aper_fields.specs.Run.{Run, length_octets, length_run, open_run, content_of, closing}
 use Rattle.aper_fields.specs.Spelling.{Open, Holds}
-use Rattle.aper_fields.specs.Format.{Format}
+use Rattle.aper_fields.specs.Format.{Format, IsSpelledBy}
 use Rattle.aper_fields.proofs.BitLaws.{length-bits}
 use Rattle.aper_fields.proofs.Octet.{input}
 use Rattle.aper_fields.proofs.Packed.{length-filled}
 use Rattle.aper_fields.proofs.Periodic.{IsPeriodic}
-use Rattle.s1ap_ies.specs.Asn1.{IsSpelledBy}
 
 -- 1 bit to 16,383 octets
 abbrev pub FitsOpen : List Bool → Type 0
