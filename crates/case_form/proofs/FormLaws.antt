@@ -22,7 +22,7 @@ use Rattle.device_types.specs.Event.{IsInForm}
 use Rattle.device_types.specs.Numbers.{IsWithin}
 use Rattle.case_form.specs.Event.{event_of}
 use Rattle.case_form.specs.Section.{is_passed_over, is_heading, heading_of}
-use Rattle.case_form.specs.State.{Seen, unread, next, next_heading_reason, own_reason, reason_in, rows_after, trace_after, schedule_after, own_after, after}
+use Rattle.case_form.specs.State.{Seen, unread, next, next_heading_reason, own_reason, reason_behind, rows_after, trace_after, schedule_after, own_after, after}
 use Rattle.case_form.specs.Trace.{sent_of}
 use Rattle.case_form.proofs.EventLaws.{event_found}
 use Rattle.case_form.proofs.StateLaws.{by_line, chain_none, some_of}
@@ -136,8 +136,8 @@ with_next seen p = record { rows_most = p.rows_most; trace_most = p.trace_most; 
 with_section : (seen : Seen) (section : Option Section) → IsProper seen → IsProper (record seen { section = section })
 with_section seen section p = record { rows_most = p.rows_most; trace_most = p.trace_most; schedule_most = p.schedule_most; stations = p.stations; events = p.events }
 
-pub proper_more : (seen : Seen) (line : List ℕ) → IsProper seen → reason_in (next seen) line ≡ None → IsProper (after (next seen) line)
-unfolding reason_in after
+pub proper_more : (seen : Seen) (line : List ℕ) → IsProper seen → reason_behind (next seen) line ≡ None → IsProper (after (next seen) line)
+unfolding reason_behind after
 proper_more seen line p none =
     let parts = chain_none (ltb most_octets (length line)) (is_passed_over line) (is_heading line) LineTooLong (next_heading_reason seen.section (heading_of line)) (own_reason seen.section (next seen) line) none in
     by_line IsProper (is_passed_over line) (is_heading line) (next seen) (record (next seen) { section = heading_of line }) (own_after seen.section (next seen) line)

@@ -1,6 +1,9 @@
 -- A step that did not fail, one that did, and what stands behind it.
-use Rattle.std.proofs.Common.{◌≡◌, ◌⊎◌, Bool, true, false, not, cond, Result, Ok, Err, refl, sym, ap, inl, inr}
-use Rattle.echo_base.specs.Answer.{◌>>=◌}
+use Rattle.std.proofs.Common.{◌≡◌, ◌⊎◌, Bool, true, false, not, cond, Result, Ok, Err, IsOkAnd, refl, sym, ap, ◌∙◌, inl, inr}
+use Rattle.echo_base.specs.declared.refusal.Refusal.{Refusal}
+use Rattle.echo_base.specs.declared.refusal.Bad.{Bad}
+use Rattle.echo_base.specs.declared.refusal.Bad.TheVariants.{Refused, OutOfMemory}
+use Rattle.echo_base.specs.Answer.{◌>>=◌, Answers, IsAnswerTaking}
 
 abbrev pub ok_of : {A E : Type 0} → A → Result A E
 ok_of v = Ok v
@@ -16,6 +19,10 @@ ok_is v w h = cc
 
 pub err_is : {A E : Type 0} (d e : E) → err_of {A = A} d ≡ Err e → d ≡ e
 err_is d e h = cc
+
+-- a value, and what is left behind it
+pub ok_parts : {S A E : Type 0} (v w : A) (s t : S) → ok_of {A = A × S} {E = E} (v, s) ≡ Ok (w, t) → (v ≡ w) × (s ≡ t)
+ok_parts {S} {A} v w s t h = (let e : ◌≡◌ {A = A × S} (v, s) (w, t) = ok_is (v, s) (w, t) h in (ap (λ (x : A × S). x.0) e, ap (λ (x : A × S). x.1) e))
 
 -- ---- one behind another
 
@@ -64,3 +71,24 @@ refused_err false d e x h = absurd (ok_err x e h)
 pub turned : {E A B : Type 0} (b : Bool) (x : A) (e : E) (k : A → Result B E) → cond b (Err e) (k x) ≡ bind (cond (not b) (ok_of x) (Err e)) k
 turned true x e k = refl
 turned false x e k = refl
+
+-- ---- what a call answered
+
+-- it is right, where what is wanted is right
+pub answers_right : {A : Type 0} (Takes Right : A → Type 0) (Due : Refusal → Type 0) (wanted : Result A Refusal) (result : Result A Bad) → IsAnswerTaking Takes wanted result → ((v : A) → wanted ≡ Ok v → Right v) → ((e : Refusal) → wanted ≡ Err e → Due e) → Answers Right Due ((v : A) × Takes v × Right v) result
+answers_right Takes Right Due wanted (Ok v) h right due = right v h
+answers_right Takes Right Due wanted (Err (Refused e)) h right due = due e h
+answers_right Takes Right Due (Ok v) (Err OutOfMemory) h right due = (v, h, right v refl)
+answers_right Takes Right Due (Err e) (Err OutOfMemory) h right due = absurd h
+
+-- no other value, and no refusal, where a value is wanted
+pub answers_only : {A : Type 0} (Takes : A → Type 0) (wanted : Result A Refusal) (result : Result A Bad) → IsAnswerTaking Takes wanted result → (v : A) → wanted ≡ Ok v → Answers (λ w. w ≡ v) (λ e. ⊥) (Unit {0}) result
+answers_only Takes wanted (Ok w) h v is = ok_is w v (sym h ∙ is)
+answers_only Takes wanted (Err (Refused e)) h v is = ok_err v e (sym is ∙ h)
+answers_only Takes wanted (Err OutOfMemory) h v is = tt
+
+-- a refusal that is wanted, whatever memory there is
+pub answers_refused : {A : Type 0} (Takes : A → Type 0) (wanted : Result A Refusal) (result : Result A Bad) → IsAnswerTaking Takes wanted result → (e : Refusal) → wanted ≡ Err e → result ≡ Err (Refused e)
+answers_refused Takes wanted (Ok v) h e is = absurd (ok_err v e (sym h ∙ is))
+answers_refused Takes wanted (Err (Refused d)) h e is = ap (λ (x : Refusal). Err (Refused x)) (err_is d e (sym h ∙ is))
+answers_refused {A} Takes wanted (Err OutOfMemory) h e is = absurd (let none : IsOkAnd {T = A} (err_of e) Takes = rw is at h in none)

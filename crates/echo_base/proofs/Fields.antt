@@ -6,13 +6,13 @@ use Rattle.byteorder.specs.Endian.{big_number}
 use Rattle.byteorder.specs.Numbers.{length-bytes_high_first, big_number-reads_back}
 use Rattle.echo_base.specs.Format.{IsExactly, IsReadBack}
 use Rattle.echo_base.specs.Field.{octet_in, octets_in, number_in, counted_in, long_counted_in, octet_at, octets_at, number_at, counted_at, long_counted_at, number_run, counted_run, long_counted_run}
-use Rattle.echo_base.proofs.Answers.{ok_err, ok_is, err_is, refused_ok, refused_err}
+use Rattle.echo_base.proofs.Answers.{ok_err, ok_parts, err_is, refused_ok, refused_err}
 use Rattle.echo_base.proofs.Formats.{just_exactly, behind}
 
 octet_found : {E : Type 0} (short : E) (octets : List ℕ) (v : ℕ) (rest : List ℕ) → octet_at short octets ≡ Ok (v, rest) → octets ≡ v ∷ rest
 unfolding octet_at
 octet_found short [] v rest h = absurd (ok_err (v, rest) short (sym h))
-octet_found {E} short (o ∷ os) v rest h = ap (λ (x : ℕ × List ℕ). x.0 ∷ x.1) (ok_is {E = E} (o, os) (v, rest) h)
+octet_found short (o ∷ os) v rest h = (let e = ok_parts o v os rest h in rw (e.0, e.1) refl)
 
 octet_wrong : {E : Type 0} (short : E) (octets : List ℕ) (e : E) → octet_at short octets ≡ Err e → (octets ≡ []) × (e ≡ short)
 unfolding octet_at

@@ -4,13 +4,13 @@ use Rattle.std.proofs.lemmas.Option.{same_Some}
 use Rattle.echo_base.specs.Format.{Format, just, ◌>>=◌, meant, IsExactly, Decides}
 use Rattle.echo_base.specs.Reading as readings
 use Rattle.echo_base.specs.Reading.{Read, Reader, done, known, value_of}
-use Rattle.echo_base.proofs.Answers.{ok_of, err_of, ok_err, ok_is, err_is, bind_ok, bind_err}
+use Rattle.echo_base.proofs.Answers.{ok_of, err_of, ok_err, ok_is, ok_parts, err_is, bind_ok, bind_err}
 
 -- ---- formats out of formats
 
 pub just_exactly : {S E A : Type 0} (v : A) → IsExactly {S = S} {E = E} (just v) (done v)
-just_exactly {S} {E} {A} v = record {
-  found = λ s w t h. (let e = ok_is (v, s) (w, t) h in (ap (λ (x : A × S). x.0) (sym e), ap (λ (x : A × S). x.1) e));
+just_exactly v = record {
+  found = λ s w t h. (let e = ok_parts v w s t h in (sym e.0, e.1));
   only = λ s w t h. rw (h.0, h.1) refl;
   wrong = λ s e h. absurd (ok_err (v, s) e h);
   refused = λ s e h. absurd h;
@@ -35,10 +35,15 @@ behind F f G g p q = record {
       ];
 }
 
+-- a value that is there
+pub known_ok : {S E B : Type 0} (o : Option B) (e : E) (s : S) (w : B) (t : S) → known o e s ≡ Ok (w, t) → (o ≡ Some w) × (s ≡ t)
+known_ok (Some v) e s w t h = (let p = ok_parts v w s t h in (ap Some p.0, p.1))
+known_ok None e s w t h = absurd (ok_err (w, t) e (sym h))
+
 -- a meaning that is decided
 pub known_exactly : {S E B : Type 0} (o : Option B) (P : B → Type 0) (due : E) → Decides o P → IsExactly {S = S} (meant P due) (known o due)
-known_exactly {S} {E} {B} (Some v) P due d = record {
-  found = λ s w t h. (let e = ok_is (v, s) (w, t) h in (subst P (ap (λ (x : B × S). x.0) e) (d.found v refl), ap (λ (x : B × S). x.1) e));
+known_exactly (Some v) P due d = record {
+  found = λ s w t h. (let e = ok_parts v w s t h in (subst P e.0 (d.found v refl), e.1));
   only = λ s w t h. rw (same_Some v w (d.only w h.0), h.1) refl;
   wrong = λ s e h. absurd (ok_err (v, s) e h);
   refused = λ s e h. absurd (h.0 v (d.found v refl));
@@ -53,7 +58,7 @@ known_exactly None P due d = record {
 -- ---- what a format says of one place
 
 pub one_value : {S E A : Type 0} (F : Format S E A) (f : Reader S E A) → IsExactly F f → (s : S) (v : A) (t : S) (w : A) (u : S) → F.Stands s v t → F.Stands s w u → v ≡ w
-one_value {S} {E} {A} F f p s v t w u x y = ap (λ (z : A × S). z.0) (ok_is (v, t) (w, u) (sym (p.only s v t x) ∙ p.only s w u y))
+one_value F f p s v t w u x y = (ok_parts v w t u (sym (p.only s v t x) ∙ p.only s w u y)).0
 
 pub one_error : {S E A : Type 0} (F : Format S E A) (f : Reader S E A) → IsExactly F f → (s : S) (d e : E) → F.Refuses s d → F.Refuses s e → d ≡ e
 one_error {S} {E} {A} F f p s d e x y = err_is {A = A × S} d e (sym (p.refused s d x) ∙ p.refused s e y)
@@ -61,11 +66,11 @@ one_error {S} {E} {A} F f p s d e x y = err_is {A = A × S} d e (sym (p.refused 
 pub not_both : {S E A : Type 0} (F : Format S E A) (f : Reader S E A) → IsExactly F f → (s : S) (v : A) (t : S) (e : E) → F.Stands s v t → F.Refuses s e → ⊥
 not_both F f p s v t e x y = ok_err (v, t) e (sym (p.only s v t x) ∙ p.refused s e y)
 
-pub either : {S E A : Type 0} (F : Format S E A) (f : Reader S E A) → IsExactly F f → (s : S) → ((v : A) × (t : S) × F.Stands s v t) ⊎ ((e : E) × F.Refuses s e)
+pub either : {S E A : Type 0} (F : Format S E A) (f : Reader S E A) → IsExactly F f → (s : S) → ((v : A) × ((t : S) × F.Stands s v t)) ⊎ ((e : E) × F.Refuses s e)
 either {S} {E} {A} F f p s = by (f s) refl
   where
-    by : (r : Read S E A) → f s ≡ r → ((v : A) × (t : S) × F.Stands s v t) ⊎ ((e : E) × F.Refuses s e)
-    by (Ok x) h = inl (x.0, x.1, p.found s x.0 x.1 h)
+    by : (r : Read S E A) → f s ≡ r → ((v : A) × ((t : S) × F.Stands s v t)) ⊎ ((e : E) × F.Refuses s e)
+    by (Ok x) h = inl (x.0, (x.1, p.found s x.0 x.1 h))
     by (Err e) h = inr (e, p.wrong s e h)
 
 -- ---- the value of a reading, without what is left

@@ -179,4 +179,4 @@ abbrev pub IsResponse : NasIn → Type 0
 IsResponse message = (res : List ℕ) × (message ≡ AuthResponse res)
 
 abbrev pub SpellsResponse : List ℕ → Type 0
-SpellsResponse octets = (res : List ℕ) × NasSpells octets (AuthResponse res)
+SpellsResponse octets = (message : NasIn) × IsResponse message × NasSpells octets message
