@@ -8,6 +8,7 @@ use Rattle.std.proofs.lemmas.Option.{same_Some}
 use Rattle.std.proofs.lemmas.List.{length-append}
 use Rattle.std.proofs.lemmas.List.Elements.{All-nil, All-push, All-append, All-weaker}
 use Rattle.echo_base.specs.declared.reason.Reason.{Reason}
+use Rattle.echo_base.specs.declared.refusal.Refusal.{Refusal}
 use Rattle.echo_base.specs.declared.reason.Reason.TheVariants.{LineTooLong, RepeatedImsi, RepeatedTmsi, TableFull}
 use Rattle.device_types.specs.declared.event.Event.{Event}
 use Rattle.device_types.specs.declared.event.Event.TheVariants as event
@@ -70,9 +71,9 @@ in_form_more rows more le (event.Effect d l k) f = (within_more rows more d.0 le
 in_form_more rows more le (event.Settle d l k) f = (within_more rows more d.0 le f.0, f.1)
 
 -- one row more, where it is not refused
-rows_fit : (rows : List Subscriber) (row : Result Subscriber Reason) → row_reason rows row ≡ None → length (rows ++ option_to_list (result_ok row)) ≤ most_rows
+rows_fit : (rows : List Subscriber) (row : Result Subscriber Refusal) → row_reason rows row ≡ None → length (rows ++ option_to_list (result_ok row)) ≤ most_rows
 rows_fit rows (Ok row) e = omega (arith, length-append rows (row ∷ []), room_for rows row e)
-rows_fit rows (Err reason) e = absurd (some_of e)
+rows_fit rows (Err x) e = absurd (some_of e)
 
 row_stays : (seen : Seen) (line : List ℕ) → IsProper seen → row_reason seen.rows (row_of (length seen.rows + 1) line) ≡ None → IsProper (record seen { rows = rows_after seen.rows line })
 unfolding rows_after

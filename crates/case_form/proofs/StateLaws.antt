@@ -9,6 +9,7 @@ use Rattle.std.proofs.lemmas.Bool.Decides.{nat_tests}
 use Rattle.std.proofs.lemmas.List.{length-append, append-nil}
 use Rattle.std.proofs.lemmas.List.Folds.{list_any-append}
 use Rattle.echo_base.specs.declared.reason.Reason.{Reason}
+use Rattle.echo_base.specs.declared.refusal.Refusal.{Refusal}
 use Rattle.echo_base.specs.declared.reason.Reason.TheVariants.{LineTooLong}
 use Rattle.device_types.specs.declared.event.Event.{Event}
 use Rattle.device_types.specs.declared.subscriber.Subscriber.{Subscriber}
@@ -195,9 +196,9 @@ heading_grows before line seen other s heading is early =
     or_true false e = e
 
 -- a line of its section
-row_there_from : (rows : List Subscriber) (row : Result Subscriber Reason) → row_reason rows row ≡ None → is_some (result_ok row) ≡ true
+row_there_from : (rows : List Subscriber) (row : Result Subscriber Refusal) → row_reason rows row ≡ None → is_some (result_ok row) ≡ true
 row_there_from rows (Ok row) e = refl
-row_there_from rows (Err reason) e = absurd cc
+row_there_from rows (Err x) e = absurd cc
 
 pub some_of : {A : Type 0} {x : A} → Some x ≡ None → ⊥
 some_of e = cc

@@ -5,7 +5,7 @@ use Rattle.std.specs.Result.{result_ok}
 use Rattle.echo_base.specs.declared.reason.Reason.{Reason}
 use Rattle.echo_base.specs.declared.reason.Reason.TheVariants.{LineTooLong, BadSection}
 use Rattle.echo_base.specs.declared.refusal.Bad.{Bad}
-use Rattle.echo_base.specs.Answer.{Answers}
+use Rattle.echo_base.specs.declared.refusal.Bad.TheVariants as bad
 use Rattle.device_types.specs.declared.event.Event.{Event}
 use Rattle.device_types.specs.declared.subscriber.Subscriber.{Subscriber}
 use Rattle.subs_table.specs.Row.{row_of}
@@ -90,7 +90,9 @@ counts_behind section line = if is_passed_over line then false else if is_headin
 
 -- P, and no reason to refuse, or the reason, or no memory, which is taken only where takes_memory says so
 abbrev pub Takes : Result (Unit {0}) Bad → Option Reason → Bool → Type 0 → Type 0
-Takes result reason takes_memory P = Answers (λ v. (reason ≡ None) × P) (λ e. reason ≡ Some e.reason) (takes_memory ≡ true) result
+Takes (Ok v) reason takes_memory P = (reason ≡ None) × P
+Takes (Err (bad.Refused e)) reason takes_memory P = reason ≡ Some e.reason
+Takes (Err bad.OutOfMemory) reason takes_memory P = takes_memory ≡ true
 
 -- the same of a line of that number
 abbrev pub TakesLine : Result (Unit {0}) CaseBad → Option Reason → Bool → ℕ → Type 0 → Type 0
