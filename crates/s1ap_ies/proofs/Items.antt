@@ -3,7 +3,7 @@ use Rattle.std.proofs.Common.{ℕ, ◌*◌, ◌≤◌, List, [], ◌∷◌, leng
 use Rattle.s1ap_ies.specs.declared.erab_to_setup.ErabToSetup.{ErabToSetup}
 use Rattle.s1ap_ies.specs.declared.erab_done.ErabDone.{ErabDone}
 use Rattle.std.specs.List.{AllByRecursion}
-use Rattle.s1ap_ies.specs.Asn1.{Fits, IsItem, IsSound, most_bits}
+use Rattle.s1ap_ies.specs.Asn1.{AsnType, Fits, CanBeWritten, IsItem, IsSound, most_bits}
 use Rattle.s1ap_ies.specs.Values.{erab_id, address, arp, qos, erab_done, erab_to_setup, erabs_done, erabs_to_setup}
 use Rattle.s1ap_ies.specs.Run.{IsNas, IsErabDone, IsErabToSetup}
 use Rattle.s1ap_ies.proofs.Sizes.{takes}
@@ -26,10 +26,6 @@ few_of : (S : List ℕ → Type 0) (nas : Option (List ℕ)) → IfSome nas (λ 
 few_of S None both = tt
 few_of S (Some nas) both = both.0
 
-strings_of : (S : List ℕ → Type 0) (nas : Option (List ℕ)) → IfSome nas (λ octets. (length octets ≤ 2048) × S octets) → IfSome nas S
-strings_of S None both = tt
-strings_of S (Some nas) both = both.1
-
 pub setup_fits : (S : List ℕ → Type 0) (v : ErabToSetup) → IsErabToSetup v → IfSome v.nas S → Fits S erab_to_setup v
 unfolding erab_to_setup erab_id address qos arp
 setup_fits S v right strings = (omega (arith, right.0), ((omega (arith, right.1), (right.2, tt)), ((tt, right.3), (right.4, both_of S v.nas right.5 strings))))
@@ -37,10 +33,6 @@ setup_fits S v right strings = (omega (arith, right.0), ((omega (arith, right.1)
 pub setup_right : (S : List ℕ → Type 0) (v : ErabToSetup) → Fits S erab_to_setup v → IsErabToSetup v
 unfolding erab_to_setup erab_id address qos arp
 setup_right S v fits = (omega (arith, fits.0), omega (arith, fits.1.0.0), fits.1.0.1.0, fits.1.1.0.1, fits.1.1.1.0, few_of S v.nas fits.1.1.1.1)
-
-pub setup_strings : (S : List ℕ → Type 0) (v : ErabToSetup) → Fits S erab_to_setup v → IfSome v.nas S
-unfolding erab_to_setup erab_id address qos arp
-setup_strings S v fits = strings_of S v.nas fits.1.1.1.1
 
 pub done_sound : IsSound erab_done
 unfolding erab_done erab_id address
@@ -84,10 +76,6 @@ each_setup_right : (S : List ℕ → Type 0) (xs : List ErabToSetup) → AllByRe
 each_setup_right S [] all = tt
 each_setup_right S (x ∷ xs) all = (setup_right S x all.0, each_setup_right S xs all.1)
 
-each_setup_strings : (S : List ℕ → Type 0) (xs : List ErabToSetup) → AllByRecursion (λ a. Fits S erab_to_setup a) xs → AllByRecursion (λ (b : ErabToSetup). IfSome b.nas S) xs
-each_setup_strings S [] all = tt
-each_setup_strings S (x ∷ xs) all = (setup_strings S x all.0, each_setup_strings S xs all.1)
-
 -- 1 to 256 of them, each in its range
 abbrev AreMany : {A : Type 0} → (A → Type 0) → List A → Type 0
 AreMany In xs = (1 ≤ length xs) × (length xs ≤ 256) × AllByRecursion In xs
@@ -108,28 +96,14 @@ pub setups_right : (S : List ℕ → Type 0) (xs : List ErabToSetup) → Fits S 
 unfolding erabs_to_setup
 setups_right S xs fits = (fits.0, fits.1, each_setup_right S xs fits.2)
 
-pub setups_strings : (S : List ℕ → Type 0) (xs : List ErabToSetup) → Fits S erabs_to_setup xs → AllByRecursion (λ (b : ErabToSetup). IfSome b.nas S) xs
-unfolding erabs_to_setup
-setups_strings S xs fits = each_setup_strings S xs fits.2
-
 -- ---- items that are written
 
-pub no_string : (nas : Option (List ℕ)) → IfSome nas (λ octets. Unit {0})
-no_string None = tt
-no_string (Some nas) = tt
+items : {A : Type 0} (s : AsnType A) → IsSound s → most_bits s ≤ 8 * 16383 → (xs : List A) → AllByRecursion (λ a. CanBeWritten s a) xs → AllByRecursion (λ a. IsItem s a) xs
+items s sound few [] right = tt
+items s sound few (x ∷ xs) right = ((right.0, omega (arith, takes (λ octets. Unit {0}) s sound x right.0 0, few)), items s sound few xs right.1)
 
-pub no_strings : (xs : List ErabToSetup) → AllByRecursion (λ (b : ErabToSetup). IfSome b.nas (λ octets. Unit {0})) xs
-no_strings [] = tt
-no_strings (x ∷ xs) = (no_string x.nas, no_strings xs)
+pub done_items : (xs : List ErabDone) → AllByRecursion (λ a. CanBeWritten erab_done a) xs → AllByRecursion (λ a. IsItem erab_done a) xs
+done_items xs right = items erab_done done_sound few_done xs right
 
-pub done_items : (xs : List ErabDone) → AllByRecursion IsErabDone xs → AllByRecursion (λ a. IsItem erab_done a) xs
-done_items [] right = tt
-done_items (x ∷ xs) right =
-    let fits = done_fits (λ octets. Unit {0}) x right.0 in
-    ((fits, omega (arith, takes (λ octets. Unit {0}) erab_done done_sound x fits 0, few_done)), done_items xs right.1)
-
-pub setup_items : (xs : List ErabToSetup) → AllByRecursion IsErabToSetup xs → AllByRecursion (λ a. IsItem erab_to_setup a) xs
-setup_items [] right = tt
-setup_items (x ∷ xs) right =
-    let fits = setup_fits (λ octets. Unit {0}) x right.0 (no_string x.nas) in
-    ((fits, omega (arith, takes (λ octets. Unit {0}) erab_to_setup setup_sound x fits 0, few_setup)), setup_items xs right.1)
+pub setup_items : (xs : List ErabToSetup) → AllByRecursion (λ a. CanBeWritten erab_to_setup a) xs → AllByRecursion (λ a. IsItem erab_to_setup a) xs
+setup_items xs right = items erab_to_setup setup_sound few_setup xs right

@@ -1,5 +1,5 @@
 -- A value that is spelled is in its range, and what is written for it ends no later than what spells it.
-use Rattle.std.proofs.Common.{ℕ, zero, suc, ◌≡◌, ◌-◌, ◌<◌, ◌≤◌, Bool, true, false, List, [], ◌∷◌, ◌++◌, length, eqb, sym, ap, ◌∙◌, subst, inl, inr, arith, is_some}
+use Rattle.std.proofs.Common.{ℕ, zero, suc, ◌≡◌, ◌-◌, ◌<◌, ◌≤◌, Bool, true, false, List, [], ◌∷◌, ◌++◌, length, eqb, sym, ap, ◌∙◌, subst, inl, inr, arith, is_some, IsSomeAnd}
 use Rattle.std.specs.List.{AllByRecursion}
 use Rattle.std.proofs.lemmas.Bool.{cases_Bool, ltb-true, eqb-true}
 use Rattle.echo_base.specs.declared.reason.Reason.{Reason}
@@ -9,8 +9,8 @@ use Rattle.aper_fields.specs.Spelling.{IsOctets}
 use Rattle.aper_fields.specs.Format.{Format}
 use Rattle.s1ap_ies.specs.Grammar.{zero_bit_in, present_in, choice_in}
 use Rattle.s1ap_ies.specs.Many.{InOrder}
-use Rattle.s1ap_ies.specs.Asn1.{AsnType, Fields, bit_string, integer, only, enumerated, octet_string, choice_index, extensible, on, choice, sequence, sequence_of, container, named, needed, optional, absent, also, format, fields_in, flags_in, run, fields_run, flags_run, each_run, list_run, present_run, index_run, IsBetween, Fits, FieldsFit, IsSound, AreSound}
-use Rattle.s1ap_ies.proofs.Ends.{EndsBy, nothing_ends, then_ends, front_ends, number_ends, fixed_bits_ends, enumerated_ends, octet_string_ends}
+use Rattle.s1ap_ies.specs.Asn1.{AsnType, Fields, part_run, bit_string, integer, only, enumerated, octet_string, fixed_octets, choice_index, extensible, on, choice, sequence, sequence_of, container, by_test, variant, named, needed, optional, absent, also, format, fields_in, flags_in, run, fields_run, flags_run, each_run, list_run, present_run, index_run, IsBetween, Fits, FieldsFit, IsSound, AreSound}
+use Rattle.s1ap_ies.proofs.Ends.{EndsBy, nothing_ends, then_ends, front_ends, number_ends, fixed_bits_ends, enumerated_ends, octet_string_ends, fixed_octets_ends}
 use Rattle.s1ap_ies.proofs.Types.{in_order, periodic}
 use Rattle.s1ap_ies.proofs.Room.{item_least}
 use Rattle.s1ap_ies.proofs.Sizes.{some}
@@ -86,6 +86,7 @@ mutual
       (tt, number_ends low (high - low) value at bits (s.2.1.1 ∙ ap (λ n. number_run low (high - low) n at) whole))
   least (enumerated roots marked some) sound v at bits s = (s.0, enumerated_ends roots marked v at bits s.1)
   least (octet_string most few) sound v at bits s = ((s.0.0, s.0.2), octet_string_ends v at bits s.1)
+  least (fixed_octets n) sound v at bits s = (s.0, fixed_octets_ends v at bits s.1)
   least (choice_index roots n enough) sound v at bits s = (choice_in_range roots n v at bits s, choice_ends roots n v v at bits s)
   least (extensible reason p) sound v at bits s =
       let x = least p sound v _ s.2 s.5 in
@@ -116,7 +117,12 @@ mutual
       let first : s.1 ≡ number_run low (high - low) (length v) at = s.4.1 ∙ ap (λ n. number_run low (high - low) n at) (sym s.5.0) in
       ((omega (arith, s.4.0.0, s.5.0), omega (arith, s.4.0.1, s.5.0, in_order low high bounds), x.0), then_ends (number_run low (high - low) (length v)) (each_run (λ a. run p a) v) at s.1 s.2 bits s.3 (number_ends low (high - low) (length v) at s.1 first) x.1)
   least (container id criticality head p) sound v at bits s =
-      item_least id criticality (format p) v (run p v) at bits (Fits IsOctets p v) (λ offset held t. (least p sound.2 v offset held t).0) (record { some = some p sound.0 v; periodic = periodic p v; ends = λ i l t. (least p sound.2 v i l t).1 }) s
+      item_least id criticality (format p) v (run p v) at bits (Fits IsOctets p v) (λ offset held t. (least p sound.2 v offset held t).0) (record { some = some IsOctets p sound.0 v (least p sound.2 v s.0.offset s.5.0.0 s.5.0.1).0; periodic = periodic p v; ends = λ i l t. (least p sound.2 v i l t).1 }) s
+  least (by_test true p q) sound v at bits s = least p sound.0 v at bits s
+  least (by_test false p q) sound v at bits s = least q sound.1 v at bits s
+  least (variant kind p) sound v at bits s =
+      let x = least p sound s.0 at bits s.2 in
+      subst (λ w. IsLeastOf (variant kind p) w at bits) (sym s.1) (subst (λ o. IsSomeAnd o (λ a. Fits IsOctets p a) × EndsBy (part_run (λ a. run p a) o) at bits) (sym (kind.back s.0)) x)
   least (named same p) sound v at bits s =
       let x = least p sound s.0 at bits s.2 in
       subst (λ w. IsLeastOf (named same p) w at bits) (sym s.1) (subst (λ y. Fits IsOctets p y × EndsBy (run p y) at bits) (sym (same.back s.0)) x)

@@ -9,4 +9,3 @@ pub mod Spelled
 pub mod Room
 pub mod Least
 pub mod Items
-pub mod Distinct

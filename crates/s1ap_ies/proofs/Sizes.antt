@@ -1,5 +1,5 @@
 -- How many bits are written for a value: at least one, and at most so many.
-use Rattle.std.proofs.Common.{ℕ, ◌≡◌, ◌+◌, ◌-◌, ◌*◌, ◌^◌, ◌<◌, ◌≤◌, Bool, true, false, cond, List, [], ◌∷◌, length, eqb, ltb, refl, inl, inr, arith, Some, None, is_some}
+use Rattle.std.proofs.Common.{ℕ, ◌≡◌, ◌+◌, ◌-◌, ◌*◌, ◌^◌, ◌<◌, ◌≤◌, Bool, true, false, cond, List, [], ◌∷◌, length, eqb, ltb, refl, inl, inr, arith, Option, Some, None, is_some, IsSomeAnd}
 use Rattle.std.specs.List.{AllByRecursion}
 use Rattle.std.proofs.lemmas.List.{length-append}
 use Rattle.std.proofs.lemmas.Bool.{cases_lt, lt-ltb, le-ltb, ne_eqb, ltb-true, ltb-false}
@@ -7,12 +7,12 @@ use Rattle.std.proofs.lemmas.Nat.{mul-le}
 use Rattle.aper_fields.specs.declared.enumerated.EnumValue.{EnumValue}
 use Rattle.aper_fields.specs.Bits.{bits, bits_of, zeros, gap}
 use Rattle.aper_fields.specs.Reading.{width}
-use Rattle.aper_fields.specs.Run.{Run, ◌▸◌, bits_run, padding_run, octet_count, length_octets, length_run, octet_string_run, enumerated_run, fixed_bits_run, number_run, nothing_run, open_run}
-use Rattle.aper_fields.proofs.BitLaws.{length-bits}
+use Rattle.aper_fields.specs.Run.{Run, ◌▸◌, bits_run, padding_run, octet_count, length_octets, length_run, octet_string_run, fixed_octets_run, enumerated_run, fixed_bits_run, number_run, nothing_run, open_run}
+use Rattle.aper_fields.proofs.BitLaws.{length-bits, length-bits_of}
 use Rattle.aper_fields.proofs.Counts.{octet_count_more, octet_count_few}
 use Rattle.aper_fields.proofs.Widths.{width_some}
-use Rattle.aper_fields.proofs.Lengths.{Takes, then_takes, number_takes, fixed_bits_takes, octet_string_takes, enumerated_takes, open_takes}
-use Rattle.s1ap_ies.specs.Asn1.{AsnType, Fields, bit_string, integer, only, enumerated, octet_string, choice_index, extensible, on, choice, sequence, sequence_of, container, named, needed, optional, absent, also, run, fields_run, flags_run, each_run, list_run, item_run, present_run, index_run, Fits, FieldsFit, most_bits, most_flags, most_fields, takes_some, IsSound, AreSound}
+use Rattle.aper_fields.proofs.Lengths.{Takes, then_takes, number_takes, fixed_bits_takes, octet_string_takes, fixed_octets_takes, enumerated_takes, open_takes}
+use Rattle.s1ap_ies.specs.Asn1.{AsnType, Fields, bit_string, integer, only, enumerated, octet_string, fixed_octets, choice_index, extensible, on, choice, sequence, sequence_of, container, by_test, variant, named, needed, optional, absent, also, run, fields_run, flags_run, each_run, list_run, item_run, part_run, present_run, index_run, Fits, FieldsFit, most_bits, most_flags, most_fields, takes_some, IsSound, AreSound}
 use Rattle.s1ap_ies.proofs.Types.{small_top}
 
 -- ---- at least a bit
@@ -34,9 +34,9 @@ counted_some top n large small =
     let few : octet_count top ≤ 8 = octet_count_few top small in
     omega (arith, width_some (octet_count top - 1) (omega arith) (omega arith), length-bits (width (octet_count top - 1)) n)
 
-octets_some : (b : Bool) (n : ℕ) → 0 < length ((padding_run ▸ bits_run (cond b 8 16) n) 0)
-octets_some true n = omega (arith, length-append (zeros (gap 0)) (bits 8 n), length-bits 8 n)
-octets_some false n = omega (arith, length-append (zeros (gap 0)) (bits 16 n), length-bits 16 n)
+counted_octets_some : (b : Bool) (n : ℕ) → 0 < length ((padding_run ▸ bits_run (cond b 8 16) n) 0)
+counted_octets_some true n = omega (arith, length-append (zeros (gap 0)) (bits 8 n), length-bits 8 n)
+counted_octets_some false n = omega (arith, length-append (zeros (gap 0)) (bits 16 n), length-bits 16 n)
 
 chosen_some : (a b c : Bool) (f g h : Run) → a ≡ false → (b ≡ true → 0 < length (f 0)) → (c ≡ true → 0 < length (g 0)) → (c ≡ false → 0 < length (h 0)) → 0 < length ((cond a nothing_run (cond b f (cond c g h))) 0)
 chosen_some true b c f g h e p q r = absurd cc
@@ -52,7 +52,7 @@ number_some low top v large small =
     let first : Run = bits_run (width (octet_count top - 1)) (octet_count n - 1) in
     let behind : Run = padding_run ▸ bits_run (8 * octet_count n) n in
     chosen_some (eqb top 0) (ltb top 255) (ltb top 65536) (bits_run (width top) n) octets (first ▸ behind) (ne_eqb top 0 (λ z. absurd (omega (arith, z, large))))
-    (λ t. omega (arith, width_some top large small, length-bits (width top) n)) (λ t. octets_some (eqb top 255) n)
+    (λ t. omega (arith, width_some top large small, length-bits (width top) n)) (λ t. counted_octets_some (eqb top 255) n)
     (λ t. first_some first behind 0 (counted_some top (octet_count n - 1) (omega (arith, ltb-false top 65536 t)) small))
 
 length_octets_some : (n : ℕ) → 0 < length (length_octets n)
@@ -81,21 +81,33 @@ marked_some roots v =
 index_some : (n index : ℕ) → 0 < length (index_run n index 0)
 index_some n index = first_some (fixed_bits_run 1 0) (fixed_bits_run n index) 0 bit_some
 
-pub some : {A : Type 0} (s : AsnType A) → takes_some s ≡ true → (v : A) → 0 < length (run s v 0)
+octets_some : (n : ℕ) (octets : List ℕ) → 0 < n → length octets ≡ n → 0 < length (fixed_octets_run octets 0)
+unfolding fixed_octets_run
+octets_some n octets large whole = omega (arith, large, whole, length-bits_of octets, length-append (zeros (gap 0)) (bits_of octets))
+
+part_some : {A : Type 0} (In : A → Type 0) (f : A → Run) → ((a : A) → In a → 0 < length (f a 0)) → (o : Option A) → IsSomeAnd o In → 0 < length (part_run f o 0)
+part_some In f each (Some a) fits = each a fits
+part_some In f each None fits = absurd fits
+
+pub some : {A : Type 0} (S : List ℕ → Type 0) (s : AsnType A) → takes_some s ≡ true → (v : A) → Fits S s v → 0 < length (run s v 0)
 unfolding run list_run
-some (integer low high bounds) b v = number_some low (high - low) v (omega (arith, ltb-true _ _ b)) (small_top low high bounds)
-some (enumerated roots true few) b v = marked_some roots v
-some (enumerated roots false few) b v = false_true b
-some (octet_string most few) b v = text_some v
-some (sequence_of low high bounds p) b v = first_some (number_run low (high - low) (length v)) (each_run (λ a. run p a) v) 0 (number_some low (high - low) (length v) (omega (arith, ltb-true _ _ b)) (small_top low high bounds))
-some (sequence p) b v = first_some (fixed_bits_run 1 0) (flags_run p v (fixed_bits_run 1 0 ▸ fields_run p v)) 0 bit_some
-some (choice p q) b (inl a) = first_some (index_run 1 0) (run p a) 0 (index_some 1 0)
-some (choice p q) b (inr a) = first_some (index_run 1 1) (run q a) 0 (index_some 1 1)
-some (extensible reason p) b v = first_some (fixed_bits_run 1 0) (run p v) 0 bit_some
-some (on p most q) b v = first_some (run p v.0) (run (q v.0) v.1) 0 (some p b v.0)
-some (choice_index roots n enough) b v = index_some n v
-some (named same p) b v = some p b (same.parts v)
-some _ b v = false_true b
+some S (integer low high bounds) b v fits = number_some low (high - low) v (omega (arith, ltb-true _ _ b)) (small_top low high bounds)
+some S (enumerated roots true few) b v fits = marked_some roots v
+some S (enumerated roots false few) b v fits = false_true b
+some S (octet_string most few) b v fits = text_some v
+some S (sequence_of low high bounds p) b v fits = first_some (number_run low (high - low) (length v)) (each_run (λ a. run p a) v) 0 (number_some low (high - low) (length v) (omega (arith, ltb-true _ _ b)) (small_top low high bounds))
+some S (sequence p) b v fits = first_some (fixed_bits_run 1 0) (flags_run p v (fixed_bits_run 1 0 ▸ fields_run p v)) 0 bit_some
+some S (choice p q) b (inl a) fits = first_some (index_run 1 0) (run p a) 0 (index_some 1 0)
+some S (choice p q) b (inr a) fits = first_some (index_run 1 1) (run q a) 0 (index_some 1 1)
+some S (extensible reason p) b v fits = first_some (fixed_bits_run 1 0) (run p v) 0 bit_some
+some S (on p most q) b v fits = first_some (run p v.0) (run (q v.0) v.1) 0 (some S p b v.0 fits.0)
+some S (fixed_octets n) b v fits = octets_some n v (ltb-true _ _ b) fits.0
+some S (choice_index roots n enough) b v fits = index_some n v
+some S (by_test true p q) b v fits = some S p b v fits
+some S (by_test false p q) b v fits = some S q b v fits
+some S (variant kind p) b v fits = part_some (λ a. Fits S p a) (λ a. run p a) (λ a f. some S p b a f) (kind.part v) fits
+some S (named same p) b v fits = some S p b (same.parts v) fits
+some S _ b v fits = false_true b
 
 -- ---- at most so many
 
@@ -118,6 +130,14 @@ each_takes In n f each (x ∷ xs) all =
     let whole = then_takes n (length xs * n) (f x) (each_run f xs) (each x all.0) (each_takes In n f each xs all.1) in
     λ at. grind (arith, whole at)
 
+pub list_takes : {A : Type 0} (In : A → Type 0) (low high n : ℕ) (f : A → Run) → ((x : A) → In x → Takes n (f x)) → (xs : List A) → AllByRecursion In xs → Takes (74 + length xs * n) (list_run low high f xs)
+unfolding list_run
+list_takes In low high n f each xs all = then_takes 74 (length xs * n) (number_run low (high - low) (length xs)) (each_run f xs) (number_takes low (high - low) (length xs)) (each_takes In n f each xs all)
+
+part_takes : {A : Type 0} (In : A → Type 0) (n : ℕ) (f : A → Run) → ((a : A) → In a → Takes n (f a)) → (o : Option A) → IsSomeAnd o In → Takes n (part_run f o)
+part_takes In n f each (Some a) fits = each a fits
+part_takes In n f each None fits = absurd fits
+
 present_takes : (b : Bool) → Takes 8 (present_run b)
 unfolding present_run
 present_takes b = fixed_bits_takes 1 _
@@ -132,7 +152,7 @@ flags_takes (also p q) v rest n t =
     λ at. omega (arith, whole at)
 
 mutual
-  unfolding run fields_run list_run
+  unfolding run fields_run
 
   pub takes : {A : Type 0} (S : List ℕ → Type 0) (s : AsnType A) → IsSound s → (v : A) → Fits S s v → Takes (most_bits s) (run s v)
   takes S (bit_string n) sound v fits = fixed_bits_takes n v
@@ -140,6 +160,7 @@ mutual
   takes S (only reason low high value bounds) sound v fits = number_takes low (high - low) value
   takes S (enumerated roots marked few) sound v fits = enumerated_takes roots marked v
   takes S (octet_string most few) sound v fits = λ at. omega (arith, octet_string_takes v at, fits.0)
+  takes S (fixed_octets n) sound v fits = λ at. omega (arith, fixed_octets_takes v at, fits.0)
   takes S (choice_index roots n enough) sound v fits = λ at. omega (arith, index_takes n v at)
   takes S (extensible reason p) sound v fits = then_takes 8 (most_bits p) (fixed_bits_run 1 0) (run p v) (fixed_bits_takes 1 0) (takes S p sound v fits)
   takes S (on p most q) sound v fits =
@@ -156,10 +177,12 @@ mutual
       let whole = then_takes 8 (most_flags p + (8 + most_fields p)) (fixed_bits_run 1 0) (flags_run p v (fixed_bits_run 1 0 ▸ fields_run p v)) (fixed_bits_takes 1 0) (flags_takes p v (fixed_bits_run 1 0 ▸ fields_run p v) (8 + most_fields p) fields) in
       λ at. omega (arith, whole at)
   takes S (sequence_of low high bounds p) sound v fits =
-      let each = each_takes (λ a. Fits S p a) (most_bits p) (λ a. run p a) (λ a f. takes S p sound a f) v fits.2 in
-      let whole = then_takes 74 (length v * most_bits p) (number_run low (high - low) (length v)) (each_run (λ a. run p a) v) (number_takes low (high - low) (length v)) each in
+      let whole = list_takes (λ a. Fits S p a) low high (most_bits p) (λ a. run p a) (λ a f. takes S p sound a f) v fits.2 in
       λ at. omega (arith, whole at, mul-le (length v) (most_bits p) high (most_bits p) fits.1 (omega arith))
   takes S (container id criticality head p) sound v fits = item_takes id criticality (most_bits p) (run p v 0) (takes S p sound.2 v fits 0)
+  takes S (by_test true p q) sound v fits = takes S p sound.0 v fits
+  takes S (by_test false p q) sound v fits = takes S q sound.1 v fits
+  takes S (variant kind p) sound v fits = part_takes (λ a. Fits S p a) (most_bits p) (λ a. run p a) (λ a f. takes S p sound a f) (kind.part v) fits
   takes S (named same p) sound v fits = takes S p sound (same.parts v) fits
 
   fields_take : {P A : Type 0} (S : List ℕ → Type 0) (s : Fields P A) → AreSound s → (v : A) → FieldsFit S s v → Takes (most_fields s) (fields_run s v)
@@ -168,3 +191,28 @@ mutual
   fields_take S (optional p) sound None fits = λ at. omega arith
   fields_take S (absent reason) sound v fits = λ at. omega arith
   fields_take S (also p q) sound v fits = then_takes (most_fields p) (most_fields q) (fields_run p v.0) (fields_run q v.1) (fields_take S p sound.0 v.0 fits.0) (fields_take S q sound.1 v.1 fits.1)
+
+-- ---- at most so many of a string or a list of that length
+
+abbrev most_part : {A : Type 0} → (A → ℕ) → Option A → ℕ
+most_part n (Some a) = n a
+most_part n None = 0
+
+part_takes_of : {A : Type 0} (In : A → Type 0) (n : A → ℕ) (f : A → Run) → ((a : A) → In a → Takes (n a) (f a)) → (o : Option A) → IsSomeAnd o In → Takes (most_part n o) (part_run f o)
+part_takes_of In n f each (Some a) fits = each a fits
+part_takes_of In n f each None fits = absurd fits
+
+abbrev pub most_of : {A : Type 0} → AsnType A → A → ℕ
+most_of (octet_string most few) v = 23 + 8 * length v
+most_of (sequence_of low high bounds p) v = 74 + length v * most_bits p
+most_of (variant kind p) v = most_part (λ a. most_of p a) (kind.part v)
+most_of (named same p) v = most_of p (same.parts v)
+most_of p v = most_bits p
+
+pub takes_of : {A : Type 0} (S : List ℕ → Type 0) (s : AsnType A) → IsSound s → (v : A) → Fits S s v → Takes (most_of s v) (run s v)
+unfolding run
+takes_of S (octet_string most few) sound v fits = octet_string_takes v
+takes_of S (sequence_of low high bounds p) sound v fits = list_takes (λ a. Fits S p a) low high (most_bits p) (λ a. run p a) (λ a f. takes S p sound a f) v fits.2
+takes_of S (variant kind p) sound v fits = part_takes_of (λ a. Fits S p a) (λ a. most_of p a) (λ a. run p a) (λ a f. takes_of S p sound a f) (kind.part v) fits
+takes_of S (named same p) sound v fits = takes_of S p sound (same.parts v) fits
+takes_of S p sound v fits = takes S p sound v fits

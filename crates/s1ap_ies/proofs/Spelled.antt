@@ -1,5 +1,5 @@
 -- What is written for a value in its range spells it.
-use Rattle.std.proofs.Common.{ℕ, zero, suc, ◌+◌, ◌^◌, ◌<◌, ◌≤◌, Bool, true, false, ◌&&◌, List, [], ◌∷◌, ◌++◌, length, refl, sym, leb, inl, inr, arith, Some, None, is_some}
+use Rattle.std.proofs.Common.{◌≡◌, ℕ, zero, suc, ◌+◌, ◌^◌, ◌<◌, ◌≤◌, Bool, true, false, ◌&&◌, List, [], ◌∷◌, ◌++◌, length, refl, sym, leb, inl, inr, arith, Option, Some, None, is_some, IfSome, IsSomeAnd}
 use Rattle.std.specs.List.{AllByRecursion}
 use Rattle.std.proofs.lemmas.List.{append-nil}
 use Rattle.std.proofs.lemmas.Bool.{leb-true, lt-ltb, le-leb, and_parts, eq-eqb}
@@ -7,11 +7,11 @@ use Rattle.echo_base.specs.declared.reason.Reason.{Reason}
 use Rattle.echo_base.specs.declared.reason.Reason.TheVariants as reasons
 use Rattle.aper_fields.specs.Run.{Run, fixed_bits_run, number_run, open_run}
 use Rattle.aper_fields.specs.Spelling.{IsOctets}
-use Rattle.aper_fields.specs.Format.{Format, ◌>>=◌, just}
+use Rattle.aper_fields.specs.Format.{Format, ◌>>=◌, just, mapped}
 use Rattle.aper_fields.proofs.Periodic.{IsPeriodic}
 use Rattle.s1ap_ies.specs.Grammar.{zero_bit_in, present_in, extensions_in, choice_in, criticality_in, item_in}
 use Rattle.s1ap_ies.specs.Many.{InOrder, inside}
-use Rattle.s1ap_ies.specs.Asn1.{AsnType, Fields, are_bounds, bit_string, integer, only, enumerated, octet_string, choice_index, extensible, on, choice, sequence, sequence_of, container, named, needed, optional, absent, also, format, fields_in, flags_in, run, fields_run, flags_run, each_run, list_run, item_run, present_run, index_run, IsBetween, Fits, FieldsFit, IsSpelledBy, IsSound, AreSound}
+use Rattle.s1ap_ies.specs.Asn1.{AsnType, Fields, Variant, are_bounds, part_run, bit_string, integer, only, enumerated, octet_string, fixed_octets, choice_index, extensible, on, choice, sequence, sequence_of, container, by_test, variant, named, needed, optional, absent, also, format, fields_in, flags_in, run, fields_run, flags_run, each_run, list_run, item_run, present_run, index_run, IsBetween, Fits, FieldsFit, IsSpelledBy, IsSound, AreSound}
 use Rattle.s1ap_ies.proofs.Types.{in_order, periodic}
 use Rattle.s1ap_ies.proofs.Opens.{FitsOpen, open_holds}
 use Rattle.s1ap_ies.proofs.Sizes.{some, takes}
@@ -61,6 +61,11 @@ item_spelled id criticality F v f at small low spelled period fits =
     let o = open_holds F v f (i + length second) spelled period fits in
     (o.0, first ++ (second ++ body), [], sym (append-nil (first ++ (second ++ body))), (id, first, second ++ body, refl, (eq-eqb id id refl, ((omega arith, omega (arith, small)), refl)), (criticality, second, body, refl, criticality_spelled criticality i low, o.1)), (o.2, refl))
 
+-- a value of a variant
+part_spelled : {A B : Type 0} (kind : Variant A B) (F : Format A) (In : A → Type 0) (f : A → Run) (at : ℕ) → ((a : A) → In a → F.Spells at a (f a at)) → (v : B) (o : Option A) → IfSome o (λ a. v ≡ kind.make a) → IsSomeAnd o In → (mapped kind.make F).Spells at v (part_run f o at)
+part_spelled kind F In f at each v (Some a) again fits = (a, again, each a fits)
+part_spelled kind F In f at each v None again fits = absurd fits
+
 -- the flags of a value
 unfoldable flags_of : {P A : Type 0} → Fields P A → A → P
 flags_of (needed p) v = tt
@@ -87,6 +92,7 @@ mutual
       (value, refl, (eq-eqb value value refl, ((leb-true _ _ ends.0, omega (arith, leb-true _ _ ends.1, in_order low high parts.0)), refl)))
   spelled (enumerated roots marked some) sound v fits at = (fits, refl)
   spelled (octet_string most few) sound v fits at = ((fits.0, omega (arith, fits.0, leb-true most 16383 few), fits.1), refl)
+  spelled (fixed_octets n) sound v fits at = (fits, refl)
   spelled (choice_index roots n enough) sound v fits at = choice_spelled roots n v fits (omega (arith, fits, leb-true roots (2 ^ n) enough)) at
   spelled (extensible reason p) sound v fits at = (0, _, _, refl, zero_bit reason at, spelled p sound v fits _)
   spelled (on p most q) sound v fits at = (v.0, _, _, refl, spelled p sound.0 v.0 fits.0 at, (v.1, _, [], sym (append-nil _), spelled (q v.0) (sound.1 v.0).0 v.1 fits.1 _, (refl, refl)))
@@ -96,7 +102,10 @@ mutual
   spelled (sequence_of low high bounds p) sound v fits at = (length v, _, _, refl, ((fits.0, omega (arith, fits.1, in_order low high bounds)), refl), (refl, each_spelled (format p) (λ a. Fits IsOctets p a) (λ a. run p a) (λ a f. spelled p sound a f) [] v fits.2 _))
   spelled (container id criticality head p) sound v fits at =
       let parts = and_parts (leb id 65535) (leb criticality 2) head in
-      item_spelled id criticality (format p) v (run p v) at (leb-true _ _ parts.0) (leb-true _ _ parts.1) (record { everywhere = λ i. spelled p sound.2 v fits i }) (periodic p v) (some p sound.0 v, omega (arith, takes IsOctets p sound.2 v fits 0, sound.1))
+      item_spelled id criticality (format p) v (run p v) at (leb-true _ _ parts.0) (leb-true _ _ parts.1) (record { everywhere = λ i. spelled p sound.2 v fits i }) (periodic p v) (some IsOctets p sound.0 v fits, omega (arith, takes IsOctets p sound.2 v fits 0, sound.1))
+  spelled (by_test true p q) sound v fits at = spelled p sound.0 v fits at
+  spelled (by_test false p q) sound v fits at = spelled q sound.1 v fits at
+  spelled (variant kind p) sound v fits at = part_spelled kind (format p) (λ a. Fits IsOctets p a) (λ a. run p a) at (λ a f. spelled p sound a f at) v (kind.part v) (kind.again v) fits
   spelled (named same p) sound v fits at = (same.parts v, sym (same.again v), spelled p sound (same.parts v) fits at)
 
   fields_spelled : {P A : Type 0} (s : Fields P A) → AreSound s → (v : A) → FieldsFit IsOctets s v → (at : ℕ) → (fields_in s (flags_of s v)).Spells at v (fields_run s v at)

@@ -1,15 +1,16 @@
--- What holds of every type: its reading is exact for its format, and what is written depends on its offset within an octet alone.
-use Rattle.std.proofs.Common.{ℕ, ◌≡◌, ◌-◌, ◌^◌, ◌<◌, ◌≤◌, Bool, true, ◌&&◌, List, [], ◌∷◌, length, eqb, ltb, leb, inl, inr, Option, Some, None}
+-- What holds of every type: its reading is exact for its format, what is written depends on its offset within an octet alone, and a value is in its range whatever its strings are.
+use Rattle.std.proofs.Common.{ℕ, ◌≡◌, ◌-◌, ◌^◌, ◌<◌, ◌≤◌, Bool, true, false, ◌&&◌, List, [], ◌∷◌, length, eqb, ltb, leb, inl, inr, Option, Some, None, IfSome, IsSomeAnd}
+use Rattle.std.specs.List.{AllByRecursion}
 use Rattle.std.proofs.lemmas.Bool.{ltb-true, leb-true, and_parts}
 use Rattle.echo_base.specs.declared.reason.Reason.TheVariants as reasons
 use Rattle.aper_fields.specs.Run.{Run}
 use Rattle.aper_fields.specs.Format.{Format, IsExactly, number_in}
 use Rattle.aper_fields.proofs.Formats.{just_exactly, mapped_exactly, passing_exactly, either_exactly}
 use Rattle.aper_fields.proofs.ExactNumbers.{number_exactly}
-use Rattle.aper_fields.proofs.ExactPieces.{fixed_bits_exactly, enumerated_exactly, octet_string_exactly}
-use Rattle.aper_fields.proofs.Periodic.{IsPeriodic, constant_periodic, then_periodic, fixed_bits_periodic, number_periodic, enumerated_periodic, octet_string_periodic, open_periodic}
+use Rattle.aper_fields.proofs.ExactPieces.{fixed_bits_exactly, enumerated_exactly, octet_string_exactly, fixed_octets_exactly}
+use Rattle.aper_fields.proofs.Periodic.{IsPeriodic, constant_periodic, then_periodic, fixed_bits_periodic, number_periodic, enumerated_periodic, octet_string_periodic, fixed_octets_periodic, open_periodic}
 use Rattle.s1ap_ies.specs.Reading.{Reader}
-use Rattle.s1ap_ies.specs.Asn1.{AsnType, Fields, are_bounds, part_run, bit_string, integer, only, enumerated, octet_string, choice_index, extensible, on, choice, sequence, sequence_of, container, named, needed, optional, absent, also, format, fields_in, flags_in, reading, fields_at, flags_at, list_at, contained_item_at, run, fields_run, flags_run, each_run, list_run, item_run, present_run, index_run}
+use Rattle.s1ap_ies.specs.Asn1.{AsnType, Fields, are_bounds, part_run, bit_string, integer, only, enumerated, octet_string, fixed_octets, choice_index, extensible, on, choice, sequence, sequence_of, container, by_test, variant, named, needed, optional, absent, also, format, fields_in, flags_in, reading, fields_at, flags_at, list_at, contained_item_at, run, fields_run, flags_run, each_run, list_run, item_run, present_run, index_run, Fits, FieldsFit}
 use Rattle.s1ap_ies.proofs.Exact.{behind, zero_bit_exactly, present_exactly, extensions_exactly, choice_exactly, item_exactly}
 use Rattle.s1ap_ies.proofs.Manys.{many_exactly}
 use Rattle.s1ap_ies.proofs.Inside.{inside_exactly}
@@ -40,6 +41,7 @@ mutual
       let parts = and_parts (leb 1 roots) (ltb roots (2 ^ 64)) some in
       enumerated_exactly roots marked (leb-true _ _ parts.0) (ltb-true _ _ parts.1)
   exactly (octet_string most few) = octet_string_exactly most
+  exactly (fixed_octets n) = fixed_octets_exactly n
   exactly (choice_index roots n enough) = choice_exactly roots n
   exactly (extensible reason p) = behind _ _ _ _ (zero_bit_exactly reason) (λ extension. exactly p)
   exactly (on p most q) = behind _ _ _ _ (exactly p) (λ a. behind _ _ _ _ (exactly (q a)) (λ b. just_exactly (a, b)))
@@ -47,6 +49,8 @@ mutual
   exactly (sequence p) = behind _ _ _ _ (zero_bit_exactly reasons.SequenceExtension) (λ extension. flags_exactly p _ _ (λ flags. behind _ _ _ _ present_exactly (λ more. behind _ _ _ _ (fields_exactly p flags) (λ v. behind _ _ _ _ (extensions_exactly more) (λ end. just_exactly v)))))
   exactly (sequence_of low high bounds p) = behind _ _ _ _ (number_exactly low (high - low) (small_top low high bounds)) (many_exactly _ _ (λ before. exactly p))
   exactly (container id criticality head p) = behind _ _ _ _ (item_exactly id) (λ content. inside_exactly content (format p) (reading p) (exactly p))
+  exactly (by_test b p q) = either_exactly b _ _ _ _ (exactly p) (exactly q)
+  exactly (variant kind p) = mapped_exactly kind.make (format p) (reading p) (exactly p)
   exactly (named same p) = mapped_exactly same.make (format p) (reading p) (exactly p)
 
   fields_exactly : {P A : Type 0} (s : Fields P A) (flags : P) → IsExactly (fields_in s flags) (fields_at s flags)
@@ -89,6 +93,7 @@ mutual
   periodic (only reason low high value bounds) v = number_periodic low (high - low) value
   periodic (enumerated roots marked some) v = enumerated_periodic roots marked v
   periodic (octet_string most few) v = octet_string_periodic v
+  periodic (fixed_octets n) v = fixed_octets_periodic v
   periodic (choice_index roots n enough) v = index_periodic n v
   periodic (extensible reason p) v = then_periodic _ _ (fixed_bits_periodic 1 0) (periodic p v)
   periodic (on p most q) v = then_periodic _ _ (periodic p v.0) (periodic (q v.0) v.1)
@@ -97,6 +102,9 @@ mutual
   periodic (sequence p) v = then_periodic _ _ (fixed_bits_periodic 1 0) (flags_periodic p v _ (then_periodic _ _ (fixed_bits_periodic 1 0) (fields_periodic p v)))
   periodic (sequence_of low high bounds p) v = then_periodic _ _ (number_periodic low (high - low) (length v)) (each_periodic (λ a. run p a) (λ a. periodic p a) v)
   periodic (container id criticality head p) v = item_periodic id criticality (run p v 0)
+  periodic (by_test true p q) v = periodic p v
+  periodic (by_test false p q) v = periodic q v
+  periodic (variant kind p) v = part_periodic (λ a. run p a) (λ a. periodic p a) (kind.part v)
   periodic (named same p) v = periodic p (same.parts v)
 
   fields_periodic : {P A : Type 0} (s : Fields P A) (v : A) → IsPeriodic (fields_run s v)
@@ -104,3 +112,40 @@ mutual
   fields_periodic (optional p) v = part_periodic (λ a. run p a) (λ a. periodic p a) v
   fields_periodic (absent reason) v = constant_periodic []
   fields_periodic (also p q) v = then_periodic _ _ (fields_periodic p v.0) (fields_periodic q v.1)
+
+-- ---- a value in its range, with a property of its strings that follows
+
+if_some : {A : Type 0} (P Q : A → Type 0) → ((a : A) → P a → Q a) → (o : Option A) → IfSome o P → IfSome o Q
+if_some P Q each (Some a) p = each a p
+if_some P Q each None p = tt
+
+some_and : {A : Type 0} (P Q : A → Type 0) → ((a : A) → P a → Q a) → (o : Option A) → IsSomeAnd o P → IsSomeAnd o Q
+some_and P Q each (Some a) p = each a p
+some_and P Q each None p = absurd p
+
+each_of : {A : Type 0} (P Q : A → Type 0) → ((a : A) → P a → Q a) → (xs : List A) → AllByRecursion P xs → AllByRecursion Q xs
+each_of P Q each [] all = tt
+each_of P Q each (x ∷ xs) all = (each x all.0, each_of P Q each xs all.1)
+
+mutual
+  pub fits_by : {A : Type 0} (S T : List ℕ → Type 0) → ((octets : List ℕ) → S octets → T octets) → (s : AsnType A) (v : A) → Fits S s v → Fits T s v
+  fits_by S T each (octet_string most few) v fits = (fits.0, each v fits.1)
+  fits_by S T each (fixed_octets n) v fits = (fits.0, each v fits.1)
+  fits_by S T each (extensible reason p) v fits = fits_by S T each p v fits
+  fits_by S T each (on p most q) v fits = (fits_by S T each p v.0 fits.0, fits_by S T each (q v.0) v.1 fits.1)
+  fits_by S T each (choice p q) (inl a) fits = fits_by S T each p a fits
+  fits_by S T each (choice p q) (inr b) fits = fits_by S T each q b fits
+  fits_by S T each (sequence p) v fits = fields_fit_by S T each p v fits
+  fits_by S T each (sequence_of low high bounds p) v fits = (fits.0, fits.1, each_of (λ a. Fits S p a) (λ a. Fits T p a) (λ a f. fits_by S T each p a f) v fits.2)
+  fits_by S T each (container id criticality head p) v fits = fits_by S T each p v fits
+  fits_by S T each (by_test true p q) v fits = fits_by S T each p v fits
+  fits_by S T each (by_test false p q) v fits = fits_by S T each q v fits
+  fits_by S T each (variant kind p) v fits = some_and (λ a. Fits S p a) (λ a. Fits T p a) (λ a f. fits_by S T each p a f) (kind.part v) fits
+  fits_by S T each (named same p) v fits = fits_by S T each p (same.parts v) fits
+  fits_by S T each _ v fits = fits
+
+  fields_fit_by : {P A : Type 0} (S T : List ℕ → Type 0) → ((octets : List ℕ) → S octets → T octets) → (s : Fields P A) (v : A) → FieldsFit S s v → FieldsFit T s v
+  fields_fit_by S T each (needed p) v fits = fits_by S T each p v fits
+  fields_fit_by S T each (optional p) v fits = if_some (λ a. Fits S p a) (λ a. Fits T p a) (λ a f. fits_by S T each p a f) v fits
+  fields_fit_by S T each (absent reason) v fits = tt
+  fields_fit_by S T each (also p q) v fits = (fields_fit_by S T each p v.0 fits.0, fields_fit_by S T each q v.1 fits.1)

@@ -1,5 +1,5 @@
 -- Types of ASN.1 (ITU-T X.680), as TS 36.413 uses them: what a value is made of, in order. All that is said of a value follows from its type.
-use Rattle.std.specs.Prelude.{◌≡◌, ◌⊎◌, ℕ, zero, suc, ◌+◌, ◌-◌, ◌*◌, ◌^◌, ◌<◌, ◌≤◌, ◌==◌, nat_lt, nat_le, ◌&&◌, Bool, true, false, List, [], ◌∷◌, length, if◌then◌else◌, Option, Some, None, is_some, IfSome}
+use Rattle.std.specs.Prelude.{◌≡◌, ◌⊎◌, ℕ, zero, suc, ◌+◌, ◌-◌, ◌*◌, ◌^◌, ◌<◌, ◌≤◌, ◌==◌, nat_lt, nat_le, ◌&&◌, Bool, true, false, List, [], ◌∷◌, length, if◌then◌else◌, Option, Some, None, is_some, IsSomeAnd, IfSome}
 use Rattle.std.specs.List.{AllByRecursion}
 use Rattle.std.proofs.Common.{inl, inr}
 use Rattle.echo_base.specs.declared.reason.Reason.{Reason}
@@ -7,9 +7,9 @@ use Rattle.echo_base.specs.declared.reason.Reason.TheVariants as reasons
 use Rattle.aper_fields.specs.declared.enumerated.EnumValue.{EnumValue}
 use Rattle.aper_fields.specs.Spelling.{IsEnumValue}
 use Rattle.aper_fields.specs.Format as formats
-use Rattle.aper_fields.specs.Format.{Format, ◌>>=◌, just, passing, mapped, either, fixed_bits_in, number_in, enumerated_in, octet_string_in}
-use Rattle.aper_fields.specs.Reading.{fixed_bits_at, number_at, enumerated_at, octet_string_at}
-use Rattle.aper_fields.specs.Run.{Run, ◌▸◌, fixed_bits_run, number_run, enumerated_run, nothing_run, octet_string_run, open_run, length_run}
+use Rattle.aper_fields.specs.Format.{Format, ◌>>=◌, just, passing, mapped, either, fixed_bits_in, number_in, enumerated_in, octet_string_in, fixed_octets_in}
+use Rattle.aper_fields.specs.Reading.{fixed_bits_at, number_at, enumerated_at, octet_string_at, fixed_octets_at}
+use Rattle.aper_fields.specs.Run.{Run, ◌▸◌, fixed_bits_run, number_run, enumerated_run, nothing_run, octet_string_run, fixed_octets_run, open_run, length_run}
 use Rattle.s1ap_ies.specs.Grammar.{zero_bit_in, present_in, extensions_in, choice_in, item_in}
 use Rattle.s1ap_ies.specs.Many.{many_in, many_at, inside, inside_at}
 use Rattle.s1ap_ies.specs.Reading as reader
@@ -21,6 +21,17 @@ pub record Same (A B : Type 0) : Type 0 where
   pub parts : B → A
   pub back : (a : A) → parts (make a) ≡ a
   pub again : (b : B) → make (parts b) ≡ b
+
+-- a variant of a type
+pub record Variant (A B : Type 0) : Type 0 where
+  -- a value that is one
+  pub make : A → B
+  -- what is in a value, where it is one
+  pub part : B → Option A
+  -- what it was made of is in it
+  pub back : (a : A) → part (make a) ≡ Some a
+  -- it is made of what is in it
+  pub again : (b : B) → IfSome (part b) (λ a. b ≡ make a)
 
 -- bounds of a whole number
 abbrev pub are_bounds : ℕ → ℕ → Bool
@@ -42,6 +53,8 @@ mutual
     enumerated : (roots : ℕ) (marked : Bool) → nat_le 1 roots && nat_lt roots (2 ^ 64) ≡ true → AsnType EnumValue
     -- OCTET STRING, of which at most so many octets are taken
     octet_string : (most : ℕ) → nat_le most 16383 ≡ true → AsnType (List ℕ)
+    -- BIT STRING (SIZE (8 * n)), as so many octets
+    fixed_octets : ℕ → AsnType (List ℕ)
     -- the index of a root of a CHOICE with extension mark, in n bits
     choice_index : (roots n : ℕ) → nat_le roots (2 ^ n) ≡ true → AsnType ℕ
     -- a type with extension mark, of which no extension is taken
@@ -56,6 +69,10 @@ mutual
     sequence_of : {A : Type 0} (low high : ℕ) → are_bounds low high ≡ true → AsnType A → AsnType (List A)
     -- ProtocolIE-SingleContainer: an id, a criticality and an open type
     container : {A : Type 0} (id criticality : ℕ) → is_head id criticality ≡ true → AsnType A → AsnType A
+    -- one type or another, by a test, as what an open type contains by its id
+    by_test : {A : Type 0} → Bool → AsnType A → AsnType A → AsnType A
+    -- the values of a variant
+    variant : {A B : Type 0} → Variant A B → AsnType A → AsnType B
     -- the same with other names
     named : {A B : Type 0} → Same A B → AsnType A → AsnType B
 
@@ -83,6 +100,7 @@ unfoldable mutual
   format (only reason low high value bounds) = mapped (λ v. tt) (passing (λ v. v == value) reason (number_in low (high - low)))
   format (enumerated roots marked some) = enumerated_in roots marked
   format (octet_string most few) = octet_string_in most
+  format (fixed_octets n) = fixed_octets_in n
   format (choice_index roots n enough) = choice_in roots n
   format (extensible reason p) = zero_bit_in reason >>= λ extension. format p
   format (on p most q) = format p >>= λ a. format (q a) >>= λ b. just (a, b)
@@ -90,6 +108,8 @@ unfoldable mutual
   format (sequence p) = zero_bit_in reasons.SequenceExtension >>= λ extension. flags_in p (λ flags. present_in >>= λ more. fields_in p flags >>= λ v. extensions_in more >>= λ end. just v)
   format (sequence_of low high bounds p) = number_in low (high - low) >>= many_in (λ before. format p)
   format (container id criticality head p) = item_in id >>= λ content. inside content (format p)
+  format (by_test b p q) = formats.either b (format p) (format q)
+  format (variant kind p) = mapped kind.make (format p)
   format (named same p) = mapped same.make (format p)
 
   pub fields_in : {P A : Type 0} → Fields P A → P → Format A
@@ -121,6 +141,7 @@ unfoldable mutual
   reading (only reason low high value bounds) = reader.◌>>=◌ (passing_at (λ v. v == value) reason (number_at low (high - low))) (λ v. done tt)
   reading (enumerated roots marked some) = enumerated_at roots marked
   reading (octet_string most few) = octet_string_at most
+  reading (fixed_octets n) = fixed_octets_at n
   reading (choice_index roots n enough) = choice_at roots n
   reading (extensible reason p) = reader.◌>>=◌ (zero_bit_at reason) (λ extension. reading p)
   reading (on p most q) = reader.◌>>=◌ (reading p) (λ a. reader.◌>>=◌ (reading (q a)) (λ b. done (a, b)))
@@ -128,6 +149,8 @@ unfoldable mutual
   reading (sequence p) = reader.◌>>=◌ (zero_bit_at reasons.SequenceExtension) (λ extension. flags_at p (λ flags. reader.◌>>=◌ present_at (λ more. reader.◌>>=◌ (fields_at p flags) (λ v. reader.◌>>=◌ (extensions_at more) (λ end. done v)))))
   reading (sequence_of low high bounds p) = list_at low high (reading p)
   reading (container id criticality head p) = contained_item_at id (reading p)
+  reading (by_test b p q) = λ i. if b then reading p i else reading q i
+  reading (variant kind p) = reader.◌>>=◌ (reading p) (λ a. done (kind.make a))
   reading (named same p) = reader.◌>>=◌ (reading p) (λ a. done (same.make a))
 
   pub fields_at : {P A : Type 0} → Fields P A → P → Reader A
@@ -182,6 +205,7 @@ unfoldable mutual
   run (only reason low high value bounds) v = number_run low (high - low) value
   run (enumerated roots marked some) v = enumerated_run roots marked v
   run (octet_string most few) v = octet_string_run v
+  run (fixed_octets n) v = fixed_octets_run v
   run (choice_index roots n enough) v = index_run n v
   run (extensible reason p) v = fixed_bits_run 1 0 ▸ run p v
   run (on p most q) v = run p v.0 ▸ run (q v.0) v.1
@@ -190,6 +214,8 @@ unfoldable mutual
   run (sequence p) v = fixed_bits_run 1 0 ▸ flags_run p v (fixed_bits_run 1 0 ▸ fields_run p v)
   run (sequence_of low high bounds p) v = list_run low high (λ a. run p a) v
   run (container id criticality head p) v = item_run id criticality (run p v 0)
+  run (by_test b p q) v = if b then run p v else run q v
+  run (variant kind p) v = part_run (λ a. run p a) (kind.part v)
   run (named same p) v = run p (same.parts v)
 
   pub fields_run : {P A : Type 0} → Fields P A → A → Run
@@ -216,6 +242,7 @@ abbrev mutual
   Fits S (only reason low high value bounds) v = Unit {0}
   Fits S (enumerated roots marked some) v = IsEnumValue roots marked v
   Fits S (octet_string most few) v = (length v ≤ most) × S v
+  Fits S (fixed_octets n) v = (length v ≡ n) × S v
   Fits S (choice_index roots n enough) v = v < roots
   Fits S (extensible reason p) v = Fits S p v
   Fits S (on p most q) v = Fits S p v.0 × Fits S (q v.0) v.1
@@ -224,6 +251,9 @@ abbrev mutual
   Fits S (sequence p) v = FieldsFit S p v
   Fits S (sequence_of low high bounds p) v = (low ≤ length v) × (length v ≤ high) × AllByRecursion (λ a. Fits S p a) v
   Fits S (container id criticality head p) v = Fits S p v
+  Fits S (by_test true p q) v = Fits S p v
+  Fits S (by_test false p q) v = Fits S q v
+  Fits S (variant kind p) v = IsSomeAnd (kind.part v) (λ a. Fits S p a)
   Fits S (named same p) v = Fits S p (same.parts v)
 
   pub FieldsFit : {P A : Type 0} → (List ℕ → Type 0) → Fields P A → A → Type 0
@@ -257,6 +287,7 @@ abbrev mutual
   most_bits (only reason low high value bounds) = 74
   most_bits (enumerated roots marked some) = 75
   most_bits (octet_string most few) = 23 + 8 * most
+  most_bits (fixed_octets n) = 7 + 8 * n
   most_bits (choice_index roots n enough) = 15 + n
   most_bits (extensible reason p) = 8 + most_bits p
   most_bits (on p most q) = most_bits p + most
@@ -264,6 +295,8 @@ abbrev mutual
   most_bits (sequence p) = 16 + (most_flags p + most_fields p)
   most_bits (sequence_of low high bounds p) = 74 + high * most_bits p
   most_bits (container id criticality head p) = 114 + most_bits p
+  most_bits (by_test b p q) = if b then most_bits p else most_bits q
+  most_bits (variant kind p) = most_bits p
   most_bits (named same p) = most_bits p
 
   pub most_fields : {P A : Type 0} → Fields P A → ℕ
@@ -277,12 +310,15 @@ abbrev pub takes_some : {A : Type 0} → AsnType A → Bool
 takes_some (integer low high bounds) = nat_lt low high
 takes_some (enumerated roots marked some) = marked
 takes_some (octet_string most few) = true
+takes_some (fixed_octets n) = nat_lt 0 n
 takes_some (choice_index roots n enough) = true
 takes_some (extensible reason p) = true
 takes_some (on p most q) = takes_some p
 takes_some (choice p q) = true
 takes_some (sequence p) = true
 takes_some (sequence_of low high bounds p) = nat_lt low high
+takes_some (by_test b p q) = if b then takes_some p else takes_some q
+takes_some (variant kind p) = takes_some p
 takes_some (named same p) = takes_some p
 takes_some _ = false
 
@@ -294,6 +330,7 @@ abbrev mutual
   IsSound (only reason low high value bounds) = Unit {0}
   IsSound (enumerated roots marked some) = Unit {0}
   IsSound (octet_string most few) = Unit {0}
+  IsSound (fixed_octets n) = Unit {0}
   IsSound (choice_index roots n enough) = Unit {0}
   IsSound (extensible reason p) = IsSound p
   IsSound (on p most q) = IsSound p × ((a : _) → IsSound (q a) × (most_bits (q a) ≤ most))
@@ -301,6 +338,8 @@ abbrev mutual
   IsSound (sequence p) = AreSound p
   IsSound (sequence_of low high bounds p) = IsSound p
   IsSound (container id criticality head p) = (takes_some p ≡ true) × (most_bits p ≤ 8 * 16383) × IsSound p
+  IsSound (by_test b p q) = IsSound p × IsSound q
+  IsSound (variant kind p) = IsSound p
   IsSound (named same p) = IsSound p
 
   pub AreSound : {P A : Type 0} → Fields P A → Type 0

@@ -7,5 +7,4 @@ pub mod Values
 pub mod Run
 pub mod Memory
 pub mod Lent
-pub mod Tables
 pub mod Kept

@@ -1,7 +1,7 @@
 -- Criticalities, ids, procedure codes and limits by name (TS 36.413, 9.3).
 use Rattle.std.specs.Prelude.{ℕ}
-use Rattle.s1ap_ies.specs.declared.tables.Criticality.{Criticality}
-use Rattle.s1ap_ies.specs.declared.tables.Criticality.TheVariants.{Reject, Ignore, Notify}
+use Rattle.s1ap_ies.specs.declared.criticality.Criticality.{Criticality}
+use Rattle.s1ap_ies.specs.declared.criticality.Criticality.TheVariants.{Reject, Ignore, Notify}
 
 -- ---- criticalities (9.3.3)
 

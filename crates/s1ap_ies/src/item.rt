@@ -10,8 +10,8 @@ ghost use Rattle.s1ap_ies.specs.Kept.{Keeps};
 ghost use Rattle.s1ap_ies.specs.Asn1.{item_start};
 ghost use Rattle.s1ap_ies.specs.Names.{criticality_number};
 
+use crate::criticality::Criticality;
 use crate::pieces::read_criticality;
-use crate::tables::Criticality;
 use crate::whole::all_or_nothing;
 use aper_fields::{BitReader, BitWriter, Mark, Ranged, begin_open, read_open, write_bits_fixed};
 use echo_base::{OutOfMemory, Reason, Refusal};

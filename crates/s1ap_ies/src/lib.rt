@@ -1,11 +1,11 @@
-//! The values of S1AP IEs (3GPP TS 36.413, 9.2), each read exactly, refusals included, and written in one way; and which
-//! IEs each message has (9.1).
+//! The values of S1AP IEs (3GPP TS 36.413, 9.2), each read exactly, refusals included, and written in one way.
 #![tactic(auto)]
 
 mod bearer;
 mod bit_rates;
 mod cause;
 mod cgi;
+mod criticality;
 mod erab_done;
 mod erab_to_setup;
 mod item;
@@ -15,9 +15,6 @@ mod pieces;
 mod sec_caps;
 mod sequence;
 mod stmsi;
-mod tables;
-#[cfg(test)]
-mod tables_tests;
 mod tai;
 #[cfg(test)]
 mod tests;
@@ -28,6 +25,7 @@ mod whole;
 pub use bit_rates::BitRates;
 pub use cause::Cause;
 pub use cgi::Cgi;
+pub use criticality::Criticality;
 pub use erab_done::ErabDone;
 pub use erab_to_setup::ErabToSetup;
 pub use item::{begin_item, read_item};
@@ -35,7 +33,6 @@ pub use laws::{spelled_is_right, written_is_spelled};
 pub use pieces::{read_choice, read_criticality, read_zero_bit, write_choice};
 pub use sec_caps::SecCaps;
 pub use stmsi::Stmsi;
-pub use tables::{Criticality, IeRow, IeTable, MessageKind, ies_of};
 pub use tai::Tai;
 pub use ue_ids::UeIds;
 pub use value::{OwnedValue, PlainValue};

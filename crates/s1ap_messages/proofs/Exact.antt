@@ -8,14 +8,15 @@ use Rattle.aper_fields.specs.Reading.{whole_at}
 use Rattle.aper_fields.specs.Format.{WholeRefuses}
 use Rattle.aper_fields.proofs.Formats.{bind, ok_of, err_of, ok_err, err_is}
 use Rattle.aper_fields.proofs.Containers.{whole_found, whole_only, whole_wrong, whole_refused}
-use Rattle.s1ap_ies.specs.declared.tables.MessageKind.{MessageKind}
-use Rattle.s1ap_ies.specs.Tables.{rows_of}
+use Rattle.s1ap_messages.specs.declared.tables.MessageKind.{MessageKind}
+use Rattle.s1ap_messages.specs.Messages.{rows_of}
 use Rattle.s1ap_messages.specs.declared.pdu.Pdu.{Pdu}
 use Rattle.s1ap_messages.specs.Messages.{kind_of, values_of, is_downlink}
 use Rattle.s1ap_messages.specs.Grammar as grammar
 use Rattle.s1ap_messages.specs.Grammar.{Ie, pdu_in, ies_in, start, AreIes, fields_of, Spells, SpellsUplink, RefusedUplink, missing}
 use Rattle.s1ap_messages.specs.Reading.{lacking}
-use Rattle.s1ap_messages.specs.Built.{message_from, at_end, message_at, received, uplink_at}
+use Rattle.s1ap_messages.specs.Built.{at_end, message_at, received, uplink_at}
+use Rattle.s1ap_messages.specs.Messages.{message_from}
 use Rattle.s1ap_messages.specs.Answer.{Answers, IsAnswer}
 use Rattle.s1ap_messages.proofs.Frame.{pdu_kept_at, pdu_exactly}
 use Rattle.s1ap_messages.proofs.Kept.{slots_of, with_slots, whole_is, bind_assoc}

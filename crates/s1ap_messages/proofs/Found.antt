@@ -7,15 +7,17 @@ use Rattle.echo_base.specs.declared.refusal.Bad.TheVariants.{Refused, OutOfMemor
 use Rattle.aper_fields.specs.Reading.{whole_at}
 use Rattle.aper_fields.proofs.Formats.{bind, ok_of, ok_err, err_is}
 use Rattle.aper_fields.proofs.Containers.{whole_found}
-use Rattle.s1ap_ies.specs.declared.tables.IeRow.{IeRow}
-use Rattle.s1ap_ies.specs.declared.tables.MessageKind.{MessageKind}
-use Rattle.s1ap_ies.specs.Tables.{rows_of}
+use Rattle.s1ap_messages.specs.declared.tables.IeRow.{IeRow}
+use Rattle.s1ap_messages.specs.declared.tables.MessageKind.{MessageKind}
+use Rattle.s1ap_messages.specs.Messages.{rows_of}
 use Rattle.s1ap_messages.specs.declared.pdu.Pdu.{Pdu}
 use Rattle.s1ap_messages.specs.Messages.{kind_of, values_of, is_downlink}
 use Rattle.s1ap_messages.specs.Grammar as grammar
 use Rattle.s1ap_messages.specs.Grammar.{Ie, found, fields_of, pdu_in, start, AreIes, Spells, SpellsUplink, RefusedUplink}
-use Rattle.s1ap_messages.specs.Reading.{Slots, pdu_at, lacking}
-use Rattle.s1ap_messages.specs.Built.{message_from, at_end, message_at, received, uplink_at}
+use Rattle.s1ap_messages.specs.Reading.{pdu_at, lacking}
+use Rattle.s1ap_messages.specs.Rows.{Slots}
+use Rattle.s1ap_messages.specs.Built.{at_end, message_at, received, uplink_at}
+use Rattle.s1ap_messages.specs.Messages.{message_from}
 use Rattle.s1ap_messages.specs.Answer.{IsAnswer}
 use Rattle.s1ap_messages.specs.Memory.{takes_memory, IsFound, IsRead}
 use Rattle.s1ap_messages.specs.Values.{FieldValue}

@@ -7,20 +7,21 @@ use Rattle.echo_base.specs.declared.reason.Reason.TheVariants as reasons
 use Rattle.echo_base.specs.declared.refusal.Refusal.{Refusal}
 use Rattle.aper_fields.specs.Reading.{Input, Read, number_at, open_at, close_at, whole_at, contained_at}
 use Rattle.aper_fields.specs.Format as formats
-use Rattle.aper_fields.specs.Format.{IsExactly, either, just}
+use Rattle.aper_fields.specs.Format.{either, just}
 use Rattle.aper_fields.proofs.Formats.{bind, ok_of}
-use Rattle.s1ap_ies.specs.declared.tables.IeRow.{IeRow}
-use Rattle.s1ap_ies.specs.declared.tables.MessageKind.{MessageKind}
-use Rattle.s1ap_ies.specs.declared.tables.MessageKind.TheVariants as kind
-use Rattle.s1ap_ies.specs.Tables.{rows_of}
+use Rattle.s1ap_messages.specs.declared.tables.IeRow.{IeRow}
+use Rattle.s1ap_messages.specs.declared.tables.MessageKind.{MessageKind}
+use Rattle.s1ap_messages.specs.declared.tables.MessageKind.TheVariants as kind
+use Rattle.s1ap_messages.specs.Messages.{rows_of}
 use Rattle.s1ap_ies.specs.Reading.{Reader, ◌>>=◌, done, zero_bit_at, criticality_at}
-use Rattle.s1ap_ies.proofs.Distinct.{ids_distinct}
+use Rattle.s1ap_messages.proofs.Distinct.{ids_distinct}
 use Rattle.s1ap_messages.specs.Many.{looked_up_at, answer}
 use Rattle.s1ap_ies.specs.Many.{many_at, inside, inside_at}
-use Rattle.s1ap_messages.specs.Values.{FieldValue, value_in}
+use Rattle.s1ap_messages.specs.Values.{FieldValue, value_type}
 use Rattle.s1ap_messages.specs.Grammar.{Ie, Named, Other, found, new_id, has_ie, ie_in}
-use Rattle.s1ap_messages.specs.Reading.{Slots, empty, place_of, is_filled, free_id, content_at, value_at, ie_at, noted, fields_at, header_at, ies_at, pdu_at}
-use Rattle.s1ap_messages.proofs.Typed.{id_of, typed}
+use Rattle.s1ap_messages.specs.Reading.{empty, place_of, is_filled, free_id, content_at, ie_at, noted, fields_at, header_at, ies_at, pdu_at}
+use Rattle.s1ap_messages.specs.Rows.{Slots}
+use Rattle.s1ap_ies.specs.Asn1.{format, reading}
 use Rattle.s1ap_messages.proofs.Places.{position-here, position-later, slot_is, slot_set}
 use Rattle.s1ap_messages.proofs.Frame.{ie_kept_at, ies_kept_at, pdu_kept_at, ie_exactly}
 
@@ -127,9 +128,9 @@ free_is kind ies id of = ap (tried id) (filled_is kind ies id (place_of (rows_of
 
 -- ---- what stands
 
--- an IE that may stand behind others: one of the table whose id is new, with a value of that id
+-- an IE that may stand behind others: one of the table whose id is new
 abbrev pub IsNew : MessageKind → List Ie → Ie → Type 0
-IsNew kind before (Named id v) = (has_ie kind id ≡ true) × (found id before ≡ None) × (id_of v ≡ id)
+IsNew kind before (Named id v) = (has_ie kind id ≡ true) × (found id before ≡ None)
 IsNew kind before (Other id) = Unit {0}
 
 no_value : (o : Option FieldValue) (id wanted : ℕ) → cond (is_some o) (Err (reasons.RepeatedIe wanted)) (Ok wanted) ≡ Ok id → (o ≡ None) × (wanted ≡ id)
@@ -137,8 +138,8 @@ no_value None id wanted e = (refl, cc)
 no_value (Some v) id wanted e = absurd cc
 
 -- the content of an IE: with a value where the table has the id
-content_new : (kind : MessageKind) (before : List Ie) (id : ℕ) (content : Input) (b : Bool) (at : ℕ) (ie : Ie) (run : List Bool) → has_ie kind id ≡ b → found id before ≡ None → (either b (formats.◌>>=◌ (inside content (value_in id)) (λ v. just (Named id v))) (just (Other id))).Spells at ie run → IsNew kind before ie
-content_new kind before id content true at ie run has new s = subst (IsNew kind before) (sym s.5.0) (has, new, typed kind id has content.offset s.0 s.4.0.0 s.4.0.1)
+content_new : (kind : MessageKind) (before : List Ie) (id : ℕ) (content : Input) (b : Bool) (at : ℕ) (ie : Ie) (run : List Bool) → has_ie kind id ≡ b → found id before ≡ None → (either b (formats.◌>>=◌ (inside content (format (value_type id))) (λ v. just (Named id v))) (just (Other id))).Spells at ie run → IsNew kind before ie
+content_new kind before id content true at ie run has new s = subst (IsNew kind before) (sym s.5.0) (has, new)
 content_new kind before id content false at ie run has new s = subst (IsNew kind before) (sym s.0) tt
 
 pub spelled_new : (kind : MessageKind) (before : List Ie) (at : ℕ) (ie : Ie) (run : List Bool) → (ie_in kind before).Spells at ie run → IsNew kind before ie
@@ -153,13 +154,13 @@ spelled_new kind before at ie run s =
 looked_same : {B : Type 0} (look other : ℕ → Result B Reason) (f : Reader ℕ) → ((n : ℕ) → other n ≡ look n) → (i : Input) → looked_up_at other f i ≡ looked_up_at look f i
 looked_same look other f same i = bind_same (f i) (λ x. answer (other x.0) i x.1) (λ x. answer (look x.0) i x.1) (λ x. ap (λ (r : Result _ Reason). answer r i x.1) (same x.0))
 
-content_maps : (kind : MessageKind) (id : ℕ) (content : Input) (place : Option ℕ) → place_of (rows_of kind) id ≡ place → Maps (entry (rows_of kind)) (λ i. cond (has_ie kind id) ((inside_at content (value_at id) >>= λ v. done (Named id v)) i) (done (Other id) i)) (content_at place id content)
+content_maps : (kind : MessageKind) (id : ℕ) (content : Input) (place : Option ℕ) → place_of (rows_of kind) id ≡ place → Maps (entry (rows_of kind)) (λ i. cond (has_ie kind id) ((inside_at content (reading (value_type id)) >>= λ v. done (Named id v)) i) (done (Other id) i)) (content_at place id content)
 content_maps kind id content None e i =
     let b : has_ie kind id ≡ false = has_place (rows_of kind) id ∙ ap is_some e in
     rw b refl
 content_maps kind id content (Some k) e i =
     let b : has_ie kind id ≡ true = has_place (rows_of kind) id ∙ ap is_some e in
-    rw b (bind_same (inside_at content (value_at id) i) (λ x. Ok (Some (k, x.0), x.1)) (λ x. Ok (entry (rows_of kind) (Named id x.0), x.1)) (λ x. ap (λ (o : Option ℕ). ok_of (option_map (λ p. (p, x.0)) o, x.1)) (sym e)) ∙ sym (bind_assoc (inside_at content (value_at id) i) (λ x. Ok (Named id x.0, x.1)) (λ y. Ok (entry (rows_of kind) y.0, y.1))))
+    rw b (bind_same (inside_at content (reading (value_type id)) i) (λ x. Ok (Some (k, x.0), x.1)) (λ x. Ok (entry (rows_of kind) (Named id x.0), x.1)) (λ x. ap (λ (o : Option ℕ). ok_of (option_map (λ p. (p, x.0)) o, x.1)) (sym e)) ∙ sym (bind_assoc (inside_at content (reading (value_type id)) i) (λ x. Ok (Named id x.0, x.1)) (λ y. Ok (entry (rows_of kind) y.0, y.1))))
 
 ie_maps : (kind : MessageKind) (before : List Ie) → IsOf kind before → Maps (entry (rows_of kind)) (ie_kept_at kind before) (ie_at (rows_of kind) (slots_of kind before))
 unfolding ie_at ie_kept_at

@@ -10,89 +10,28 @@ use Rattle.echo_base.specs.declared.refusal.Refusal.{Refusal}
 use Rattle.aper_fields.specs.Bits.{bits, zeros, gap}
 use Rattle.aper_fields.specs.Reading.{Input}
 use Rattle.aper_fields.specs.Run.{number_run, fixed_bits_run, padding_run, open_run, closing}
-use Rattle.aper_fields.specs.Spelling.{Open, IsOctets}
+use Rattle.aper_fields.specs.Spelling.{Open}
 use Rattle.aper_fields.specs.Format as formats
-use Rattle.aper_fields.specs.Format.{Format, ◌>>=◌, either, just}
+use Rattle.aper_fields.specs.Format.{◌>>=◌, either, just}
 use Rattle.aper_fields.proofs.BitLaws.{length-bits}
-use Rattle.s1ap_ies.specs.declared.tables.IeRow.{IeRow}
-use Rattle.s1ap_ies.specs.declared.tables.MessageKind.{MessageKind}
-use Rattle.s1ap_ies.specs.Tables.{rows_of}
+use Rattle.s1ap_messages.specs.declared.tables.IeRow.{IeRow}
+use Rattle.s1ap_messages.specs.declared.tables.MessageKind.{MessageKind}
+use Rattle.s1ap_messages.specs.Messages.{rows_of}
 use Rattle.s1ap_ies.specs.Grammar.{zero_bit_in}
-use Rattle.s1ap_ies.specs.Values as types
-use Rattle.s1ap_ies.specs.Asn1.{item_run}
-use Rattle.s1ap_ies.proofs.Distinct.{ids_distinct}
-use Rattle.s1ap_ies.proofs.Items.{dones_sound, setups_sound, dones_right, setups_right, setups_strings}
-use Rattle.s1ap_ies.proofs.Least.{least}
+use Rattle.s1ap_ies.specs.Asn1.{format, item_run}
+use Rattle.s1ap_messages.proofs.Distinct.{ids_distinct}
 use Rattle.s1ap_messages.specs.declared.pdu.Pdu.{Pdu}
 use Rattle.s1ap_ies.specs.Many.{InOrder, inside}
-use Rattle.s1ap_messages.specs.Values.{FieldValue, value_in}
+use Rattle.s1ap_messages.specs.Values.{FieldValue, value_type}
 use Rattle.s1ap_messages.specs.Messages.{kind_of}
 use Rattle.s1ap_messages.specs.Grammar.{Ie, Named, Other, found, has_ie, fields_of, ie_in, ies_in, pdu_in, Spells}
 use Rattle.s1ap_messages.specs.Run.{value_run, fields_run, count_of, ies_run, IsShort, IsRightValue, IsRightField, IsRight, HasOctetsIn, HasOctets}
 use Rattle.s1ap_messages.specs.Answer.{Answers}
-use Rattle.s1ap_messages.proofs.Cases.{HoldsOfEach, each_value}
 use Rattle.s1ap_ies.proofs.Ends.{EndsBy, front_ends, open_ends}
 use Rattle.s1ap_ies.proofs.Opens.{open_offset}
-use Rattle.s1ap_messages.proofs.Room.{value_ends}
-use Rattle.s1ap_ies.proofs.Room.{HasRoom, IsLeast, open_room, head_ends}
-use Rattle.s1ap_messages.proofs.Runs.{value_periodic, value_some}
+use Rattle.s1ap_ies.proofs.Room.{HasRoom, open_room, head_ends}
+use Rattle.s1ap_messages.proofs.Ies.{right_value, value_octets, value_least}
 use Rattle.s1ap_messages.proofs.Sizes.{length-item_run, cost, ie_cost, length-fields_run, found_cost}
-
--- ---- values in their ranges
-
-abbrev InRange : ℕ → ℕ → FieldValue → List Bool → Type 0
-InRange id at v run = IsRightValue v
-
-each_range : HoldsOfEach InRange
-each_range = record {
-  mme = λ at n run s. omega (arith, s.0.1);
-  cause = λ at v run s. (least types.cause (tt, λ group. (tt, omega arith)) v at run s).0;
-  enb = λ at n run s. omega (arith, s.0.1);
-  bearers = λ at xs run s. setups_right IsOctets xs (least types.erabs_to_setup setups_sound xs at run s).0;
-  nas = λ at octets run s. s.0.0;
-  done = λ at xs run s. dones_right IsOctets xs (least types.erabs_done dones_sound xs at run s).0;
-  rates = λ at v run s. (least types.bit_rates (tt, tt) v at run s).0;
-  tai = λ at v run s. (least types.tai (tt, tt) v at run s).0;
-  key = λ at octets run s. s.0.0;
-  radio = λ at octets run s. s.0.1;
-  stmsi = λ at v run s. (least types.stmsi (tt, tt) v at run s).0;
-  ids = λ at v run s. (least types.ue_ids ((tt, tt), tt) v at run s).0;
-  cgi = λ at v run s. (least types.cgi (tt, tt) v at run s).0;
-  caps = λ at v run s. (least types.sec_caps (tt, tt) v at run s).0;
-  rrc = λ id other at v run s. s.0;
-}
-
-value_ranges : (id at : ℕ) (v : FieldValue) (run : List Bool) → (value_in id).Spells at v run → IsRightValue v
-value_ranges = each_value InRange each_range
-
--- strings of octets
-abbrev AreOctets : ℕ → ℕ → FieldValue → List Bool → Type 0
-AreOctets id at v run = HasOctetsIn v
-
-each_octets : HoldsOfEach AreOctets
-each_octets = record {
-  mme = λ at n run s. tt;
-  cause = λ at v run s. tt;
-  enb = λ at n run s. tt;
-  bearers = λ at xs run s. setups_strings IsOctets xs (least types.erabs_to_setup setups_sound xs at run s).0;
-  nas = λ at octets run s. s.0.2;
-  done = λ at xs run s. tt;
-  rates = λ at v run s. tt;
-  tai = λ at v run s. tt;
-  key = λ at octets run s. s.0.1;
-  radio = λ at octets run s. s.0.2;
-  stmsi = λ at v run s. tt;
-  ids = λ at v run s. tt;
-  cgi = λ at v run s. tt;
-  caps = λ at v run s. tt;
-  rrc = λ id other at v run s. tt;
-}
-
-value_octets : (id at : ℕ) (v : FieldValue) (run : List Bool) → (value_in id).Spells at v run → HasOctetsIn v
-value_octets = each_value AreOctets each_octets
-
-value_least : (id : ℕ) (v : FieldValue) → IsRightValue v → IsLeast (value_in id) v (value_run v)
-value_least id v right = record { some = value_some v right; periodic = value_periodic v; ends = λ at run s. value_ends id at v run s }
 
 -- ---- IEs
 
@@ -117,12 +56,13 @@ record AreRightIes (ies : List Ie) (run : List Bool) : Type 0 where
   octets : AllByRecursion (Has HasOctetsIn) ies
   least : sum_by ie_cost ies ≤ length run
 
-content_room : (id place : ℕ) (content : Input) (opened : List Bool) (b : Bool) (at : ℕ) (ie : Ie) (run : List Bool) → Open place content opened → (either b (formats.◌>>=◌ (inside content (value_in id)) (λ v. just (Named id v))) (just (Other id))).Spells at ie run → HasRoomFor content ie
+content_room : (id place : ℕ) (content : Input) (opened : List Bool) (b : Bool) (at : ℕ) (ie : Ie) (run : List Bool) → Open place content opened → (either b (formats.◌>>=◌ (inside content (format (value_type id))) (λ v. just (Named id v))) (just (Other id))).Spells at ie run → HasRoomFor content ie
 content_room id place content opened true at ie run o s =
     let v = s.0 in
     let held = s.4.0 in
-    let right = value_ranges id _ v held.0 held.1 in
-    subst (HasRoomFor content) (sym s.5.0) (right, value_octets id _ v held.0 held.1, open_room (value_in id) v (value_run v) place content opened (value_least id v right) o held)
+    let octets = value_octets id _ v held.0 held.1 in
+    let right = right_value v octets in
+    subst (HasRoomFor content) (sym s.5.0) (right, octets, open_room (format (value_type id)) v (value_run v) place content opened (value_least id v right) o held)
 content_room id place content opened false at ie run o s = subst (HasRoomFor content) (sym s.0) tt
 
 right_of : (id at : ℕ) (content : Input) (ie : Ie) (run : List Bool) → ((body : List Bool) → HasRoom content body → EndsBy (item_run id 0 body) at run) → length content.left ≤ 8 * 16383 → HasRoomFor content ie → IsRightIe ie run

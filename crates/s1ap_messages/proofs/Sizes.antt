@@ -8,7 +8,7 @@ use Rattle.aper_fields.specs.Bits.{bits, gap}
 use Rattle.aper_fields.specs.Run.{number_run, fixed_bits_run, padding_run, length_octets, length_run, open_run, content_of}
 use Rattle.aper_fields.proofs.BitLaws.{length-bits}
 use Rattle.aper_fields.proofs.Packed.{length-filled}
-use Rattle.s1ap_ies.specs.declared.tables.IeRow.{IeRow}
+use Rattle.s1ap_messages.specs.declared.tables.IeRow.{IeRow}
 use Rattle.s1ap_ies.specs.Asn1.{item_run}
 use Rattle.s1ap_ies.specs.Names.{criticality_number}
 use Rattle.s1ap_messages.specs.Values.{FieldValue}

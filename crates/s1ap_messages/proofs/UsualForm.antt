@@ -9,10 +9,12 @@ use Rattle.aper_fields.specs.Run.{fixed_bits_run, number_run}
 use Rattle.aper_fields.specs.Spelling.{IsOctets}
 use Rattle.aper_fields.proofs.BitLaws.{length-bits, length-bits_of}
 use Rattle.aper_fields.proofs.Packed.{IsBytes, packed_is}
-use Rattle.s1ap_ies.specs.declared.tables.IeRow.{IeRow}
-use Rattle.s1ap_ies.specs.declared.tables.MessageKind.{MessageKind}
-use Rattle.s1ap_ies.specs.declared.tables.MessageKind.TheVariants as kind
-use Rattle.s1ap_ies.specs.Tables.{rows_of}
+use Rattle.s1ap_messages.specs.declared.tables.IeRow.{IeRow}
+use Rattle.s1ap_messages.specs.declared.tables.MessageKind.{MessageKind}
+use Rattle.s1ap_messages.specs.declared.tables.MessageKind.TheVariants as kind
+use Rattle.s1ap_messages.specs.Messages.{rows_of}
+use Rattle.s1ap_ies.specs.Asn1.{run}
+use Rattle.s1ap_ies.proofs.Items.{dones_fit, dones_right, setups_fit, setups_right}
 use Rattle.s1ap_ies.specs.Names.{criticality_number}
 use Rattle.s1ap_messages.specs.declared.value.IeValue.TheVariants as value
 use Rattle.s1ap_messages.specs.declared.pdu.Pdu.{Pdu}
@@ -22,6 +24,7 @@ use Rattle.s1ap_messages.specs.Built.{message_at}
 use Rattle.s1ap_messages.specs.Run.{value_run, ie_run, fields_run, ies_run, header_run, pdu_run, written, count_of, IsShort, IsRightValue, IsRightField, IsRight, HasOctetsIn, HasOctets}
 use Rattle.s1ap_messages.specs.Usual.{counted, ie_octets, value_octets, fields_octets, body_octets, message_octets, usual_octets, unfinished_octets, HasRightValues, IsUsual, AreFieldsOf, BeginsAs}
 use Rattle.s1ap_messages.specs.Values.{FieldValue}
+use Rattle.s1ap_messages.proofs.Distinct.{few_rows}
 use Rattle.s1ap_messages.proofs.Writes.{values-length}
 use Rattle.s1ap_messages.proofs.Whole.{written_spelled}
 use Rattle.s1ap_messages.proofs.Exact.{only_message}
@@ -33,17 +36,17 @@ use Rattle.s1ap_messages.proofs.UsualErabs.{dones_are, setups_are, counted_behin
 -- ---- values
 
 pub value_is : (v : FieldValue) → IsRightValue v → Contains (value_run v 0) (value_octets v)
-unfolding value_run
-value_is (value.Mme mme) right = mme_is mme right
+unfolding value_run run
+value_is (value.Mme mme) right = mme_is mme (omega (arith, right))
 value_is (value.Cause cause) right = cause_is cause right
-value_is (value.Enb enb) right = enb_is enb right
-value_is (value.Bearers bearers) right = setups_are bearers right.2
-value_is (value.Nas nas) right = contains_octets _ (counted nas) (counted_some nas) (text_is nas (omega (arith, right)))
-value_is (value.Done done) right = dones_are done right.2
+value_is (value.Enb enb) right = enb_is enb (omega (arith, right))
+value_is (value.Bearers bearers) right = setups_are bearers (setups_right (λ octets. Unit {0}) bearers right).2
+value_is (value.Nas nas) right = contains_octets _ (counted nas) (counted_some nas) (text_is nas (omega (arith, right.0)))
+value_is (value.Done done) right = dones_are done (dones_right (λ octets. Unit {0}) done right).2
 value_is (value.Rates rates) right = rates_are rates right
 value_is (value.Tai tai) right = tai_is tai
-value_is (value.Key key) right = contains_octets _ key (omega (arith, right)) (key_is key)
-value_is (value.Radio radio) right = contains_octets _ (counted radio) (counted_some radio) (text_is radio right)
+value_is (value.Key key) right = contains_octets _ key (omega (arith, right.0)) (key_is key)
+value_is (value.Radio radio) right = contains_octets _ (counted radio) (counted_some radio) (text_is radio (omega (arith, right.0)))
 value_is (value.Stmsi stmsi) right = stmsi_is stmsi right
 value_is (value.Ids ids) right = ids_are ids right
 value_is (value.Cgi cgi) right = cgi_is cgi
@@ -78,12 +81,8 @@ body_parts : (kind : MessageKind) (values : List (Option FieldValue)) → ies_ru
 unfolding ies_run fixed_bits_run number_run bits
 body_parts kind values = refl
 
-few_values : (kind : MessageKind) → length (rows_of kind) ≤ 6
-few_values kind.InitialUeMessage = omega arith
-few_values _ = omega arith
-
 few_fields : (p : Pdu) → count_of (values_of p) < 256
-few_fields p = omega (arith, few_values (kind_of p), values-length p, count_by-le-length (λ (v : Option FieldValue). is_some v) (values_of p))
+few_fields p = omega (arith, few_rows (kind_of p), values-length p, count_by-le-length (λ (v : Option FieldValue). is_some v) (values_of p))
 
 body_is : (p : Pdu) → IsUsual p → ies_run (kind_of p) (values_of p) 0 ≡ bits_of (body_octets p)
 unfolding bits_of
@@ -147,42 +146,33 @@ are_octets : (octets : List ℕ) → IsBytes octets → IsOctets octets
 are_octets [] fits = tt
 are_octets (b ∷ bs) fits = (fits 0, are_octets bs (λ i. fits (suc i)))
 
-value_behind : (v : FieldValue) → IsOctets (value_octets v) → HasOctetsIn v
-value_behind (value.Mme mme) h = tt
-value_behind (value.Cause cause) h = tt
-value_behind (value.Enb enb) h = tt
-value_behind (value.Bearers bearers) h = setups_behind bearers h
-value_behind (value.Nas nas) h = counted_behind nas h
-value_behind (value.Done done) h = tt
-value_behind (value.Rates rates) h = tt
-value_behind (value.Tai tai) h = tt
-value_behind (value.Key key) h = h
-value_behind (value.Radio radio) h = counted_behind radio h
-value_behind (value.Stmsi stmsi) h = tt
-value_behind (value.Ids ids) h = tt
-value_behind (value.Cgi cgi) h = tt
-value_behind (value.Caps caps) h = tt
-value_behind (value.Rrc rrc) h = tt
+value_behind : (v : FieldValue) → IsRightValue v → IsOctets (value_octets v) → HasOctetsIn v
+value_behind (value.Bearers bearers) right h = setups_fit IsOctets bearers (setups_right (λ octets. Unit {0}) bearers right) (setups_behind bearers h)
+value_behind (value.Nas nas) right h = (right.0, counted_behind nas h)
+value_behind (value.Done done) right h = dones_fit IsOctets done (dones_right (λ octets. Unit {0}) done right)
+value_behind (value.Key key) right h = (right.0, h)
+value_behind (value.Radio radio) right h = (right.0, counted_behind radio h)
+value_behind _ right h = right
 
-fields_behind : (rows : List IeRow) (values : List (Option FieldValue)) → length values ≡ length rows → IsOctets (fields_octets rows values) → AllByRecursion (λ v. IfSome v HasOctetsIn) values
-fields_behind rows [] whole h = tt
-fields_behind [] (v ∷ values) whole h = absurd (omega (arith, whole))
-fields_behind (row ∷ rows) (None ∷ values) whole h = (tt, fields_behind rows values (omega (arith, whole)) h)
-fields_behind (row ∷ rows) (Some v ∷ values) whole h =
+fields_behind : (rows : List IeRow) (values : List (Option FieldValue)) → length values ≡ length rows → AreRight values → IsOctets (fields_octets rows values) → AllByRecursion (λ v. IfSome v HasOctetsIn) values
+fields_behind rows [] whole right h = tt
+fields_behind [] (v ∷ values) whole right h = absurd (omega (arith, whole))
+fields_behind (row ∷ rows) (None ∷ values) whole right h = (tt, fields_behind rows values (omega (arith, whole)) right.1 h)
+fields_behind (row ∷ rows) (Some v ∷ values) whole right h =
     let r = item_behind row.id (criticality_number row.criticality) (value_octets v) (fields_octets rows values) h in
-    (value_behind v r.0, fields_behind rows values (omega (arith, whole)) r.1)
+    (value_behind v right.0 r.0, fields_behind rows values (omega (arith, whole)) right.1 r.1)
 
-usual_has_octets : (p : Pdu) (octets : List ℕ) → IsBytes octets → octets ≡ usual_octets p → HasOctets p
+usual_has_octets : (p : Pdu) (octets : List ℕ) → IsBytes octets → octets ≡ usual_octets p → HasRightValues p → HasOctets p
 unfolding usual_octets
-usual_has_octets p octets fits e =
+usual_has_octets p octets fits e right =
     let all : IsOctets (usual_octets p) = subst IsOctets e (are_octets octets fits) in
     let body = counted_behind (body_octets p) all.1.1.1 in
-    fields_behind (rows_of (kind_of p)) (values_of p) (values-length p) body.1.1.1
+    fields_behind (rows_of (kind_of p)) (values_of p) (values-length p) right body.1.1.1
 
 -- what the reading gives of octets in the usual form of a message
 usual_read : (p : Pdu) (octets : List ℕ) → IsBytes octets → octets ≡ usual_octets p → IsUsual p → message_at octets ≡ Ok p
 usual_read p octets fits e usual =
-    let spelled : Spells (written p) p = written_spelled p (usual_right p usual) (usual_has_octets p octets fits e) in
+    let spelled : Spells (written p) p = written_spelled p (usual_right p usual) (usual_has_octets p octets fits e usual.0) in
     only_message octets p (subst (λ o. Spells o p) (sym (usual_is_written p octets fits e usual)) spelled)
 
 pub usual_reads : (r : Option Pdu) (octets : List ℕ) → IsBytes octets → IfSome r (λ p. (octets ≡ usual_octets p) × IsUsual p) → IfSome r (λ p. message_at octets ≡ Ok p)

@@ -9,31 +9,29 @@ use Rattle.aper_fields.specs.Run.{◌▸◌, fixed_bits_run, number_run, open_ru
 use Rattle.aper_fields.proofs.BitLaws.{length-bits}
 use Rattle.aper_fields.proofs.Packed.{bits_of-packed}
 use Rattle.aper_fields.proofs.Periodic.{IsPeriodic, constant_periodic, then_periodic, number_periodic, fixed_bits_periodic}
-use Rattle.s1ap_ies.specs.declared.tables.IeRow.{IeRow}
-use Rattle.s1ap_ies.specs.declared.tables.MessageKind.{MessageKind}
-use Rattle.s1ap_ies.specs.declared.tables.MessageKind.TheVariants as kind
-use Rattle.s1ap_ies.specs.Tables.{rows_of}
+use Rattle.s1ap_messages.specs.declared.tables.IeRow.{IeRow}
+use Rattle.s1ap_messages.specs.declared.tables.MessageKind.{MessageKind}
+use Rattle.s1ap_messages.specs.declared.tables.MessageKind.TheVariants as kind
+use Rattle.s1ap_messages.specs.Messages.{rows_of}
 use Rattle.s1ap_ies.specs.Grammar.{zero_bit_in}
 use Rattle.s1ap_ies.specs.Run.{choice_run}
-use Rattle.s1ap_ies.specs.Asn1.{IsSpelledBy, item_run}
-use Rattle.s1ap_ies.proofs.Distinct.{ids_distinct}
+use Rattle.s1ap_ies.specs.Asn1.{IsSpelledBy, format, item_run}
+use Rattle.s1ap_messages.proofs.Distinct.{ids_distinct, few_rows}
 use Rattle.s1ap_ies.proofs.Spelled.{choice_spelled}
 use Rattle.s1ap_ies.specs.Names.{criticality_number}
 use Rattle.s1ap_messages.specs.declared.pdu.Pdu.{Pdu}
 use Rattle.s1ap_messages.specs.declared.pdu.Pdu.TheVariants as pdus
 use Rattle.s1ap_ies.specs.Many.{InOrder}
-use Rattle.s1ap_messages.specs.Values.{FieldValue, value_in}
+use Rattle.s1ap_messages.specs.Values.{FieldValue, value_type, id_of}
 use Rattle.s1ap_messages.specs.Messages.{outcome_index, header_of, kind_of, values_of}
 use Rattle.s1ap_messages.specs.Grammar.{Ie, Named, found, has_ie, or_other, kind_with, kind_among, header_in, ie_in, ies_in, pdu_in, Spells}
 use Rattle.s1ap_messages.specs.Run.{value_run, ie_run, fields_run, count_of, ies_run, header_run, pdu_run, written, IsRightField, HasOctetsIn, IsRight, HasOctets}
 use Rattle.s1ap_messages.proofs.Kept.{found-append}
 use Rattle.s1ap_messages.proofs.Frame.{pdu_some}
 use Rattle.s1ap_ies.proofs.Opens.{open_holds, closing_some}
-use Rattle.s1ap_messages.proofs.Runs.{value_periodic, value_some}
+use Rattle.s1ap_messages.proofs.Ies.{value_periodic, value_some, value_spelled}
 use Rattle.s1ap_ies.proofs.Types.{item_periodic}
-use Rattle.s1ap_messages.proofs.Spelled.{value_spelled}
 use Rattle.s1ap_ies.proofs.Spelled.{criticality_spelled}
-use Rattle.s1ap_messages.proofs.Typed.{id_of}
 use Rattle.s1ap_messages.proofs.Writes.{values-length}
 
 abbrev Slot : Type 0
@@ -97,8 +95,8 @@ ie_there kind before row v at free is typed right octets =
     let second = fixed_bits_run 2 (criticality_number row.criticality) i in
     let j = i + length second in
     let body = open_run (value_run v 0) j in
-    let spelled : IsSpelledBy (value_in row.id) v (value_run v) = subst (λ n. IsSpelledBy (value_in n) v (value_run v)) typed (value_spelled v right.0 octets) in
-    let o = open_holds (value_in row.id) v (value_run v) j spelled (value_periodic v) (value_some v right.0, right.1) in
+    let spelled : IsSpelledBy (format (value_type row.id)) v (value_run v) = subst (λ n. IsSpelledBy (format (value_type n)) v (value_run v)) typed (value_spelled v octets) in
+    let o = open_holds (format (value_type row.id)) v (value_run v) j spelled (value_periodic v) (value_some v right.0, right.1) in
     (row.id, first, second ++ body, refl, (row.id, rw free refl, ((omega arith, omega (arith, leb-true _ _ limits.0)), refl)), (criticality_number row.criticality, second, body, refl, criticality_spelled (criticality_number row.criticality) i (leb-true _ _ limits.1), (o.0, body, [], sym (append-nil body), o.1, rw parts.0 (v, [], [], refl, (o.2, refl), (refl, refl)))))
 
 -- ---- the IEs of a table
@@ -160,10 +158,6 @@ named_found (row ∷ rows) (Some v ∷ values) distinct of =
 
 -- ---- the SEQUENCE of IEs
 
-few_values : (kind : MessageKind) → length (rows_of kind) ≤ 6
-few_values kind.InitialUeMessage = omega arith
-few_values _ = omega arith
-
 ies_there : (kind : MessageKind) (values : List Slot) → length values ≡ length (rows_of kind) → are_of (rows_of kind) values ≡ true → AreRight values → IsSpelledBy (ies_in kind) (named (rows_of kind) values) (ies_run kind values)
 unfolding ies_in ies_run zero_bit_in
 ies_there kind values whole of right = record {
@@ -173,7 +167,7 @@ ies_there kind values whole of right = record {
       let i = at + length first in
       let second = number_run 0 65535 (count_of values) i in
       let j = i + length second in
-      let few : count_of values ≤ 65535 = omega (arith, few_values kind, whole, count_by-le-length (λ (v : Slot). is_some v) values) in
+      let few : count_of values ≤ 65535 = omega (arith, few_rows kind, whole, count_by-le-length (λ (v : Slot). is_some v) values) in
       (0, first, second ++ fields_run rows values j, refl, (refl, (omega arith, refl)), (count_of values, second, fields_run rows values j, refl, ((omega arith, omega (arith, few)), refl), (named_count rows values of, fields_there kind [] rows values j (ids_distinct kind) (each_is_row kind) (free_of_none rows) of right)));
 }
 

@@ -8,14 +8,15 @@ use Rattle.aper_fields.specs.Bits.{bits_of}
 use Rattle.aper_fields.specs.Reading.{Input}
 use Rattle.aper_fields.specs.Spelling.{Holds}
 use Rattle.aper_fields.specs.Format.{Format, ◌>>=◌, just, passing, either, fixed_bits_in, number_in, open_in, contained_in, WholeRefuses}
-use Rattle.s1ap_ies.specs.declared.tables.IeRow.{IeRow}
-use Rattle.s1ap_ies.specs.declared.tables.MessageKind.{MessageKind}
-use Rattle.s1ap_ies.specs.Tables.{rows_of}
+use Rattle.s1ap_messages.specs.declared.tables.IeRow.{IeRow}
+use Rattle.s1ap_messages.specs.declared.tables.MessageKind.{MessageKind}
+use Rattle.s1ap_messages.specs.Messages.{rows_of}
 use Rattle.s1ap_ies.specs.Grammar.{zero_bit_in, criticality_in, choice_in}
 use Rattle.s1ap_messages.specs.declared.pdu.Pdu.{Pdu}
 use Rattle.s1ap_messages.specs.Many.{looked_up}
+use Rattle.s1ap_ies.specs.Asn1.{format}
 use Rattle.s1ap_ies.specs.Many.{many_in, inside}
-use Rattle.s1ap_messages.specs.Values.{FieldValue, value_in}
+use Rattle.s1ap_messages.specs.Values.{FieldValue, value_type}
 use Rattle.s1ap_messages.specs.Messages.{outcome_index, header_of, kinds, kind_of, values_of, is_downlink}
 
 -- an IE as it stands in a message: one of the message's table, its id and its value; or another, which is passed over
@@ -68,7 +69,7 @@ ie_in kind before = do
   id ← looked_up (new_id before) (number_in 0 65535)
   criticality ← criticality_in
   content ← open_in
-  either (has_ie kind id) (inside content (value_in id) >>= λ v. just (Named id v)) (just (Other id))
+  either (has_ie kind id) (inside content (format (value_type id)) >>= λ v. just (Named id v)) (just (Other id))
 
 -- the SEQUENCE of IEs: its extension bit, how many IEs there are, and so many of them
 unfoldable pub ies_in : MessageKind → Format (List Ie)

@@ -7,7 +7,9 @@ pub mod Memory
 pub mod Messages
 pub mod Names
 pub mod Reading
+pub mod Rows
 pub mod Run
 pub mod Small
+pub mod Tables
 pub mod Usual
 pub mod Values

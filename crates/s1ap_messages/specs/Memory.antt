@@ -4,13 +4,13 @@ use Rattle.std.specs.List.{list_any}
 use Rattle.echo_base.specs.declared.refusal.Refusal.{Refusal}
 use Rattle.echo_base.specs.declared.refusal.Bad.{Bad}
 use Rattle.echo_base.specs.declared.refusal.Bad.TheVariants.{Refused, OutOfMemory}
-use Rattle.s1ap_ies.specs.declared.tables.MessageKind.{MessageKind}
+use Rattle.s1ap_messages.specs.declared.tables.MessageKind.{MessageKind}
 use Rattle.s1ap_messages.specs.declared.pdu.Pdu.{Pdu}
 use Rattle.s1ap_messages.specs.declared.value.IeValue.TheVariants as value
 use Rattle.s1ap_messages.specs.Values.{FieldValue}
 use Rattle.s1ap_messages.specs.Messages.{kind_of, values_of}
-use Rattle.s1ap_messages.specs.Reading.{Slots}
-use Rattle.s1ap_messages.specs.Built.{message_from}
+use Rattle.s1ap_messages.specs.Rows.{Slots}
+use Rattle.s1ap_messages.specs.Messages.{message_from}
 
 -- the fields that take memory: NAS-PDUs, keys, radio capabilities and lists of E-RABs
 abbrev pub is_kept : Option FieldValue → Bool

@@ -1,26 +1,20 @@
 -- Reading a message from left to right, with a slot for each row of its table.
-use Rattle.std.specs.Prelude.{ℕ, zero, suc, ◌==◌, ◌&&◌, Bool, true, false, List, [], ◌∷◌, position, slice_set, slice_index_or, Option, Some, None, is_some, is_none, Result, Ok, Err, if◌then◌else◌}
+use Rattle.std.specs.Prelude.{ℕ, zero, suc, ◌==◌, ◌&&◌, Bool, false, List, [], ◌∷◌, position, slice_set, slice_index_or, Option, Some, None, is_some, is_none, Result, Ok, Err, if◌then◌else◌}
 use Rattle.echo_base.specs.declared.reason.Reason.{Reason}
 use Rattle.echo_base.specs.declared.reason.Reason.TheVariants as reasons
-use Rattle.aper_fields.specs.Reading as pieces
-use Rattle.aper_fields.specs.Reading.{Input, Read, fixed_bits_at, number_at, octet_string_at, fixed_octets_at, enumerated_at, open_at, end_at, contained_at, whole_at}
-use Rattle.s1ap_ies.specs.declared.tables.IeRow.{IeRow}
-use Rattle.s1ap_ies.specs.declared.tables.MessageKind.{MessageKind}
-use Rattle.s1ap_ies.specs.Tables.{rows_of}
+use Rattle.aper_fields.specs.Reading.{Input, Read, fixed_bits_at, number_at, open_at, contained_at}
+use Rattle.s1ap_messages.specs.declared.tables.IeRow.{IeRow}
+use Rattle.s1ap_messages.specs.declared.tables.MessageKind.{MessageKind}
+use Rattle.s1ap_messages.specs.Messages.{rows_of}
 use Rattle.s1ap_ies.specs.Reading.{Reader, ◌>>=◌, done, skipping, passing_at, zero_bit_at, criticality_at, choice_at}
 use Rattle.s1ap_ies.specs.Asn1.{reading, contained_item_at}
-use Rattle.s1ap_ies.specs.Names as names
-use Rattle.s1ap_ies.specs.Values as types
-use Rattle.s1ap_messages.specs.declared.value.IeValue.TheVariants as value
 use Rattle.s1ap_messages.specs.Many.{looked_up_at}
 use Rattle.s1ap_ies.specs.Many.{inside_at}
-use Rattle.s1ap_messages.specs.Values.{FieldValue}
+use Rattle.s1ap_messages.specs.Values.{FieldValue, value_type}
+use Rattle.s1ap_messages.specs.Rows.{Slots}
 use Rattle.s1ap_messages.specs.Grammar.{kind_with, or_other}
 
--- ---- values
-
-abbrev pub mapped_at : {A B : Type 0} → (A → B) → Reader A → Reader B
-mapped_at f read = λ i. pieces.◌>>=◌ (read i) (λ x. Ok (f x.0, x.1))
+-- ---- lists that are passed over
 
 -- a list whose items are passed over
 unfoldable pub skipped_at : Reader (Unit {0}) → ℕ → Reader (Unit {0})
@@ -35,24 +29,6 @@ abbrev pub listed : {A : Type 0} → Read (List A) → List A
 listed (Ok x) = x.0
 listed (Err e) = []
 
-unfoldable pub value_at : ℕ → Reader FieldValue
-value_at id = λ i.
-    if id == names.mme_ue_s1ap_id then mapped_at value.Mme (number_at 0 names.most_mme_ue_s1ap_id) i
-    else (if id == names.cause then mapped_at value.Cause (reading types.cause) i
-    else (if id == names.enb_ue_s1ap_id then mapped_at value.Enb (number_at 0 names.most_enb_ue_s1ap_id) i
-    else (if id == names.erabs_to_setup then mapped_at value.Bearers (reading types.erabs_to_setup) i
-    else (if id == names.nas_pdu then mapped_at value.Nas (octet_string_at names.most_octets_of_nas) i
-    else (if id == names.erabs_done then mapped_at value.Done (reading types.erabs_done) i
-    else (if id == names.bit_rates then mapped_at value.Rates (reading types.bit_rates) i
-    else (if id == names.tai then mapped_at value.Tai (reading types.tai) i
-    else (if id == names.security_key then mapped_at value.Key (fixed_octets_at names.security_key_octets) i
-    else (if id == names.radio_capability then mapped_at value.Radio (octet_string_at names.most_octets) i
-    else (if id == names.stmsi then mapped_at value.Stmsi (reading types.stmsi) i
-    else (if id == names.ue_ids then mapped_at value.Ids (reading types.ue_ids) i
-    else (if id == names.cgi then mapped_at value.Cgi (reading types.cgi) i
-    else (if id == names.sec_caps then mapped_at value.Caps (reading types.sec_caps) i
-    else mapped_at value.Rrc (enumerated_at names.rrc_cause_roots true) i)))))))))))))
-
 -- ---- the header
 
 unfoldable pub header_at : Reader MessageKind
@@ -64,10 +40,6 @@ header_at = do
   done kind
 
 -- ---- the IEs
-
--- the values that were read, each in the place of its row
-abbrev pub Slots : Type 0
-Slots = List (Option FieldValue)
 
 abbrev pub empty : Slots
 empty = None ∷ None ∷ None ∷ None ∷ None ∷ None ∷ []
@@ -86,7 +58,7 @@ free_id rows slots id = if is_filled (place_of rows id) slots then Err (reasons.
 -- a value with its place, or nothing of an IE that is passed over
 abbrev pub content_at : Option ℕ → ℕ → Input → Reader (Option (ℕ × FieldValue))
 content_at None id content = done None
-content_at (Some place) id content = inside_at content (value_at id) >>= λ v. done (Some (place, v))
+content_at (Some place) id content = inside_at content (reading (value_type id)) >>= λ v. done (Some (place, v))
 
 unfoldable pub ie_at : List IeRow → Slots → Reader (Option (ℕ × FieldValue))
 ie_at rows slots = do

@@ -1,14 +1,14 @@
 //! Messages of the values that were read. Here alone reading takes memory.
 
 ghost use Rattle.std.specs.Prelude.{◌≡◌, IsOk, Ok};
-ghost use Rattle.s1ap_messages.specs.Built.{initial_ue_message_from, uplink_nas_transport_from, downlink_nas_transport_from, initial_context_setup_request_from, initial_context_setup_response_from, initial_context_setup_failure_from, ue_context_release_request_from, ue_context_release_command_from, ue_context_release_complete_from, ue_capability_info_indication_from, message_from};
+ghost use Rattle.s1ap_messages.specs.Messages.{initial_ue_message, uplink_nas_transport, downlink_nas_transport, initial_context_setup_request, initial_context_setup_response, initial_context_setup_failure, ue_context_release_request, ue_context_release_command, ue_context_release_complete, ue_capability_info_indication, made_from, message_from};
 ghost use Rattle.s1ap_messages.specs.Memory.{IsMade};
 
 use crate::pdu::Pdu;
 use crate::slots::Slots;
+use crate::tables::MessageKind;
 use crate::value::IeValue;
 use echo_base::OutOfMemory;
-use s1ap_ies::MessageKind;
 use std::alloc::Global;
 
 /// Takes a value that is there out of its slot.
@@ -20,9 +20,10 @@ macro_rules! take {
     };
 }
 
+#[tactic(auto, unfolding(crate::specs::Rows::fields_from))]
 fn initial_ue_message(alloc: Global, slots: &mut Slots) -> Result<Pdu, OutOfMemory>
-    requires { IsOk (initial_ue_message_from slots.old) }
-    ensures { IsMade (initial_ue_message_from slots.old) result }
+    requires { IsOk (made_from initial_ue_message slots.old) }
+    ensures { IsMade (made_from initial_ue_message slots.old) result }
 {
     take!(slots, 0, Enb(enb));
     take!(slots, 1, Nas(nas));
@@ -44,9 +45,10 @@ fn initial_ue_message(alloc: Global, slots: &mut Slots) -> Result<Pdu, OutOfMemo
     })
 }
 
+#[tactic(auto, unfolding(crate::specs::Rows::fields_from))]
 fn uplink_nas_transport(alloc: Global, slots: &mut Slots) -> Result<Pdu, OutOfMemory>
-    requires { IsOk (uplink_nas_transport_from slots.old) }
-    ensures { IsMade (uplink_nas_transport_from slots.old) result }
+    requires { IsOk (made_from uplink_nas_transport slots.old) }
+    ensures { IsMade (made_from uplink_nas_transport slots.old) result }
 {
     take!(slots, 0, Mme(mme));
     take!(slots, 1, Enb(enb));
@@ -63,9 +65,10 @@ fn uplink_nas_transport(alloc: Global, slots: &mut Slots) -> Result<Pdu, OutOfMe
     })
 }
 
+#[tactic(auto, unfolding(crate::specs::Rows::fields_from))]
 fn downlink_nas_transport(alloc: Global, slots: &mut Slots) -> Result<Pdu, OutOfMemory>
-    requires { IsOk (downlink_nas_transport_from slots.old) }
-    ensures { IsMade (downlink_nas_transport_from slots.old) result }
+    requires { IsOk (made_from downlink_nas_transport slots.old) }
+    ensures { IsMade (made_from downlink_nas_transport slots.old) result }
 {
     take!(slots, 0, Mme(mme));
     take!(slots, 1, Enb(enb));
@@ -74,9 +77,10 @@ fn downlink_nas_transport(alloc: Global, slots: &mut Slots) -> Result<Pdu, OutOf
     Ok(Pdu::DownlinkNasTransport { mme, enb, nas })
 }
 
+#[tactic(auto, unfolding(crate::specs::Rows::fields_from))]
 fn initial_context_setup_request(alloc: Global, slots: &mut Slots) -> Result<Pdu, OutOfMemory>
-    requires { IsOk (initial_context_setup_request_from slots.old) }
-    ensures { IsMade (initial_context_setup_request_from slots.old) result }
+    requires { IsOk (made_from initial_context_setup_request slots.old) }
+    ensures { IsMade (made_from initial_context_setup_request slots.old) result }
 {
     take!(slots, 0, Mme(mme));
     take!(slots, 1, Enb(enb));
@@ -96,9 +100,10 @@ fn initial_context_setup_request(alloc: Global, slots: &mut Slots) -> Result<Pdu
     })
 }
 
+#[tactic(auto, unfolding(crate::specs::Rows::fields_from))]
 fn initial_context_setup_response(alloc: Global, slots: &mut Slots) -> Result<Pdu, OutOfMemory>
-    requires { IsOk (initial_context_setup_response_from slots.old) }
-    ensures { IsMade (initial_context_setup_response_from slots.old) result }
+    requires { IsOk (made_from initial_context_setup_response slots.old) }
+    ensures { IsMade (made_from initial_context_setup_response slots.old) result }
 {
     take!(slots, 0, Mme(mme));
     take!(slots, 1, Enb(enb));
@@ -107,9 +112,10 @@ fn initial_context_setup_response(alloc: Global, slots: &mut Slots) -> Result<Pd
     Ok(Pdu::InitialContextSetupResponse { mme, enb, done })
 }
 
+#[tactic(auto, unfolding(crate::specs::Rows::fields_from))]
 fn initial_context_setup_failure(slots: &mut Slots) -> Pdu
-    requires { IsOk (initial_context_setup_failure_from slots.old) }
-    ensures { initial_context_setup_failure_from slots.old ≡ Ok result }
+    requires { IsOk (made_from initial_context_setup_failure slots.old) }
+    ensures { made_from initial_context_setup_failure slots.old ≡ Ok result }
 {
     take!(slots, 0, Mme(mme));
     take!(slots, 1, Enb(enb));
@@ -117,9 +123,10 @@ fn initial_context_setup_failure(slots: &mut Slots) -> Pdu
     Pdu::InitialContextSetupFailure { mme, enb, cause }
 }
 
+#[tactic(auto, unfolding(crate::specs::Rows::fields_from))]
 fn ue_context_release_request(slots: &mut Slots) -> Pdu
-    requires { IsOk (ue_context_release_request_from slots.old) }
-    ensures { ue_context_release_request_from slots.old ≡ Ok result }
+    requires { IsOk (made_from ue_context_release_request slots.old) }
+    ensures { made_from ue_context_release_request slots.old ≡ Ok result }
 {
     take!(slots, 0, Mme(mme));
     take!(slots, 1, Enb(enb));
@@ -127,27 +134,30 @@ fn ue_context_release_request(slots: &mut Slots) -> Pdu
     Pdu::UeContextReleaseRequest { mme, enb, cause }
 }
 
+#[tactic(auto, unfolding(crate::specs::Rows::fields_from))]
 fn ue_context_release_command(slots: &mut Slots) -> Pdu
-    requires { IsOk (ue_context_release_command_from slots.old) }
-    ensures { ue_context_release_command_from slots.old ≡ Ok result }
+    requires { IsOk (made_from ue_context_release_command slots.old) }
+    ensures { made_from ue_context_release_command slots.old ≡ Ok result }
 {
     take!(slots, 0, Ids(ids));
     take!(slots, 1, Cause(cause));
     Pdu::UeContextReleaseCommand { ids, cause }
 }
 
+#[tactic(auto, unfolding(crate::specs::Rows::fields_from))]
 fn ue_context_release_complete(slots: &mut Slots) -> Pdu
-    requires { IsOk (ue_context_release_complete_from slots.old) }
-    ensures { ue_context_release_complete_from slots.old ≡ Ok result }
+    requires { IsOk (made_from ue_context_release_complete slots.old) }
+    ensures { made_from ue_context_release_complete slots.old ≡ Ok result }
 {
     take!(slots, 0, Mme(mme));
     take!(slots, 1, Enb(enb));
     Pdu::UeContextReleaseComplete { mme, enb }
 }
 
+#[tactic(auto, unfolding(crate::specs::Rows::fields_from))]
 fn ue_capability_info_indication(alloc: Global, slots: &mut Slots) -> Result<Pdu, OutOfMemory>
-    requires { IsOk (ue_capability_info_indication_from slots.old) }
-    ensures { IsMade (ue_capability_info_indication_from slots.old) result }
+    requires { IsOk (made_from ue_capability_info_indication slots.old) }
+    ensures { IsMade (made_from ue_capability_info_indication slots.old) result }
 {
     take!(slots, 0, Mme(mme));
     take!(slots, 1, Enb(enb));
@@ -157,7 +167,7 @@ fn ue_capability_info_indication(alloc: Global, slots: &mut Slots) -> Result<Pdu
 }
 
 /// The message of that kind with the values in the slots, none of which is missing, its octets and lists in memory of their own.
-#[tactic(auto, unfolding(crate::specs::Built::message_from))]
+#[tactic(auto, unfolding(crate::specs::Messages::message_from))]
 pub fn message(alloc: Global, kind: MessageKind, slots: &mut Slots) -> Result<Pdu, OutOfMemory>
     requires { IsOk (message_from kind slots.old) }
     ensures { IsMade (message_from kind slots.old) result }

@@ -8,9 +8,10 @@ ghost use Rattle.s1ap_messages.specs.Grammar.{kind_with};
 ghost use Rattle.s1ap_messages.specs.Reading.{header_at};
 ghost use Rattle.s1ap_messages.specs.Run.{header_run};
 
+use crate::tables::MessageKind;
 use aper_fields::{BitReader, BitWriter, Ranged, read_bits_fixed, write_bits_fixed};
 use echo_base::{OutOfMemory, Reason, Refusal};
-use s1ap_ies::{Criticality, MessageKind, names, read_choice, read_criticality, write_choice};
+use s1ap_ies::{Criticality, names, read_choice, read_criticality, write_choice};
 
 /// The alternatives of S1AP-PDU (TS 36.413, 9.3.2).
 #[derive(Clone, Copy, Debug)]

@@ -9,6 +9,7 @@ mod lists;
 mod pdu;
 mod reading;
 mod slots;
+mod tables;
 #[cfg(test)]
 mod tests;
 mod usual;

@@ -1,6 +1,6 @@
 //! Lists of E-RABs.
 
-ghost use Rattle.std.specs.Prelude.{◌≡◌, ◌≤◌, [], IfOk, OnOk};
+ghost use Rattle.std.specs.Prelude.{◌≡◌, ◌≤◌, [], IfOk, OnOk, length};
 ghost use Rattle.std.specs.List.{AllByRecursion};
 ghost use Rattle.aper_fields.specs.Reading.{Gives};
 ghost use Rattle.aper_fields.specs.Run.{then_written};
@@ -9,10 +9,8 @@ ghost use Rattle.s1ap_ies.specs.Asn1.{AsnType, reading, run, contained_item_at, 
 ghost use Rattle.s1ap_ies.specs.Many.{many_at};
 ghost use Rattle.s1ap_ies.specs.Memory.{GivesIn};
 ghost use Rattle.s1ap_ies.specs.Reading.{skipping};
-ghost use Rattle.s1ap_ies.specs.Run.{IsErabToSetup, IsErabDone};
 ghost use Rattle.s1ap_ies.specs.Values.{erabs_to_setup, erabs_done};
 ghost use Rattle.s1ap_messages.specs.Reading.{skipped_at, erabs_skipped_at};
-ghost use Rattle.s1ap_messages.specs.Run.{AreSome};
 
 use aper_fields::{BitReader, BitWriter, Ranged, close, end_open};
 use device_types::ListOf;
@@ -272,7 +270,9 @@ fn write_erabs<T: Erab>(
     criticality: Criticality,
     erabs: &[T],
 ) -> Result<(), OutOfMemory>
-    requires right { AreSome (λ a. IsItem T.asn1 a) erabs.now }
+    requires least { 1 ≤ length erabs.now }
+    requires most { length erabs.now ≤ 256 }
+    requires right { AllByRecursion (λ a. IsItem T.asn1 a) erabs.now }
     ensures { OnOk result (w.new ≡ then_written w.old (list_run 1 256 (λ a. item_run id (criticality_number criticality) (run T.asn1 a 0)) erabs.now)) }
 {
     Ranged::<1, MOST_ERABS>::write(w, erabs.len() as u64)?;
@@ -282,7 +282,7 @@ fn write_erabs<T: Erab>(
 /// Writes an E-RAB to Be Setup List.
 #[tactic(auto, unfolding(s1ap_ies::specs::Asn1::run, s1ap_ies::specs::Values::erabs_to_setup), using(s1ap_ies::proofs::Items::setup_items))]
 pub fn write_erabs_to_setup(w: &mut BitWriter, erabs: &[ErabToSetup]) -> Result<(), OutOfMemory>
-    requires { AreSome IsErabToSetup erabs.now }
+    requires { CanBeWritten erabs_to_setup erabs.now }
     ensures { OnOk result (w.new ≡ then_written w.old (run erabs_to_setup erabs.now)) }
 {
     write_erabs(w, names::ERAB_TO_SETUP_ITEM, Criticality::Reject, erabs)
@@ -291,7 +291,7 @@ pub fn write_erabs_to_setup(w: &mut BitWriter, erabs: &[ErabToSetup]) -> Result<
 /// Writes an E-RAB Setup List.
 #[tactic(auto, unfolding(s1ap_ies::specs::Asn1::run, s1ap_ies::specs::Values::erabs_done), using(s1ap_ies::proofs::Items::done_items))]
 pub fn write_erabs_done(w: &mut BitWriter, erabs: &[ErabDone]) -> Result<(), OutOfMemory>
-    requires { AreSome IsErabDone erabs.now }
+    requires { CanBeWritten erabs_done erabs.now }
     ensures { OnOk result (w.new ≡ then_written w.old (run erabs_done erabs.now)) }
 {
     write_erabs(w, names::ERAB_SETUP_ITEM, Criticality::Ignore, erabs)

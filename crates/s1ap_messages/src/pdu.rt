@@ -4,12 +4,11 @@ ghost use Rattle.std.specs.Prelude.{◌≡◌, ◌∷◌, [], Some, None};
 ghost use Rattle.s1ap_messages.specs.Messages.{is_downlink};
 ghost use Rattle.s1ap_messages.specs.Names.{name_of};
 
+use crate::tables::MessageKind;
 use crate::value::{IeValue, LentValue};
 use aper_fields::EnumValue;
 use device_types::{ListOf, Octets};
-use s1ap_ies::{
-    BitRates, Cause, Cgi, ErabDone, ErabToSetup, MessageKind, SecCaps, Stmsi, Tai, UeIds,
-};
+use s1ap_ies::{BitRates, Cause, Cgi, ErabDone, ErabToSetup, SecCaps, Stmsi, Tai, UeIds};
 
 /// E-RABs that are to be set up, 1 to 256 of them (TS 36.413, 9.1.4.1).
 pub type ErabsToSetup = ListOf<ErabToSetup>;
@@ -142,7 +141,7 @@ fn with_ids<'a>(mme: u32, enb: u32, third: Option<LentValue<'a>>) -> [Option<Len
 impl Pdu {
     ghost use Rattle.s1ap_messages.specs.Messages.{kind_of};
     ghost use Rattle.std.specs.Prelude.{◌++◌, ◌-◌, replicate, None, length};
-    ghost use Rattle.s1ap_ies.specs.Tables.{rows_of};
+    ghost use Rattle.s1ap_messages.specs.Messages.{rows_of};
     ghost use Rattle.s1ap_messages.specs.Messages.{values_of};
     ghost use Rattle.s1ap_messages.specs.Lent.{all_seen};
 

@@ -2,7 +2,7 @@
 
 ghost use Rattle.std.specs.Prelude.{◌≡◌, ◌≤◌, ◌<◌, true, IfOk, IfSome, Ok, Err, length, take};
 ghost use Rattle.aper_fields.specs.Reading.{Gives, whole_at};
-ghost use Rattle.s1ap_ies.specs.Tables.{rows_of};
+ghost use Rattle.s1ap_messages.specs.Messages.{rows_of};
 ghost use Rattle.s1ap_messages.specs.Reading.{empty, place_of, ie_at, fields_at, ies_at, pdu_at};
 ghost use Rattle.echo_base.specs.declared.refusal.Refusal.{Refusal};
 ghost use Rattle.echo_base.specs.declared.refusal.Bad.TheVariants as bad;
@@ -17,11 +17,12 @@ use crate::build::message;
 use crate::header::read_header;
 use crate::pdu::{Pdu, is_downlink};
 use crate::slots::Slots;
+use crate::tables::{IeRow, IeTable, MessageKind, ies_of};
 use crate::usual::read_usual;
 use crate::value::{FoundValue, find_value};
 use aper_fields::{BitReader, Ranged, close, read_open};
 use echo_base::{Bad, Reason, Refusal};
-use s1ap_ies::{IeRow, IeTable, MessageKind, ies_of, read_criticality, read_zero_bit};
+use s1ap_ies::{read_criticality, read_zero_bit};
 use std::alloc::Global;
 
 /// The place of the row with that id.

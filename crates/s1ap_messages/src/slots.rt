@@ -3,8 +3,8 @@
 ghost use Rattle.std.specs.Prelude.{◌≡◌, ◌<◌, ◌≤◌, ◌&&◌, IfSome, None, is_none, length, slice_set, slice_index_or};
 ghost use Rattle.s1ap_messages.specs.Reading.{empty, is_filled, noted, lacking};
 
+use crate::tables::IeRow;
 use crate::value::FoundValue;
-use s1ap_ies::IeRow;
 use std::marker::Model;
 
 /// The values of a message that were found, each in the place of its row.

@@ -10,6 +10,7 @@ mod long;
 mod orders;
 mod refused;
 mod refused_ies;
+mod tables;
 mod uplink;
 mod usual;
 mod worked;

@@ -2,7 +2,8 @@
 
 ghost use Rattle.std.specs.Prelude.{◌≡◌, IfOk};
 ghost use Rattle.aper_fields.specs.Reading.{Gives, octet_string_at, fixed_octets_at};
-ghost use Rattle.s1ap_messages.specs.Reading.{value_at};
+ghost use Rattle.s1ap_ies.specs.Asn1.{reading};
+ghost use Rattle.s1ap_messages.specs.Values.{value_type};
 
 use crate::lists::{FoundErabs, find_erabs_done, find_erabs_to_setup};
 use crate::pdu::{ErabsDone, ErabsToSetup};
@@ -101,9 +102,9 @@ fn find_key<'a>(r: &mut BitReader<'a>) -> Result<FoundOctets<'a>, Refusal>
 }
 
 /// Finds the value of the IE with that id; the last is an RRC Establishment Cause.
-#[tactic(auto, unfolding(crate::specs::Reading::value_at))]
+#[tactic(auto, unfolding(s1ap_ies::specs::Asn1::reading, crate::specs::Values::value_type))]
 pub fn find_value<'a>(r: &mut BitReader<'a>, id: u16) -> Result<FoundValue<'a>, Refusal>
-    ensures { Gives result r.old r.new (value_at id r.old) }
+    ensures { Gives result r.old r.new (reading (value_type id) r.old) }
 {
     match id {
         names::MME_UE_S1AP_ID => Ok(IeValue::Mme(

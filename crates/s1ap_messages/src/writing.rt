@@ -3,7 +3,7 @@
 ghost use Rattle.std.specs.Prelude.{◌≡◌, ◌+◌, ◌≤◌, OnOk, IfOk, IfSome, option_map, length};
 ghost use Rattle.std.specs.List.{AllByRecursion};
 ghost use Rattle.aper_fields.specs.Run.{then_written};
-ghost use Rattle.s1ap_ies.specs.Tables.{rows_of};
+ghost use Rattle.s1ap_messages.specs.Messages.{rows_of};
 ghost use Rattle.s1ap_messages.specs.Messages.{kind_of, values_of};
 ghost use Rattle.s1ap_messages.specs.Lent.{seen, all_seen};
 ghost use Rattle.s1ap_messages.specs.Run.{value_run, ie_run, fields_run, ies_run, written, IsRightValue, IsRightField, IsRight, count_of};
@@ -12,6 +12,7 @@ use crate::header::{header_of, write_header};
 use crate::lists::{write_erabs_done, write_erabs_to_setup};
 use crate::pdu::Pdu;
 use crate::reading::rows;
+use crate::tables::{IeRow, MessageKind, ies_of};
 use crate::usual::write_usual;
 use crate::value::{IeValue, LentValue};
 use aper_fields::{
@@ -21,11 +22,11 @@ use aper_fields::{
 use device_types::Octets;
 use echo_base::OutOfMemory;
 use s1ap_ies::names::{MOST_ENB_UE_S1AP_ID, MOST_MME_UE_S1AP_ID, RRC_CAUSE_ROOTS};
-use s1ap_ies::{IeRow, MessageKind, PlainValue, begin_item, ies_of};
+use s1ap_ies::{PlainValue, begin_item};
 use std::alloc::Global;
 
 /// Writes the value of an IE.
-#[tactic(auto, unfolding(crate::specs::Run::value_run))]
+#[tactic(auto, unfolding(crate::specs::Run::value_run, s1ap_ies::specs::Asn1::run))]
 fn write_value(w: &mut BitWriter, value: &LentValue) -> Result<(), OutOfMemory>
     requires { IsRightValue (seen value.now) }
     ensures { OnOk result (w.new ≡ then_written w.old (value_run (seen value.now))) }

@@ -2,7 +2,8 @@
 
 ghost use Rattle.std.specs.Prelude.{◌≡◌, ◌≤◌, ◌∷◌, [], IfSome, is_some};
 ghost use Rattle.s1ap_ies.specs.Run.{IsErabDone, IsErabToSetup, IsNas};
-ghost use Rattle.s1ap_messages.specs.Run.{AreSome};
+ghost use Rattle.s1ap_ies.specs.Asn1.{CanBeWritten};
+ghost use Rattle.s1ap_ies.specs.Values as types;
 ghost use Rattle.s1ap_messages.specs.Usual.{nas_octets, done_octets, setup_octets, erabs_octets, ie_octets};
 
 use crate::pdu::{ErabsDone, ErabsToSetup};
@@ -57,10 +58,10 @@ fn done(octets: &[u8]) -> Option<ErabDone>
 }
 
 /// A list of one E-RAB that was set up, where all of the octets are it.
-#[tactic(auto, unfolding(crate::specs::Usual::erabs_octets, crate::specs::Usual::items_octets))]
+#[tactic(auto, unfolding(crate::specs::Usual::erabs_octets, crate::specs::Usual::items_octets, s1ap_ies::specs::Values::erabs_done, s1ap_ies::specs::Values::erab_done, s1ap_ies::specs::Values::erab_id, s1ap_ies::specs::Values::address))]
 pub fn erabs_done(alloc: Global, octets: &[u8]) -> Option<ErabsDone>
     ensures octets { IfSome result (λ list. octets.now ≡ erabs_octets 50 1 done_octets list) }
-    ensures right { IfSome result (λ list. AreSome IsErabDone list) }
+    ensures right { IfSome result (λ list. CanBeWritten types.erabs_done list) }
 {
     let erab = done(item(octets, 50, 1)?)?;
     let list = list_of(alloc, erab)?;
@@ -112,10 +113,10 @@ fn setup(alloc: Global, octets: &[u8]) -> Option<ErabToSetup>
 }
 
 /// A list of one E-RAB that is to be set up, where all of the octets are it.
-#[tactic(auto, unfolding(crate::specs::Usual::erabs_octets, crate::specs::Usual::items_octets))]
+#[tactic(auto, unfolding(crate::specs::Usual::erabs_octets, crate::specs::Usual::items_octets, s1ap_ies::specs::Values::erabs_to_setup, s1ap_ies::specs::Values::erab_to_setup, s1ap_ies::specs::Values::erab_id, s1ap_ies::specs::Values::qos, s1ap_ies::specs::Values::arp, s1ap_ies::specs::Values::address))]
 pub fn erabs_to_setup(alloc: Global, octets: &[u8]) -> Option<ErabsToSetup>
     ensures octets { IfSome result (λ list. octets.now ≡ erabs_octets 52 0 setup_octets list) }
-    ensures right { IfSome result (λ list. AreSome IsErabToSetup list) }
+    ensures right { IfSome result (λ list. CanBeWritten types.erabs_to_setup list) }
 {
     let erab = setup(alloc, item(octets, 52, 0)?)?;
     let list = list_of(alloc, erab)?;

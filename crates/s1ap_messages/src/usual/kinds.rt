@@ -1,17 +1,17 @@
 //! The IEs of each kind of message, read from their octets.
 
 ghost use Rattle.std.specs.Prelude.{◌≡◌, IfSome, length};
-ghost use Rattle.s1ap_ies.specs.Tables.{rows_of};
-ghost use Rattle.s1ap_ies.specs.declared.tables.MessageKind.TheVariants as kind;
+ghost use Rattle.s1ap_messages.specs.Messages.{rows_of};
+ghost use Rattle.s1ap_messages.specs.declared.tables.MessageKind.TheVariants as kind;
 ghost use Rattle.s1ap_messages.specs.Usual.{AreFieldsOf, BeginsAs};
 
 use crate::pdu::Pdu;
+use crate::tables::MessageKind;
 use crate::usual::bearers::{erabs_done, erabs_to_setup};
 use crate::usual::octets::ie;
 use crate::usual::values::{
     caps, cause, cgi, enb, ids, key, last_stmsi, mme, nas, own, rates, rrc, tai, text,
 };
-use s1ap_ies::MessageKind;
 use std::alloc::Global;
 
 /// The IEs of an INITIAL UE MESSAGE.

@@ -213,6 +213,7 @@ fn ue_capability_info_indication(
 }
 
 /// The octets of a message, without the length of its body, where its lists have one item.
+#[tactic(auto, unfolding(s1ap_ies::specs::Values::erabs_to_setup, s1ap_ies::specs::Values::erab_to_setup, s1ap_ies::specs::Values::erabs_done, s1ap_ies::specs::Values::erab_done, s1ap_ies::specs::Values::erab_id, s1ap_ies::specs::Values::qos, s1ap_ies::specs::Values::arp, s1ap_ies::specs::Values::address))]
 #[rattlefmt::skip]
 pub fn unfinished(alloc: Global, p: &Pdu) -> Result<Option<Vec<u8>>, AllocError>
     requires { IsRight p.now }

@@ -2,7 +2,7 @@ use Rattle.std.proofs.lemmas.Result.{on_ok_weaker}
 use Rattle.s1ap_ies.specs.Names.{criticality_number}
 use Rattle.s1ap_messages.specs.Lent.{seen}
 use Rattle.s1ap_messages.specs.Run.{ie_run, value_run, IsRightField}
-use Rattle.s1ap_messages.proofs.Runs.{value_periodic}
+use Rattle.s1ap_messages.proofs.Ies.{value_periodic}
 use Rattle.s1ap_messages.proofs.InPlace.{content_short, item_in_place}
 use Rattle.s1ap_messages.proofs.writing.write_ie.Goals as goal
 

@@ -1,10 +1,11 @@
 //! The information elements of each kind of message, in order (3GPP TS 36.413, 9.1).
+
 ghost use Rattle.std.specs.Prelude.{◌≡◌, ◌≤◌, ◌-◌, ◌++◌, map, length, replicate, eqb};
 ghost use Rattle.std.specs.List.{IsDistinct};
-ghost use Rattle.s1ap_ies.specs.Names.{criticality_number};
-ghost use Rattle.s1ap_ies.specs.Tables.{reject, ignore, optional, no_row, rows_of};
+ghost use Rattle.s1ap_messages.specs.Tables.{reject, ignore, optional, no_row};
+ghost use Rattle.s1ap_messages.specs.Messages.{rows_of};
 
-use crate::names;
+use s1ap_ies::{Criticality, names};
 
 /// A kind of message (3GPP TS 36.413, 9.1).
 #[derive(Clone, Copy, Debug, PartialEq, Eq)]
@@ -29,31 +30,6 @@ pub enum MessageKind {
     UeContextReleaseComplete,
     /// UE CAPABILITY INFO INDICATION (9.1.10).
     UeCapabilityInfoIndication,
-}
-
-/// What a receiver is to do with what it does not understand (3GPP TS 36.413, 10.3).
-#[derive(Clone, Copy, Debug, PartialEq, Eq)]
-pub enum Criticality {
-    /// It rejects the message.
-    Reject,
-    /// It ignores the element.
-    Ignore,
-    /// It ignores the element, and tells the sender.
-    Notify,
-}
-
-impl Criticality {
-    /// Its number: 0 reject, 1 ignore, 2 notify.
-    pub const fn number(self) -> u8
-        ensures number { result ≡ criticality_number self }
-        ensures most { result ≤ 2 }
-    {
-        match self {
-            Criticality::Reject => 0,
-            Criticality::Ignore => 1,
-            Criticality::Notify => 2,
-        }
-    }
 }
 
 /// An information element that a message has.

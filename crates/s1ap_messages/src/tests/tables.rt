@@ -1,5 +1,6 @@
 //! The table of each kind of message.
-use super::*;
+use crate::tables::{MessageKind, ies_of};
+use std::process::Abort;
 use std::test::Fail;
 
 #[test]

@@ -1,0 +1,29 @@
+//! Criticalities (3GPP TS 36.413, 9.3.3).
+
+ghost use Rattle.std.specs.Prelude.{◌≡◌, ◌≤◌};
+ghost use Rattle.s1ap_ies.specs.Names.{criticality_number};
+
+/// What a receiver is to do with what it does not understand (3GPP TS 36.413, 10.3).
+#[derive(Clone, Copy, Debug, PartialEq, Eq)]
+pub enum Criticality {
+    /// It rejects the message.
+    Reject,
+    /// It ignores the element.
+    Ignore,
+    /// It ignores the element, and tells the sender.
+    Notify,
+}
+
+impl Criticality {
+    /// Its number: 0 reject, 1 ignore, 2 notify.
+    pub const fn number(self) -> u8
+        ensures number { result ≡ criticality_number self }
+        ensures most { result ≤ 2 }
+    {
+        match self {
+            Criticality::Reject => 0,
+            Criticality::Ignore => 1,
+            Criticality::Notify => 2,
+        }
+    }
+}
