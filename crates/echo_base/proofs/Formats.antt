@@ -1,5 +1,5 @@
 -- Reading is exact for a format, its errors too; and what follows of what a format says.
-use Rattle.std.proofs.Common.{◌⊎◌, ◌≡◌, Option, Some, None, Result, Ok, Err, refl, sym, ap, ◌∙◌, subst, inl, inr}
+use Rattle.std.proofs.Common.{◌⊎◌, ◌≡◌, Option, Some, None, Ok, Err, refl, sym, ap, ◌∙◌, subst, inl, inr}
 use Rattle.std.proofs.lemmas.Option.{same_Some}
 use Rattle.echo_base.specs.Format.{Format, just, ◌>>=◌, meant, IsExactly, Decides}
 use Rattle.echo_base.specs.Reading as readings
