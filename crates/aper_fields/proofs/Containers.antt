@@ -1,5 +1,5 @@
 -- Open types and containers are read exactly.
-use Rattle.std.proofs.Common.{◌≡◌, ℕ, ◌+◌, ◌*◌, ◌<◌, ◌≤◌, Bool, true, false, cond, ltb, eqb, List, [], ◌++◌, length, take, Result, Ok, Err, refl, sym, ap, ◌∙◌, subst, inl, inr, arith}
+use Rattle.std.proofs.Common.{◌≡◌, ℕ, ◌+◌, ◌*◌, ◌<◌, ◌≤◌, Bool, false, cond, ltb, eqb, List, [], ◌++◌, length, take, Result, Ok, Err, refl, sym, ap, ◌∙◌, subst, inl, inr, arith}
 use Rattle.std.proofs.lemmas.Bool.{cases_Bool, ltb-true, ltb-false, lt-ltb, le-ltb, eqb-true, eqb-false, ne_eqb}
 use Rattle.std.proofs.lemmas.List.{append-nil, take_at, drop_at, take-append-drop, length-append, length-take, nil_from_length, replicate-append-replicate}
 use Rattle.echo_base.specs.declared.reason.Reason.TheVariants as reasons
@@ -10,10 +10,10 @@ use Rattle.aper_fields.specs.Run.{closing}
 use Rattle.aper_fields.specs.Spelling.{Octets, Open, Holds, Contained, IsExact}
 use Rattle.aper_fields.specs.Format.{Format, Stands, IsExactly, bits_in, padding_in, counting, length_octets_in, open_in, EndRefuses, EndsExactly, empty_in, CloseRefuses, ClosesExactly, WholeRefuses, contained_in}
 use Rattle.aper_fields.proofs.Octet.{input, same_input}
-use Rattle.aper_fields.proofs.Steps.{guard_ok}
-use Rattle.aper_fields.proofs.Exact.{bind_ok, padding_exact, then_exact}
+use Rattle.aper_fields.proofs.Exact.{padding_exact, then_exact}
 use Rattle.aper_fields.proofs.BitLaws.{bits-zero}
-use Rattle.aper_fields.proofs.Formats.{bind, bind_err, ok_of, err_of, err_is, ok_err, tested, short, stands_read, bits_exactly, padding_exactly, passing_exactly, then_exactly, counting_exactly}
+use Rattle.echo_base.proofs.Answers.{bind, bind_ok, bind_err, ok_of, err_of, err_is, ok_err, passed_ok, passed_err, refused_ok, refused_err}
+use Rattle.aper_fields.proofs.Formats.{stands_read, bits_exactly, padding_exactly, passing_exactly, then_exactly, counting_exactly}
 use Rattle.aper_fields.proofs.ExactPieces.{length_octets_exactly}
 
 -- ---- open types
@@ -22,7 +22,7 @@ content_exact : (start : Input) (n : ℕ) → IsExact (Octets n) (content_at sta
 unfolding content_at
 content_exact start n = record {
   found = λ i j v e.
-      let g = guard_ok (ltb (length i.left) (8 * n)) (refusal reasons.Truncated start) (input i.offset (take (8 * n) i.left), forward (8 * n) i) (v, j) e in
+      let g = refused_ok (ltb (length i.left) (8 * n)) (refusal reasons.Truncated start) (input i.offset (take (8 * n) i.left), forward (8 * n) i) (v, j) e in
       let long : 8 * n ≤ length i.left = ltb-false _ _ g.0 in
       let len : length (take (8 * n) i.left) ≡ 8 * n = omega (arith, length-take (8 * n) i.left) in
       let is : forward (8 * n) i ≡ j = ap (λ (x : Input × Input). x.1) g.1 in
@@ -38,7 +38,7 @@ content_exact start n = record {
 content_short : (start : Input) (n : ℕ) (i : Input) (e : Refusal) → content_at start n i ≡ Err e → (length i.left < 8 * n) × (e ≡ refusal reasons.Truncated start)
 unfolding content_at
 content_short start n i e h =
-    let t = short (ltb (length i.left) (8 * n)) (refusal reasons.Truncated start) e (input i.offset (take (8 * n) i.left), forward (8 * n) i) h in
+    let t = refused_err (ltb (length i.left) (8 * n)) (refusal reasons.Truncated start) e (input i.offset (take (8 * n) i.left), forward (8 * n) i) h in
     (ltb-true _ _ t.0, t.1)
 
 content_refused : (start : Input) (n : ℕ) (i : Input) → length i.left < 8 * n → content_at start n i ≡ Err (refusal reasons.Truncated start)
@@ -56,16 +56,12 @@ open_exact = open_exactly.spells
 
 -- ---- containers
 
-ended : {A : Type 0} (b : Bool) (e : Refusal) (x y : A) → cond b (Ok x) (Err e) ≡ Ok y → (b ≡ true) × (x ≡ y)
-ended true e x y h = (refl, cc)
-ended false e x y h = absurd cc
-
 -- nothing is left but zeros
 pub end_is : (i j : Input) (u : Unit {0}) → end_at i ≡ Ok (u, j) → i.left ≡ zeros (gap i.offset)
 unfolding end_at
 end_is i j u e =
     let x = bind_ok (padding_at i) (λ p. cond (eqb (length p.1.left) 0) (Ok (tt, i)) (Err (refusal reasons.TrailingBytes p.1))) (u, j) e in
-    let g = ended (eqb (length x.0.1.left) 0) (refusal reasons.TrailingBytes x.0.1) (tt, i) (u, j) x.2 in
+    let g = passed_ok (eqb (length x.0.1.left) 0) (refusal reasons.TrailingBytes x.0.1) (tt, i) (u, j) x.2 in
     let p = padding_exact.found i x.0.1 tt x.1 in
     let none : x.0.1.left ≡ [] = nil_from_length x.0.1.left (eqb-true _ _ g.0) in
     p.2 ∙ ap (λ (l : List Bool). p.0 ++ l) none ∙ append-nil p.0 ∙ p.1
@@ -164,7 +160,7 @@ end_wrong i e h =
     elim (bind_err (padding_at i) (λ p. cond (eqb (length p.1.left) 0) (Ok (tt, i)) (Err (refusal reasons.TrailingBytes p.1))) e h) [
       | inl first ↦ inl (padding_exactly.wrong i e first)
       | inr x ↦
-          let t = tested (eqb (length x.0.1.left) 0) e (refusal reasons.TrailingBytes x.0.1) (tt, i) x.2 in
+          let t = passed_err (eqb (length x.0.1.left) 0) (refusal reasons.TrailingBytes x.0.1) e (tt, i) x.2 in
           inr (x.0.0, x.0.1, padding_exactly.spells.found i x.0.1 x.0.0 x.1, omega (arith, eqb-false _ _ t.0), t.1)
     ]
 

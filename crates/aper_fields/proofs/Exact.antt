@@ -1,21 +1,19 @@
 -- Reading is exact: piece by piece, and one behind another.
-use Rattle.std.proofs.Common.{MatchBool, ◌≡◌, ℕ, ◌+◌, ◌/◌, ◌≤◌, Bool, true, false, cond, ltb, eqb, List, [], ◌++◌, length, take, Result, Ok, Err, refl, sym, ap, ◌∙◌, subst, append_assoc, arith}
+use Rattle.std.proofs.Common.{MatchBool, ◌≡◌, ℕ, ◌+◌, ◌/◌, ◌≤◌, Bool, true, false, cond, ltb, eqb, List, [], ◌++◌, length, take, Ok, Err, refl, sym, ap, ◌∙◌, subst, append_assoc, arith}
 use Rattle.std.proofs.Math.Nat.{mod-eq_of_lt}
 use Rattle.std.proofs.lemmas.Bool.{ltb-false, le-ltb, eqb-true, eqb-false}
 use Rattle.std.proofs.lemmas.Nat.{pow_pos}
 use Rattle.std.proofs.lemmas.List.{append-nil, take_at, drop_at, take-append-drop, length-append, length-take}
 use Rattle.echo_base.specs.declared.reason.Reason.TheVariants as reasons
 use Rattle.echo_base.specs.declared.refusal.Refusal.{Refusal}
+pub use Rattle.echo_base.proofs.Answers.{bind_ok}
+use Rattle.echo_base.proofs.Answers.{refused_ok}
 use Rattle.aper_fields.specs.Bits.{bits, number_of, gap}
 use Rattle.aper_fields.specs.Reading.{Input, Read, ◌>>=◌, refuse, forward, bits_at, padding_at}
 use Rattle.aper_fields.specs.Spelling.{Then, Just, Bits, Padding, IsExact}
 use Rattle.aper_fields.proofs.BitLaws.{length-bits, number_of-bits, bits-number_of, bits-zero}
 use Rattle.aper_fields.proofs.Octet.{input}
-use Rattle.aper_fields.proofs.Steps.{guard_ok, number_of-take-lt}
-
-pub bind_ok : {A B : Type 0} (r : Result A Refusal) (f : A → Result B Refusal) (y : B) → (r >>= f) ≡ Ok y → (x : A) × (r ≡ Ok x) × (f x ≡ Ok y)
-bind_ok (Ok x) f y e = (x, refl, e)
-bind_ok (Err d) f y e = absurd cc
+use Rattle.aper_fields.proofs.Steps.{number_of-take-lt}
 
 -- ---- a run of bits
 
@@ -23,7 +21,7 @@ pub bits_exact : (n : ℕ) → IsExact (Bits n) (bits_at n)
 unfolding bits_at
 bits_exact n = record {
   found = λ i j v e.
-      let g = guard_ok (ltb (length i.left) n) (record { reason = reasons.Truncated; place = i.offset / 8 }) (number_of (take n i.left), forward n i) (v, j) e in
+      let g = refused_ok (ltb (length i.left) n) (record { reason = reasons.Truncated; place = i.offset / 8 }) (number_of (take n i.left), forward n i) (v, j) e in
       let long : n ≤ length i.left = ltb-false _ _ g.0 in
       let len : length (take n i.left) ≡ n = omega (arith, length-take n i.left) in
       let is : forward n i ≡ j = ap (λ (x : ℕ × Input). x.1) g.1 in

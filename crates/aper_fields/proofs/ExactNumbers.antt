@@ -10,11 +10,12 @@ use Rattle.aper_fields.specs.Reading.{Input, Read, refusal, forward, bits_at, pa
 use Rattle.aper_fields.specs.Run.{◌▸◌, Run, padding_run, bits_run, counted_run, number_run, octet_count}
 use Rattle.aper_fields.specs.Spelling.{Piece, Then, Padding, Spelled, Number, IsExact}
 use Rattle.aper_fields.specs.Format.{IsExactly, bits_in, padding_in, just, within_in, minimal_in, counted_in, number_pieces_in, number_in}
-use Rattle.aper_fields.proofs.Steps.{guard_ok, number_of-more, number_of-take-lt}
+use Rattle.aper_fields.proofs.Steps.{number_of-more, number_of-take-lt}
 use Rattle.aper_fields.proofs.Widths.{width_covers}
 use Rattle.aper_fields.proofs.Counts.{octet_count_holds, octet_count_some, octet_count_few, octet_count_mono, width_octets_few, first_octet_test}
+use Rattle.echo_base.proofs.Answers.{bind, ok_of, refused_ok, turned}
 use Rattle.aper_fields.proofs.Exact.{bits_exact}
-use Rattle.aper_fields.proofs.Formats.{bind, ok_of, bits_exactly, padding_exactly, then_exactly, then_where_exactly, just_exactly, either_exactly, passing_exactly, mapped_exactly, spelled_exactly, along_exactly, turned, checked_is, leb-not_ltb}
+use Rattle.aper_fields.proofs.Formats.{bits_exactly, padding_exactly, then_exactly, then_where_exactly, just_exactly, either_exactly, passing_exactly, mapped_exactly, spelled_exactly, along_exactly, checked_is, leb-not_ltb}
 
 -- ---- behind padding
 
@@ -56,7 +57,7 @@ unfolding bits_at
 first_octet c i v j some e =
     let m = 8 * (c - 1) in
     let bs = i.left in
-    let g = guard_ok (ltb (length bs) (8 * c)) (refusal reasons.Truncated i) (number_of (take (8 * c) bs), forward (8 * c) i) (v, j) e in
+    let g = refused_ok (ltb (length bs) (8 * c)) (refusal reasons.Truncated i) (number_of (take (8 * c) bs), forward (8 * c) i) (v, j) e in
     let long : 8 * c ≤ length bs = ltb-false _ _ g.0 in
     let value : number_of (take (8 * c) bs) ≡ v = ap (λ (x : ℕ × Input). x.0) g.1 in
     let parts : 8 * c ≡ 8 + m = omega arith in

@@ -13,8 +13,9 @@ use Rattle.aper_fields.specs.Spelling.{Piece, Then, Bits, Padding, Spelled, Leng
 use Rattle.aper_fields.specs.Format.{Format, IsExactly, bits_in, padding_in, refuse_here, passing, counting, number_in, length_pieces_in, length_octets_in, length_in, octets_in, fixed_octets_in, octet_string_in, fixed_bits_in, root_in, extended_in, enumerated_pieces_in, enumerated_in}
 use Rattle.aper_fields.proofs.Packed.{length-octets_of, bits_of-octets_of}
 use Rattle.aper_fields.proofs.BitLaws.{length-bits, length-bits_of, number_of-bits}
-use Rattle.aper_fields.proofs.Steps.{guard_ok, number_of-take-lt}
-use Rattle.aper_fields.proofs.Formats.{bind, bits_exactly, padding_exactly, then_exactly, either_exactly, refuse_exactly, short, passing_exactly, mapped_exactly, spelled_exactly, along_exactly, counting_exactly, checked_is, leb-not_ltb}
+use Rattle.aper_fields.proofs.Steps.{number_of-take-lt}
+use Rattle.echo_base.proofs.Answers.{bind, refused_ok, refused_err}
+use Rattle.aper_fields.proofs.Formats.{bits_exactly, padding_exactly, then_exactly, either_exactly, refuse_exactly, passing_exactly, mapped_exactly, spelled_exactly, along_exactly, counting_exactly, checked_is, leb-not_ltb}
 use Rattle.aper_fields.proofs.ExactNumbers.{padded_there, padded_back, number_exactly}
 
 -- ---- lengths
@@ -124,7 +125,7 @@ octets_exact : (start : Input) (n : ℕ) → IsExact (OctetsOf n) (octets_at sta
 unfolding octets_at
 octets_exact start n = record {
   found = λ i j v e.
-      let g = guard_ok (ltb (length i.left) (8 * n)) (refusal reasons.Truncated start) (octets_of n i.left, forward (8 * n) i) (v, j) e in
+      let g = refused_ok (ltb (length i.left) (8 * n)) (refusal reasons.Truncated start) (octets_of n i.left, forward (8 * n) i) (v, j) e in
       let long : 8 * n ≤ length i.left = ltb-false _ _ g.0 in
       let len : length (take (8 * n) i.left) ≡ 8 * n = omega (arith, length-take (8 * n) i.left) in
       let is : forward (8 * n) i ≡ j = ap (λ (x : List ℕ × Input). x.1) g.1 in
@@ -141,7 +142,7 @@ octets_exact start n = record {
 octets_short : (start : Input) (n : ℕ) (i : Input) (e : Refusal) → octets_at start n i ≡ Err e → (length i.left < 8 * n) × (e ≡ refusal reasons.Truncated start)
 unfolding octets_at
 octets_short start n i e h =
-    let t = short (ltb (length i.left) (8 * n)) (refusal reasons.Truncated start) e (octets_of n i.left, forward (8 * n) i) h in
+    let t = refused_err (ltb (length i.left) (8 * n)) (refusal reasons.Truncated start) e (octets_of n i.left, forward (8 * n) i) h in
     (ltb-true _ _ t.0, t.1)
 
 octets_refused : (start : Input) (n : ℕ) (i : Input) → length i.left < 8 * n → octets_at start n i ≡ Err (refusal reasons.Truncated start)

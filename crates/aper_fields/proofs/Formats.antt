@@ -1,38 +1,20 @@
 -- Reading is exact for a format, its refusals too.
-use Rattle.std.proofs.Common.{◌⊎◌, ◌≡◌, ℕ, ◌+◌, ◌*◌, ◌^◌, ◌<◌, Bool, true, false, not, cond, ltb, leb, eqb, List, ◌++◌, length, Result, Ok, Err, IsOkAnd, refl, sym, ap, ◌∙◌, subst, inl, inr}
+use Rattle.std.proofs.Common.{◌≡◌, ℕ, ◌+◌, ◌*◌, ◌^◌, ◌<◌, Bool, true, false, not, cond, ltb, leb, eqb, List, ◌++◌, length, Result, Ok, Err, IsOkAnd, refl, sym, ap, ◌∙◌, subst, inl, inr}
 use Rattle.std.proofs.lemmas.Bool.{cases_Bool, cases_lt, ltb-true, lt-ltb, le-ltb, lt-leb, le-leb, eqb-false, ne_eqb}
 use Rattle.echo_base.specs.declared.reason.Reason.{Reason}
 use Rattle.echo_base.specs.declared.reason.Reason.TheVariants as reasons
 use Rattle.echo_base.specs.declared.refusal.Refusal.{Refusal}
+pub use Rattle.echo_base.proofs.Answers.{bind, bind_err, ok_of, err_of, ok_err, err_is, turned}
+use Rattle.echo_base.proofs.Answers.{ok_is, passed_ok, passed_err}
 use Rattle.std.proofs.Math.Nat.{mod-eq_of_lt}
 use Rattle.std.proofs.lemmas.Nat.{pow_pos}
 use Rattle.aper_fields.specs.Bits.{bits, number_of, zeros, gap}
 use Rattle.aper_fields.proofs.BitLaws.{length-bits, number_of-bits, bits-number_of, number_of-lt, bits-zero}
-use Rattle.aper_fields.specs.Reading as reading
-use Rattle.aper_fields.specs.Reading.{Input, Read, refusal, forward, bits_at, padding_at, Gives, GivesBy}
+use Rattle.aper_fields.specs.Reading.{Input, Read, refusal, bits_at, padding_at, Gives, GivesBy}
 use Rattle.aper_fields.specs.Spelling.{Piece, IsExact}
 use Rattle.aper_fields.specs.Format.{Format, Stands, bits_in, just, refuse_here, ◌>>=◌, passing, mapped, counting, spelled_as, either, padding_in, Reads, ReadsBy, ReadsExactly, ReadsExactlyBy, IsExactly, HasOneReading}
 use Rattle.aper_fields.proofs.Octet.{input, same_input}
 use Rattle.aper_fields.proofs.Exact.{bind_ok, bits_exact, padding_exact, then_exact, then_where_exact, done_exact, map_exact, same_exact}
-
-abbrev pub bind : {A B : Type 0} → Result A Refusal → (A → Result B Refusal) → Result B Refusal
-bind r f = reading.◌>>=◌ r f
-
-abbrev pub err_of : {A : Type 0} → Refusal → Result A Refusal
-err_of e = Err e
-
-abbrev pub ok_of : {A : Type 0} → A → Result A Refusal
-ok_of a = Ok a
-
-pub ok_err : {A : Type 0} (a : A) (e : Refusal) → ok_of a ≡ Err e → ⊥
-ok_err a e h = cc
-
-pub err_is : {A : Type 0} (d e : Refusal) → err_of {A = A} d ≡ Err e → d ≡ e
-err_is d e h = cc
-
-pub bind_err : {A B : Type 0} (r : Result A Refusal) (f : A → Result B Refusal) (e : Refusal) → bind r f ≡ Err e → (r ≡ Err e) ⊎ ((x : A) × (r ≡ Ok x) × (f x ≡ Err e))
-bind_err (Ok x) f e h = inr (x, refl, h)
-bind_err (Err d) f e h = inl (ap err_of (err_is d e h))
 
 pub bits_exactly : (n : ℕ) → IsExactly (bits_in n) (bits_at n)
 unfolding bits_at
@@ -88,24 +70,12 @@ pub either_exactly : {A : Type 0} (b : Bool) (F G : Format A) (f g : Input → R
 either_exactly true F G f g p q = record { spells = p.spells; wrong = p.wrong; refused = p.refused }
 either_exactly false F G f g p q = record { spells = q.spells; wrong = q.wrong; refused = q.refused }
 
-pub tested : {A : Type 0} (b : Bool) (e d : Refusal) (x : A) → cond b (ok_of x) (Err d) ≡ Err e → (b ≡ false) × (e ≡ d)
-tested true e d x h = absurd (ok_err _ e h)
-tested false e d x h = (refl, sym (err_is d e h))
-
-pub short : {A : Type 0} (b : Bool) (d e : Refusal) (x : A) → cond b (Err d) (ok_of x) ≡ Err e → (b ≡ true) × (e ≡ d)
-short true d e x h = (refl, sym (err_is d e h))
-short false d e x h = absurd (ok_err _ e h)
-
-passed : {A : Type 0} (b : Bool) (d : Refusal) (x y : A) → cond b (ok_of x) (Err d) ≡ Ok y → (b ≡ true) × (x ≡ y)
-passed true d x y h = (refl, cc)
-passed false d x y h = absurd (ok_err _ d (sym h))
-
 pub passing_exactly : {A : Type 0} (test : A → Bool) (reason : Reason) (F : Format A) (f : Input → Read A) → IsExactly F f → IsExactly (passing test reason F) (λ i. bind (f i) (λ x. cond (test x.0) (Ok x) (Err (refusal reason i))))
 passing_exactly test reason F f p = record {
   spells = record {
     found = λ i j v h.
         let x = bind_ok (f i) (λ x. cond (test x.0) (Ok x) (Err (refusal reason i))) (v, j) h in
-        let t = passed (test x.0.0) (refusal reason i) x.0 (v, j) x.2 in
+        let t = passed_ok (test x.0.0) (refusal reason i) x.0 (v, j) x.2 in
         let r = p.spells.found i j v (x.1 ∙ ap ok_of t.1) in
         (r.0, (ap test (sym (ap (λ (y : _ × Input). y.0) t.1)) ∙ t.0, r.1), r.2, r.3);
     only = λ at v run rest h. rw (p.spells.only at v run rest h.1, h.0) refl;
@@ -113,7 +83,7 @@ passing_exactly test reason F f p = record {
   wrong = λ i e h.
       elim (bind_err (f i) (λ x. cond (test x.0) (Ok x) (Err (refusal reason i))) e h) [
         | inl first ↦ inl (p.wrong i e first)
-        | inr x ↦ let t = tested (test x.0.0) e (refusal reason i) x.0 x.2 in inr (x.0.0, x.0.1, p.spells.found i x.0.1 x.0.0 x.1, t.0, t.1)
+        | inr x ↦ let t = passed_err (test x.0.0) (refusal reason i) e x.0 x.2 in inr (x.0.0, x.0.1, p.spells.found i x.0.1 x.0.0 x.1, t.0, t.1)
       ];
   refused = λ i e h.
       elim h [
@@ -143,10 +113,6 @@ along_exactly F f g same p = record {
   wrong = λ i e h. p.wrong i e (sym (same i) ∙ h);
   refused = λ i e h. same i ∙ p.refused i e h;
 }
-
-pub turned : {A B : Type 0} (b : Bool) (x : A) (e : Refusal) (k : A → Result B Refusal) → cond b (Err e) (k x) ≡ bind (cond (not b) (ok_of x) (Err e)) k
-turned true x e k = refl
-turned false x e k = refl
 
 -- a reading that goes on unless a value fails a test
 pub checked_is : {A B : Type 0} (good bad : A → Bool) → ((a : A) → good a ≡ not (bad a)) → (r : Read A) (k : A × Input → Result B Refusal) (e : Refusal) → bind r (λ x. cond (bad x.0) (Err e) (k x)) ≡ bind (bind r (λ x. cond (good x.0) (Ok x) (Err e))) k
@@ -189,7 +155,7 @@ padding_exactly = record {
       elim (bind_err (bits_at (gap i.offset) i) (λ p. cond (eqb p.0 0) (Ok (tt, p.1)) (Err (refusal reasons.NonZeroPadding i))) e h) [
         | inl first ↦ inl ((bits_exactly (gap i.offset)).wrong i e first)
         | inr x ↦
-            let t = tested (eqb x.0.0 0) e (refusal reasons.NonZeroPadding i) (tt, x.0.1) x.2 in
+            let t = passed_err (eqb x.0.0 0) (refusal reasons.NonZeroPadding i) e (tt, x.0.1) x.2 in
             let r = (bits_exactly (gap i.offset)).spells.found i x.0.1 x.0.0 x.1 in
             inr (r.0, x.0.1.left, r.2, ap length r.1.1 ∙ length-bits (gap i.offset) x.0.0, (λ z. eqb-false _ _ t.0 (zero_value (gap i.offset) x.0.0 r.1.0 (sym r.1.1 ∙ z))), t.1)
       ];
@@ -206,9 +172,6 @@ padding_exactly = record {
       ];
 }
 
-ok_pair : {A : Type 0} (x y : A) → ok_of x ≡ Ok y → x ≡ y
-ok_pair x y e = cc
-
 -- ---- what a reader of the code says
 
 gives_reads : {A : Type 0} (F : Format A) (f : Input → Read A) (r : Result A Refusal) (old new : Input) → IsExactly F f → Gives r old new (f old) → Reads F r old new
@@ -222,7 +185,7 @@ gives_reads_by view F f (Err e) old new p g = (p.wrong old e g.0, g.1)
 -- what stands here is what was given
 gives_standing : {X A : Type 0} (view : X → A) (F : Format A) (f : Input → Read A) (r : Result X Refusal) (old new : Input) → IsExactly F f → GivesBy view r old new (f old) → (v : A) (j : Input) → Stands F old v j → IsOkAnd r (λ x. view x ≡ v) × (new ≡ j)
 gives_standing view F f (Ok x) old new p g v j h =
-    let e : (view x, new) ≡ (v, j) = ok_pair _ _ (sym g ∙ stands_read F f p.spells old v j h) in
+    let e : (view x, new) ≡ (v, j) = ok_is _ _ (sym g ∙ stands_read F f p.spells old v j h) in
     (ap (λ (z : _ × Input). z.0) e, ap (λ (z : _ × Input). z.1) e)
 gives_standing view F f (Err d) old new p g v j h = absurd (ok_err _ _ (sym (stands_read F f p.spells old v j h) ∙ g.0))
 
@@ -250,7 +213,7 @@ gives_exactly F f r old new p g =
 -- what two readers gave is the same
 pub one_reading_lem : {A : Type 0} (F : Format A) (f : Input → Read A) → IsExactly F f → HasOneReading F
 one_reading_lem F f p (Ok v) (Ok w) old new at x y =
-    let e : (v, new) ≡ (w, at) = ok_pair _ _ (sym (stands_read F f p.spells old v new x) ∙ stands_read F f p.spells old w at y) in
+    let e : (v, new) ≡ (w, at) = ok_is _ _ (sym (stands_read F f p.spells old v new x) ∙ stands_read F f p.spells old w at y) in
     (ap (λ (z : _ × Input). ok_of z.0) e, ap (λ (z : _ × Input). z.1) e)
 one_reading_lem F f p (Ok v) (Err d) old new at x y = absurd (ok_err _ _ (sym (stands_read F f p.spells old v new x) ∙ p.refused old d y.0))
 one_reading_lem F f p (Err e) (Ok w) old new at x y = absurd (ok_err _ _ (sym (stands_read F f p.spells old w at y) ∙ p.refused old e x.0))

@@ -6,9 +6,8 @@ use Rattle.std.proofs.lemmas.Nat.{pow-add, shl_whole, or_shifted}
 use Rattle.std.specs.Prelude.{bit_or}
 use Rattle.std.proofs.lemmas.List.{length-append, length-take, length-drop, drop-drop}
 use Rattle.echo_base.specs.declared.reason.Reason.TheVariants.{Truncated}
-use Rattle.echo_base.specs.declared.refusal.Refusal.{Refusal}
-use Rattle.aper_fields.specs.Bits.{number_of}
-use Rattle.aper_fields.specs.Bits.{gap}
+use Rattle.echo_base.proofs.Answers.{refused_ok}
+use Rattle.aper_fields.specs.Bits.{number_of, gap}
 use Rattle.aper_fields.specs.Reading.{Input, Read, forward, bits_at, padding_at}
 use Rattle.aper_fields.proofs.BitLaws.{number_of-lt}
 use Rattle.aper_fields.proofs.Octet.{same_input}
@@ -47,14 +46,9 @@ pub number_of-none : 0 ≡ number_of []
 unfolding number_of
 number_of-none = refl
 
--- a test that did not fail
-pub guard_ok : {A : Type 0} (b : Bool) (d : Refusal) (x y : A) → cond b (Err d) (Ok x) ≡ Ok y → (b ≡ false) × (x ≡ y)
-guard_ok true d x y e = absurd cc
-guard_ok false d x y e = (refl, cc)
-
 pub bits_at-offset : (n : ℕ) (i : Input) (v : ℕ) (j : Input) → bits_at n i ≡ Ok (v, j) → j.offset ≡ i.offset + n
 unfolding bits_at
-bits_at-offset n i v j e = ap (λ (x : ℕ × Input). x.1.offset) (sym (guard_ok (ltb (length i.left) n) (record { reason = Truncated; place = i.offset / 8 }) (number_of (take n i.left), forward n i) (v, j) e).1)
+bits_at-offset n i v j e = ap (λ (x : ℕ × Input). x.1.offset) (sym (refused_ok (ltb (length i.left) n) (record { reason = Truncated; place = i.offset / 8 }) (number_of (take n i.left), forward n i) (v, j) e).1)
 
 abbrev found : ℕ → Input → Read ℕ
 found v j = Ok (v, j)

@@ -1,9 +1,12 @@
 -- Reading from left to right: a value and what is left, or the first piece that is wrong, with its reason and its place.
-use Rattle.std.specs.Prelude.{◌≡◌, ℕ, ◌+◌, ◌-◌, ◌*◌, ◌/◌, ◌==◌, nat_lt, ◌&&◌, Bool, true, false, List, length, take, drop, Result, Ok, Err, if◌then◌else◌}
+use Rattle.std.specs.Prelude.{ℕ, ◌+◌, ◌-◌, ◌*◌, ◌/◌, ◌==◌, nat_lt, ◌&&◌, Bool, true, false, List, length, take, drop, Result, Ok, Err, if◌then◌else◌}
 use Rattle.std.specs.Int.{w64, leading_zeros, div_ceil}
 use Rattle.echo_base.specs.declared.reason.Reason.{Reason}
 use Rattle.echo_base.specs.declared.reason.Reason.TheVariants as reasons
 use Rattle.echo_base.specs.declared.refusal.Refusal.{Refusal}
+pub use Rattle.echo_base.specs.Answer.{◌>>=◌}
+use Rattle.echo_base.specs.Reading as readings
+pub use Rattle.echo_base.specs.Reading.{Gives, GivesBy}
 use Rattle.aper_fields.specs.declared.enumerated.EnumValue.{EnumValue}
 use Rattle.aper_fields.specs.Bits.{number_of, octets_of, gap}
 
@@ -15,9 +18,9 @@ pub record Input : Type 0 where
 abbrev pub forward : ℕ → Input → Input
 forward n i = record { offset = i.offset + n; left = drop n i.left }
 
--- a value and what is left behind it, or why there is none
+-- a value and what is left behind it, or the refusal of the first piece that is wrong
 abbrev pub Read : Type 0 → Type 0
-Read A = Result (A × Input) Refusal
+Read A = readings.Read Input Refusal A
 
 -- the refusal of what is due at a place: the octet of its first bit
 abbrev pub refusal : Reason → Input → Refusal
@@ -25,21 +28,6 @@ refusal reason i = record { reason = reason; place = i.offset / 8 }
 
 abbrev pub refuse : {A : Type 0} → Reason → Input → Result A Refusal
 refuse reason i = Err (refusal reason i)
-
-infixl 10 ◌>>=◌
-abbrev pub ◌>>=◌ : {A B : Type 0} → Result A Refusal → (A → Result B Refusal) → Result B Refusal
-(Ok x) >>= f = f x
-(Err e) >>= f = Err e
-
--- What a reader returned is what reading gives. It stands behind what it read; after a refusal it has not moved.
-abbrev pub Gives : {A : Type 0} → Result A Refusal → Input → Input → Read A → Type 0
-Gives (Ok x) old new read = read ≡ Ok (x, new)
-Gives (Err e) old new read = (read ≡ Err e) × (new ≡ old)
-
--- the same where view says what is seen of the value
-abbrev pub GivesBy : {X A : Type 0} → (X → A) → Result X Refusal → Input → Input → Read A → Type 0
-GivesBy view (Ok x) old new read = read ≡ Ok (view x, new)
-GivesBy view (Err e) old new read = (read ≡ Err e) × (new ≡ old)
 
 -- a run of n bits as a number
 unfoldable pub bits_at : ℕ → Input → Read ℕ

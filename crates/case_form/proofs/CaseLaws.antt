@@ -15,7 +15,7 @@ use Rattle.case_form.specs.declared.section.Section.TheVariants.{Subscribers, Tr
 use Rattle.case_form.specs.Case.{Placed, placed, placed_behind, is_section, is_counted, counted, refusals, first_bad, MatchFirstBad, IsNumbered, HasCounted}
 use Rattle.case_form.specs.Lines.{lines_of}
 use Rattle.case_form.specs.Section.{is_passed_over, is_heading}
-use Rattle.case_form.specs.State.{Seen, unread, next, reason_in, counts_in, after, TakesLine}
+use Rattle.case_form.specs.State.{Seen, unread, next, reason_behind, counts_behind, after, TakesLine}
 use Rattle.case_form.proofs.FormLaws.{IsProper, nothing_is_proper, proper_more}
 use Rattle.case_form.proofs.LineLaws.{bstr_lines}
 use Rattle.case_form.proofs.PlaceLaws.{place, placed-append, first_refusal}
@@ -32,7 +32,7 @@ pub read_to_start : (octets : List ℕ) (left : List (List ℕ)) (seen : Seen) �
 unfolding lines_of
 read_to_start octets left seen are is = rw is (record { before = []; split = sym (are ∙ bstr_lines octets); seen_is = nothing_seen; proper = nothing_is_proper })
 
-pub read_to_more : (octets line : List ℕ) (left rest : List (List ℕ)) (seen new : Seen) → IsReadTo octets left seen → left ≡ line ∷ rest → reason_in (next seen) line ≡ None → new ≡ after (next seen) line → IsReadTo octets rest new
+pub read_to_more : (octets line : List ℕ) (left rest : List (List ℕ)) (seen new : Seen) → IsReadTo octets left seen → left ≡ line ∷ rest → reason_behind (next seen) line ≡ None → new ≡ after (next seen) line → IsReadTo octets rest new
 read_to_more octets line left rest seen new r are none is = rw is (record {
   before = r.before ++ line ∷ [];
   split = r.split ∙ ap (λ (l : List (List ℕ)). r.before ++ l) are ∙ sym (append_assoc r.before (line ∷ []) rest);
@@ -41,7 +41,7 @@ read_to_more octets line left rest seen new r are none is = rw is (record {
 })
 
 -- the line that is refused is the first bad one
-pub refused_at : (octets line : List ℕ) (left rest : List (List ℕ)) (seen : Seen) (reason : Reason) (number : ℕ) → IsReadTo octets left seen → left ≡ line ∷ rest → reason_in (next seen) line ≡ Some reason → number ≡ (next seen).number → first_bad octets ≡ Some (number, reason)
+pub refused_at : (octets line : List ℕ) (left rest : List (List ℕ)) (seen : Seen) (reason : Reason) (number : ℕ) → IsReadTo octets left seen → left ≡ line ∷ rest → reason_behind (next seen) line ≡ Some reason → number ≡ (next seen).number → first_bad octets ≡ Some (number, reason)
 unfolding first_bad
 refused_at octets line left rest seen reason number r are bad is =
     let split : lines_of octets ≡ r.before ++ line ∷ rest = r.split ∙ ap (λ (l : List (List ℕ)). r.before ++ l) are in
@@ -50,11 +50,11 @@ refused_at octets line left rest seen reason number r are bad is =
     ∙ ap (λ (n : ℕ). Some (n, reason)) (sym (is ∙ same_number r.before line seen r.seen_is))
 
 -- what a line that was not taken says of the case
-pub refused_by : (octets line : List ℕ) (left rest : List (List ℕ)) (seen : Seen) (bad : CaseBad) (P : Type 0) → IsReadTo octets left seen → left ≡ line ∷ rest → TakesLine (Err bad) (reason_in (next seen) line) (counts_in (next seen).section line) (next seen).number P → MatchFirstBad (Err bad) (first_bad octets)
+pub refused_by : (octets line : List ℕ) (left rest : List (List ℕ)) (seen : Seen) (bad : CaseBad) (P : Type 0) → IsReadTo octets left seen → left ≡ line ∷ rest → TakesLine (Err bad) (reason_behind (next seen) line) (counts_behind (next seen).section line) (next seen).number P → MatchFirstBad (Err bad) (first_bad octets)
 refused_by octets line left rest seen (answer.Refused reason number) P r are takes = refused_at octets line left rest seen reason number r are takes.0 takes.1
 refused_by octets line left rest seen answer.OutOfMemory P r are takes = tt
 
-pub numbered_by : (line : List ℕ) (seen : Seen) (bad : CaseBad) (P : Type 0) → TakesLine (Err bad) (reason_in (next seen) line) (counts_in (next seen).section line) (next seen).number P → IsNumbered bad
+pub numbered_by : (line : List ℕ) (seen : Seen) (bad : CaseBad) (P : Type 0) → TakesLine (Err bad) (reason_behind (next seen) line) (counts_behind (next seen).section line) (next seen).number P → IsNumbered bad
 numbered_by line seen (answer.Refused reason number) P takes = omega (arith, takes.1)
 numbered_by line seen answer.OutOfMemory P takes = tt
 
@@ -83,9 +83,9 @@ abbrev pub no_case : CaseBad → Result Case CaseBad
 no_case bad = Err bad
 
 -- a line that wanted memory is counted
-pub counted_by : (octets line : List ℕ) (left rest : List (List ℕ)) (seen : Seen) (bad : CaseBad) (P : Type 0) → IsReadTo octets left seen → left ≡ line ∷ rest → TakesLine (Err bad) (reason_in (next seen) line) (counts_in (next seen).section line) (next seen).number P
+pub counted_by : (octets line : List ℕ) (left rest : List (List ℕ)) (seen : Seen) (bad : CaseBad) (P : Type 0) → IsReadTo octets left seen → left ≡ line ∷ rest → TakesLine (Err bad) (reason_behind (next seen) line) (counts_behind (next seen).section line) (next seen).number P
     → no_case bad ≡ Err answer.OutOfMemory → HasCounted octets
-unfolding counts_in
+unfolding counts_behind
 counted_by octets line left rest seen (answer.Refused reason number) P r are takes e = absurd cc
 counted_by octets line left rest seen answer.OutOfMemory P r are takes e =
     let own = counted_from (is_passed_over line) (is_heading line) seen.section takes in

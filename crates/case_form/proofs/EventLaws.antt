@@ -2,7 +2,6 @@
 use Rattle.std.proofs.Common.{◌≡◌, ℕ, ◌^◌, ◌<◌, List, [], ◌∷◌, ◌++◌, Some, refl, sym, ap, ◌∙◌, subst, arith}
 use Rattle.std.specs.Prelude.{codes}
 use Rattle.std.specs.Fmt.{decimal}
-use Rattle.std.proofs.lemmas.Option.{same_Some}
 use Rattle.device_types.specs.declared.event.Lane.{Lane}
 use Rattle.device_types.specs.declared.event.Lane.TheVariants as lane
 use Rattle.device_types.specs.declared.event.Event.{Event}
@@ -10,11 +9,14 @@ use Rattle.device_types.specs.declared.event.Event.TheVariants as event
 use Rattle.device_types.specs.declared.subscriber.DeviceId.{DeviceId}
 use Rattle.case_form.specs.declared.event.Verb.{Verb}
 use Rattle.case_form.specs.declared.event.Verb.TheVariants.{Send, Take, Answer, Read, Write, Stop, Reply, Push, Effect, Settle}
-use Rattle.case_form.specs.Event.{verb_of, lane_of, call_lane, verb_in, lane_in, call_lane_in, device_in, replica_in, count_in, message_in, effect_in, event_in, event_of, lane_word, event_words}
+use Rattle.case_form.specs.Event.{verb_of, lane_of, call_lane, verb_at, lane_at, call_lane_at, device_at, replica_at, count_at, message_at, effect_at, event_at, event_of, lane_word, event_words}
 use Rattle.device_types.specs.Event.{IsCallLane, IsInForm}
 use Rattle.device_types.specs.Numbers.{IsWithin}
-use Rattle.case_form.specs.Words.{Reader, ◌>>=◌, done, number_in, words_of}
-use Rattle.case_form.proofs.ExactLaws.{IsExact, and_then_some, done_some, Next, Ends, next_exact, done_exact, value_exact, number_exact, in_table_found, whole_found, whole_only}
+use Rattle.echo_base.specs.Reading.{◌>>=◌, done, known}
+use Rattle.echo_base.proofs.Answers.{ok_parts, bind_ok}
+use Rattle.echo_base.proofs.Formats.{known_ok}
+use Rattle.case_form.specs.Words.{Reader, number_at, words_of}
+use Rattle.case_form.proofs.ExactLaws.{IsExact, Next, Ends, next_exact, done_exact, value_exact, number_exact, in_table_found, whole_found, whole_only}
 
 abbrev Words : Type 0
 Words = List (List ℕ)
@@ -27,13 +29,13 @@ told S T f p to from = record { found = λ words rest v e. let x = p.found words
 abbrev Made : {A : Type 0} → (A → Words → Type 0) → (A → Event) → Event → Words → Type 0
 Made {A} S make e run = (v : A) × S v run × (e ≡ make v)
 
-made_exact : {A : Type 0} (S : A → Words → Type 0) (f : Reader A) (make : A → Event) → IsExact S f → IsExact (Made S make) (f >>= λ v. done (Some (make v)))
+made_exact : {A : Type 0} (S : A → Words → Type 0) (f : Reader A) (make : A → Event) → IsExact S f → IsExact (Made S make) (f >>= λ v. done (make v))
 made_exact S f make p = record {
   found = λ words rest e is.
-      let x = and_then_some (f words) (λ v. done (Some (make v))) (e, rest) is in
-      let d = done_some (Some (make x.0.0)) x.0.1 rest e x.2 in
+      let x = bind_ok (f words) (λ x. done (make x.0) x.1) (e, rest) is in
+      let d = ok_parts (make x.0.0) e x.0.1 rest x.2 in
       let front = p.found words x.0.1 x.0.0 x.1 in
-      (front.0, (x.0.0, front.1, sym (same_Some _ _ d.0)), front.2 ∙ ap (λ (l : Words). front.0 ++ l) d.1);
+      (front.0, (x.0.0, front.1, sym d.0), front.2 ∙ ap (λ (l : Words). front.0 ++ l) d.1);
   only = λ e run rest s. rw (s.2, p.only s.0 run rest s.1) refl;
 }
 
@@ -71,8 +73,8 @@ verb_only Push u = refl
 verb_only Effect u = refl
 verb_only Settle u = refl
 
-verb_exact : IsExact (λ verb run. Unit {0} × (run ≡ verb_word verb ∷ [])) verb_in
-unfolding verb_in
+verb_exact : IsExact (λ verb run. Unit {0} × (run ≡ verb_word verb ∷ [])) verb_at
+unfolding verb_at
 verb_exact = value_exact verb_of verb_word (λ _. Unit {0}) verb_found verb_only
 
 lanes : List (List ℕ × Lane)
@@ -88,8 +90,8 @@ lane_only lane.Down u = refl
 lane_only lane.Gateway u = refl
 lane_only lane.Subscriber u = refl
 
-lane_exact : IsExact (λ l run. Unit {0} × (run ≡ lane_word l ∷ [])) lane_in
-unfolding lane_in
+lane_exact : IsExact (λ l run. Unit {0} × (run ≡ lane_word l ∷ [])) lane_at
+unfolding lane_at
 lane_exact = value_exact lane_of lane_word (λ _. Unit {0}) lane_found lane_only
 
 call_lane_found : (l k : Lane) → call_lane l ≡ Some k → IsCallLane k × (l ≡ k)
@@ -106,12 +108,12 @@ call_lane_only lane.Down h = absurd h
 call_lane_only lane.Gateway h = refl
 call_lane_only lane.Subscriber h = refl
 
-call_lane_exact : IsExact (λ l run. IsCallLane l × (run ≡ lane_word l ∷ [])) call_lane_in
-unfolding call_lane_in
+call_lane_exact : IsExact (λ l run. IsCallLane l × (run ≡ lane_word l ∷ [])) call_lane_at
+unfolding call_lane_at
 call_lane_exact = record {
   found = λ words rest l e.
-      let x = and_then_some (lane_in words) (λ lane. done (call_lane lane)) (l, rest) e in
-      let d = done_some (call_lane x.0.0) x.0.1 rest l x.2 in
+      let x = bind_ok (lane_at words) (λ x. known (call_lane x.0) tt x.1) (l, rest) e in
+      let d = known_ok (call_lane x.0.0) tt x.0.1 l rest x.2 in
       let c = call_lane_found x.0.0 l d.0 in
       let f = lane_exact.found words x.0.1 x.0.0 x.1 in
       (f.0, (c.0, f.1.1 ∙ ap (λ k. lane_word k ∷ []) c.1), f.2 ∙ ap (λ (l : Words). f.0 ++ l) d.1);
@@ -120,10 +122,10 @@ call_lane_exact = record {
 
 -- ---- numbers
 
-device_exact : (rows : ℕ) → rows < 2 ^ 32 → IsExact (λ d run. IsWithin rows d.0 × (run ≡ decimal d.0 ∷ [])) (device_in rows)
-unfolding device_in
+device_exact : (rows : ℕ) → rows < 2 ^ 32 → IsExact (λ d run. IsWithin rows d.0 × (run ≡ decimal d.0 ∷ [])) (device_at rows)
+unfolding device_at
 device_exact rows small =
-    let p : IsExact (Next (IsWithin rows) decimal (λ n. Ends (device n))) (device_in rows) = next_exact (IsWithin rows) decimal (number_in rows) (λ n. Ends (device n)) _ (number_exact rows small) (λ n. done_exact (device n)) in
+    let p : IsExact (Next (IsWithin rows) decimal (λ n. Ends (device n))) (device_at rows) = next_exact (IsWithin rows) decimal (number_at rows) (λ n. Ends (device n)) _ (number_exact rows small) (λ n. done_exact (device n)) in
     record {
       found = λ words rest d e.
           let x = p.found words rest d e in
@@ -135,10 +137,10 @@ device_exact rows small =
     device : ℕ → DeviceId
     device n = record { 0 = n }
 
-replica_exact : IsExact (λ n run. IsWithin 16 n × (run ≡ decimal n ∷ [])) replica_in
+replica_exact : IsExact (λ n run. IsWithin 16 n × (run ≡ decimal n ∷ [])) replica_at
 replica_exact = number_exact 16 (omega arith)
 
-count_exact : IsExact (λ n run. IsWithin 4294967295 n × (run ≡ decimal n ∷ [])) count_in
+count_exact : IsExact (λ n run. IsWithin 4294967295 n × (run ≡ decimal n ∷ [])) count_at
 count_exact = number_exact 4294967295 (omega arith)
 
 -- ---- events
@@ -162,11 +164,11 @@ IsCount = IsWithin 4294967295
 abbrev Message : ℕ → DeviceId × ℕ → Words → Type 0
 Message rows m run = IsDevice rows m.0 × IsCount m.1 × (run ≡ device_word m.0 ∷ decimal m.1 ∷ [])
 
-message_exact : (rows : ℕ) → rows < 2 ^ 32 → IsExact (Message rows) (message_in rows)
-unfolding message_in
+message_exact : (rows : ℕ) → rows < 2 ^ 32 → IsExact (Message rows) (message_at rows)
+unfolding message_at
 message_exact rows small =
-    let p : IsExact (Next (IsDevice rows) device_word (λ d. Next IsCount decimal (λ n. Ends (d, n)))) (message_in rows) = next_exact _ _ (device_in rows) _ _ (device_exact rows small) (λ d. next_exact _ _ count_in _ _ count_exact (λ n. done_exact (d, n))) in
-    told _ _ (message_in rows) p
+    let p : IsExact (Next (IsDevice rows) device_word (λ d. Next IsCount decimal (λ n. Ends (d, n)))) (message_at rows) = next_exact _ _ (device_at rows) _ _ (device_exact rows small) (λ d. next_exact _ _ count_at _ _ count_exact (λ n. done_exact (d, n))) in
+    told _ _ (message_at rows) p
     (λ m run s.
     let n = s.3 in
     subst (λ (v : DeviceId × ℕ). Message rows v run) (sym n.3.0) (s.1, n.1, s.4 ∙ ap (λ (l : Words). device_word s.0 ∷ l) (n.4 ∙ ap (λ (l : Words). decimal n.0 ∷ l) n.3.1)))
@@ -176,11 +178,11 @@ message_exact rows small =
 abbrev Laned : ℕ → DeviceId × Lane × ℕ → Words → Type 0
 Laned rows e run = IsDevice rows e.0 × IsCount e.2 × (run ≡ device_word e.0 ∷ lane_word e.1 ∷ decimal e.2 ∷ [])
 
-laned_exact : (rows : ℕ) → rows < 2 ^ 32 → IsExact (Laned rows) (effect_in rows)
-unfolding effect_in
+laned_exact : (rows : ℕ) → rows < 2 ^ 32 → IsExact (Laned rows) (effect_at rows)
+unfolding effect_at
 laned_exact rows small =
-    let p : IsExact (Next (IsDevice rows) device_word (λ d. Next IsAny lane_word (λ l. Next IsCount decimal (λ k. Ends (d, l, k))))) (effect_in rows) = next_exact _ _ (device_in rows) _ _ (device_exact rows small) (λ d. next_exact _ _ lane_in _ _ lane_exact (λ l. next_exact _ _ count_in _ _ count_exact (λ k. done_exact (d, l, k)))) in
-    told _ _ (effect_in rows) p
+    let p : IsExact (Next (IsDevice rows) device_word (λ d. Next IsAny lane_word (λ l. Next IsCount decimal (λ k. Ends (d, l, k))))) (effect_at rows) = next_exact _ _ (device_at rows) _ _ (device_exact rows small) (λ d. next_exact _ _ lane_at _ _ lane_exact (λ l. next_exact _ _ count_at _ _ count_exact (λ k. done_exact (d, l, k)))) in
+    told _ _ (effect_at rows) p
     (λ e run s.
     let lane = s.3 in
     let k = lane.3 in
@@ -204,25 +206,25 @@ Rest rows Push = Made (Laned rows) (λ e. event.Push e.0 e.1 e.2)
 Rest rows Effect = Made (Laned rows) (λ e. event.Effect e.0 e.1 e.2)
 Rest rows Settle = Made (Laned rows) (λ e. event.Settle e.0 e.1 e.2)
 
-rest_exact : (rows : ℕ) → rows < 2 ^ 32 → (verb : Verb) → IsExact (Rest rows verb) (event_in rows verb)
-unfolding event_in
-rest_exact rows small Send = made_exact (Message rows) (message_in rows) (λ m. event.Send m.0 m.1) (message_exact rows small)
-rest_exact rows small Take = next_exact IsReplica decimal replica_in _ _ replica_exact (λ r. made_exact (Message rows) (message_in rows) (λ m. event.Take r m.0 m.1) (message_exact rows small))
-rest_exact rows small Answer = next_exact IsReplica decimal replica_in _ _ replica_exact (λ r. next_exact (IsDevice rows) device_word (device_in rows) _ _ (device_exact rows small) (λ d. next_exact IsCallLane lane_word call_lane_in _ _ call_lane_exact (λ l. next_exact IsCount decimal count_in _ _ count_exact (λ k. done_exact (event.Answer r d l k)))))
-rest_exact rows small Read = made_exact Replica replica_in event.Read replica_exact
-rest_exact rows small Write = made_exact Replica replica_in event.Write replica_exact
-rest_exact rows small Stop = made_exact Replica replica_in event.Stop replica_exact
-rest_exact rows small Reply = made_exact (Message rows) (message_in rows) (λ m. event.Reply m.0 m.1) (message_exact rows small)
-rest_exact rows small Push = made_exact (Laned rows) (effect_in rows) (λ e. event.Push e.0 e.1 e.2) (laned_exact rows small)
-rest_exact rows small Effect = made_exact (Laned rows) (effect_in rows) (λ e. event.Effect e.0 e.1 e.2) (laned_exact rows small)
-rest_exact rows small Settle = made_exact (Laned rows) (effect_in rows) (λ e. event.Settle e.0 e.1 e.2) (laned_exact rows small)
+rest_exact : (rows : ℕ) → rows < 2 ^ 32 → (verb : Verb) → IsExact (Rest rows verb) (event_at rows verb)
+unfolding event_at
+rest_exact rows small Send = made_exact (Message rows) (message_at rows) (λ m. event.Send m.0 m.1) (message_exact rows small)
+rest_exact rows small Take = next_exact IsReplica decimal replica_at _ _ replica_exact (λ r. made_exact (Message rows) (message_at rows) (λ m. event.Take r m.0 m.1) (message_exact rows small))
+rest_exact rows small Answer = next_exact IsReplica decimal replica_at _ _ replica_exact (λ r. next_exact (IsDevice rows) device_word (device_at rows) _ _ (device_exact rows small) (λ d. next_exact IsCallLane lane_word call_lane_at _ _ call_lane_exact (λ l. next_exact IsCount decimal count_at _ _ count_exact (λ k. done_exact (event.Answer r d l k)))))
+rest_exact rows small Read = made_exact Replica replica_at event.Read replica_exact
+rest_exact rows small Write = made_exact Replica replica_at event.Write replica_exact
+rest_exact rows small Stop = made_exact Replica replica_at event.Stop replica_exact
+rest_exact rows small Reply = made_exact (Message rows) (message_at rows) (λ m. event.Reply m.0 m.1) (message_exact rows small)
+rest_exact rows small Push = made_exact (Laned rows) (effect_at rows) (λ e. event.Push e.0 e.1 e.2) (laned_exact rows small)
+rest_exact rows small Effect = made_exact (Laned rows) (effect_at rows) (λ e. event.Effect e.0 e.1 e.2) (laned_exact rows small)
+rest_exact rows small Settle = made_exact (Laned rows) (effect_at rows) (λ e. event.Settle e.0 e.1 e.2) (laned_exact rows small)
 
 -- a verb, and what stands behind it
 abbrev Run : ℕ → Event → Words → Type 0
 Run rows = Next IsAny verb_word (Rest rows)
 
-run_exact : (rows : ℕ) → rows < 2 ^ 32 → IsExact (Run rows) (verb_in >>= event_in rows)
-run_exact rows small = next_exact IsAny verb_word verb_in (Rest rows) (event_in rows) verb_exact (rest_exact rows small)
+run_exact : (rows : ℕ) → rows < 2 ^ 32 → IsExact (Run rows) (verb_at >>= event_at rows)
+run_exact rows small = next_exact IsAny verb_word verb_at (Rest rows) (event_at rows) verb_exact (rest_exact rows small)
 
 -- ---- what was read has the words of the event, and what has them was read
 
@@ -270,10 +272,10 @@ written_run rows (event.Settle d l k) f = (Settle, tt, _, ((d, l, k), (f.0, f.1,
 pub event_found : (rows : ℕ) (line : List ℕ) (e : Event) → rows < 2 ^ 32 → event_of rows line ≡ Some e → IsInForm rows e × (words_of line ≡ event_words e)
 unfolding event_of
 event_found rows line e small is =
-    let s = whole_found (Run rows) (verb_in >>= event_in rows) (run_exact rows small) line e is in
+    let s = whole_found (Run rows) (verb_at >>= event_at rows) (run_exact rows small) line e is in
     let w = rest_written rows s.0 e s.2 s.3 in
     (w.0, s.4 ∙ w.1)
 
 pub event_only : (rows : ℕ) (line : List ℕ) (e : Event) → rows < 2 ^ 32 → IsInForm rows e → words_of line ≡ event_words e → event_of rows line ≡ Some e
 unfolding event_of
-event_only rows line e small form words = whole_only (Run rows) (verb_in >>= event_in rows) (run_exact rows small) line e (subst (Run rows e) (sym words) (written_run rows e form))
+event_only rows line e small form words = whole_only (Run rows) (verb_at >>= event_at rows) (run_exact rows small) line e (subst (Run rows e) (sym words) (written_run rows e form))

@@ -1,5 +1,5 @@
 -- Reading words is exact: what is read stands there, and what stands there is read.
-use Rattle.std.proofs.Common.{◌≡◌, ℕ, ◌^◌, ◌<◌, ◌≤◌, Bool, true, false, eqb, leb, ◌&&◌, List, [], ◌∷◌, ◌++◌, length, get_or, Option, Some, None, refl, sym, ap, ◌∙◌, subst, inl, inr, arith}
+use Rattle.std.proofs.Common.{◌≡◌, ℕ, ◌^◌, ◌<◌, ◌≤◌, Bool, true, false, eqb, leb, ◌&&◌, List, [], ◌∷◌, ◌++◌, length, get_or, Option, Some, None, Result, Ok, Err, refl, sym, ap, ◌∙◌, subst, inl, inr, arith}
 use Rattle.std.specs.Prelude.{◌≢◌, if◌then◌else◌}
 use Rattle.std.specs.Fmt.{decimal}
 use Rattle.std.specs.List.{list_all}
@@ -10,11 +10,14 @@ use Rattle.std.proofs.lemmas.Bool.{cases_Bool, leb-true, le-leb, eqb-true}
 use Rattle.std.proofs.lemmas.Bool.Decides.{nat_tests}
 use Rattle.std.proofs.lemmas.Fmt.{decimal_digit, decimal-digits_value, digits_decimal, digits_value-decimal, decimal_nonempty, first_decimal}
 use Rattle.std.proofs.lemmas.List.{append-nil, nil_from_length}
-use Rattle.std.proofs.lemmas.Option.{cond_some, same_Some, some_pair_parts}
+use Rattle.std.proofs.lemmas.Option.{cond_some, same_Some}
 use Rattle.std.proofs.lemmas.Slice.Eq.{bytes_eq-Decides}
 use Rattle.device_types.specs.Numbers.{IsWithin}
 use Rattle.case_form.specs.Number.{is_numeral, number_of}
-use Rattle.case_form.specs.Words.{Read, Reader, and_then, ◌>>=◌, done, word_in, number_in, all_read, whole, words_of}
+use Rattle.echo_base.specs.Reading.{◌>>=◌, done, known}
+use Rattle.echo_base.proofs.Answers.{ok_err, ok_parts, bind_ok}
+use Rattle.echo_base.proofs.Formats.{known_ok}
+use Rattle.case_form.specs.Words.{Reader, word_at, number_at, all_read, whole, words_of}
 use Rattle.case_form.proofs.NumberLaws.{digits, numeral_parts}
 
 -- ---- numbers
@@ -54,53 +57,45 @@ number_only most n small within =
 -- ---- one behind another
 
 pub record IsExact {A : Type 0} (Spells : A → List (List ℕ) → Type 0) (f : Reader A) : Type 0 where
-  pub found : (words rest : List (List ℕ)) (v : A) → f words ≡ Some (v, rest) → (run : List (List ℕ)) × Spells v run × (words ≡ run ++ rest)
-  pub only : (v : A) (run rest : List (List ℕ)) → Spells v run → f (run ++ rest) ≡ Some (v, rest)
-
-pub and_then_some : {A B : Type 0} (r : Read A) (f : A → Reader B) (y : B × List (List ℕ)) → and_then r f ≡ Some y → (x : A × List (List ℕ)) × (r ≡ Some x) × (f x.0 x.1 ≡ Some y)
-and_then_some None f y e = absurd cc
-and_then_some (Some x) f y e = (x, refl, e)
+  pub found : (words rest : List (List ℕ)) (v : A) → f words ≡ Ok (v, rest) → (run : List (List ℕ)) × Spells v run × (words ≡ run ++ rest)
+  pub only : (v : A) (run rest : List (List ℕ)) → Spells v run → f (run ++ rest) ≡ Ok (v, rest)
 
 -- nothing more
 abbrev pub Ends : {A : Type 0} → A → A → List (List ℕ) → Type 0
 Ends a v run = (v ≡ a) × (run ≡ [])
 
-pub done_exact : {A : Type 0} (a : A) → IsExact (Ends a) (done (Some a))
+pub done_exact : {A : Type 0} (a : A) → IsExact (Ends a) (done a)
 done_exact a = record {
-  found = λ words rest v e. let p = some_pair_parts a v words rest e in ([], (sym p.0, refl), p.1);
+  found = λ words rest v e. let p = ok_parts a v words rest e in ([], (sym p.0, refl), p.1);
   only = λ v run rest s. rw (s.0, s.1) refl;
 }
 
-word_found : (words rest : List (List ℕ)) (word : List ℕ) → word_in words ≡ Some (word, rest) → words ≡ word ∷ rest
-word_found [] rest word e = absurd cc
-word_found (first ∷ words) rest word e = let p = some_pair_parts first word words rest e in rw (p.0, p.1) refl
+word_found : (words rest : List (List ℕ)) (word : List ℕ) → word_at words ≡ Ok (word, rest) → words ≡ word ∷ rest
+word_found [] rest word e = absurd (ok_err (word, rest) tt (sym e))
+word_found (first ∷ words) rest word e = let p = ok_parts first word words rest e in rw (p.0, p.1) refl
 
 -- the next word, whichever
-pub word_exact : IsExact (λ word run. run ≡ word ∷ []) word_in
+pub word_exact : IsExact (λ word run. run ≡ word ∷ []) word_at
 word_exact = record { found = λ words rest word e. (word ∷ [], refl, word_found words rest word e); only = λ word run rest s. rw s refl }
 
-pub done_some : {A : Type 0} (o : Option A) (words rest : List (List ℕ)) (v : A) → done o words ≡ Some (v, rest) → (o ≡ Some v) × (words ≡ rest)
-done_some None words rest v e = absurd cc
-done_some (Some x) words rest v e = let p = some_pair_parts x v words rest e in (ap Some p.0, p.1)
-
 -- a word that stands for a value
-pub value_exact : {A : Type 0} (value_of : List ℕ → Option A) (word_of : A → List ℕ) (P : A → Type 0) → ((word : List ℕ) (v : A) → value_of word ≡ Some v → P v × (word ≡ word_of v)) → ((v : A) → P v → value_of (word_of v) ≡ Some v) → IsExact (λ v run. P v × (run ≡ word_of v ∷ [])) (word_in >>= λ word. done (value_of word))
+pub value_exact : {A : Type 0} (value_of : List ℕ → Option A) (word_of : A → List ℕ) (P : A → Type 0) → ((word : List ℕ) (v : A) → value_of word ≡ Some v → P v × (word ≡ word_of v)) → ((v : A) → P v → value_of (word_of v) ≡ Some v) → IsExact (λ v run. P v × (run ≡ word_of v ∷ [])) (word_at >>= λ word. known (value_of word) tt)
 value_exact value_of word_of P found only = record {
   found = λ words rest v e.
-      let x = and_then_some (word_in words) (λ word. done (value_of word)) (v, rest) e in
-      let d = done_some (value_of x.0.0) x.0.1 rest v x.2 in
+      let x = bind_ok (word_at words) (λ x. known (value_of x.0) tt x.1) (v, rest) e in
+      let d = known_ok (value_of x.0.0) tt x.0.1 v rest x.2 in
       let f = found x.0.0 v d.0 in
       (word_of v ∷ [], (f.0, refl), word_found words x.0.1 x.0.0 x.1 ∙ rw (f.1, d.1) refl);
   only = λ v run rest s. rw (s.1, only v s.0) refl;
 }
 
-pub number_exact : (most : ℕ) → most < 2 ^ 32 → IsExact (λ n run. IsWithin most n × (run ≡ decimal n ∷ [])) (number_in most)
-unfolding number_in
+pub number_exact : (most : ℕ) → most < 2 ^ 32 → IsExact (λ n run. IsWithin most n × (run ≡ decimal n ∷ [])) (number_at most)
+unfolding number_at
 number_exact most small = value_exact (number_of most) decimal (IsWithin most) (λ word n e. number_found most n word small e) (λ n within. number_only most n small within)
 
-all_read_some : {A : Type 0} (r : Read A) (v : A) → all_read r ≡ Some v → r ≡ Some (v, [])
-all_read_some None v e = absurd cc
-all_read_some (Some x) v e =
+all_read_some : {A : Type 0} (r : Result (A × List (List ℕ)) (Unit {0})) (v : A) → all_read r ≡ Some v → r ≡ Ok (v, [])
+all_read_some (Err none) v e = absurd cc
+all_read_some (Ok x) v e =
     let p = cond_some (eqb (length x.1) 0) x.0 v e in
     let none : x.1 ≡ [] = nil_from_length x.1 (eqb-true _ _ p.0) in
     rw (← p.1, ← none) refl
@@ -121,7 +116,7 @@ Next {A} P word_of Q b run = (a : A) × P a × (tail : List (List ℕ)) × Q a b
 pub next_exact : {A B : Type 0} (P : A → Type 0) (word_of : A → List ℕ) (f : Reader A) (Q : A → B → List (List ℕ) → Type 0) (g : A → Reader B) → IsExact (λ a run. P a × (run ≡ word_of a ∷ [])) f → ((a : A) → IsExact (Q a) (g a)) → IsExact (Next P word_of Q) (f >>= g)
 next_exact P word_of f Q g p q = record {
   found = λ words rest b e.
-      let x = and_then_some (f words) g (b, rest) e in
+      let x = bind_ok (f words) (λ x. g x.0 x.1) (b, rest) e in
       let front = p.found words x.0.1 x.0.0 x.1 in
       let back = (q x.0.0).found x.0.1 rest b x.2 in
       let words_are : words ≡ word_of x.0.0 ∷ (back.0 ++ rest) = front.2 ∙ ap (λ (l : List (List ℕ)). l ++ x.0.1) front.1.1 ∙ ap (λ (l : List (List ℕ)). word_of x.0.0 ∷ l) back.2 in

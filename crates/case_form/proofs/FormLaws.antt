@@ -8,6 +8,7 @@ use Rattle.std.proofs.lemmas.Option.{same_Some}
 use Rattle.std.proofs.lemmas.List.{length-append}
 use Rattle.std.proofs.lemmas.List.Elements.{All-nil, All-push, All-append, All-weaker}
 use Rattle.echo_base.specs.declared.reason.Reason.{Reason}
+use Rattle.echo_base.specs.declared.refusal.Refusal.{Refusal}
 use Rattle.echo_base.specs.declared.reason.Reason.TheVariants.{LineTooLong, RepeatedImsi, RepeatedTmsi, TableFull}
 use Rattle.device_types.specs.declared.event.Event.{Event}
 use Rattle.device_types.specs.declared.event.Event.TheVariants as event
@@ -22,7 +23,7 @@ use Rattle.device_types.specs.Event.{IsInForm}
 use Rattle.device_types.specs.Numbers.{IsWithin}
 use Rattle.case_form.specs.Event.{event_of}
 use Rattle.case_form.specs.Section.{is_passed_over, is_heading, heading_of}
-use Rattle.case_form.specs.State.{Seen, unread, next, next_heading_reason, own_reason, reason_in, rows_after, trace_after, schedule_after, own_after, after}
+use Rattle.case_form.specs.State.{Seen, unread, next, next_heading_reason, own_reason, reason_behind, rows_after, trace_after, schedule_after, own_after, after}
 use Rattle.case_form.specs.Trace.{sent_of}
 use Rattle.case_form.proofs.EventLaws.{event_found}
 use Rattle.case_form.proofs.StateLaws.{by_line, chain_none, some_of}
@@ -70,9 +71,9 @@ in_form_more rows more le (event.Effect d l k) f = (within_more rows more d.0 le
 in_form_more rows more le (event.Settle d l k) f = (within_more rows more d.0 le f.0, f.1)
 
 -- one row more, where it is not refused
-rows_fit : (rows : List Subscriber) (row : Result Subscriber Reason) → row_reason rows row ≡ None → length (rows ++ option_to_list (result_ok row)) ≤ most_rows
+rows_fit : (rows : List Subscriber) (row : Result Subscriber Refusal) → row_reason rows row ≡ None → length (rows ++ option_to_list (result_ok row)) ≤ most_rows
 rows_fit rows (Ok row) e = omega (arith, length-append rows (row ∷ []), room_for rows row e)
-rows_fit rows (Err reason) e = absurd (some_of e)
+rows_fit rows (Err x) e = absurd (some_of e)
 
 row_stays : (seen : Seen) (line : List ℕ) → IsProper seen → row_reason seen.rows (row_of (length seen.rows + 1) line) ≡ None → IsProper (record seen { rows = rows_after seen.rows line })
 unfolding rows_after
@@ -136,8 +137,8 @@ with_next seen p = record { rows_most = p.rows_most; trace_most = p.trace_most; 
 with_section : (seen : Seen) (section : Option Section) → IsProper seen → IsProper (record seen { section = section })
 with_section seen section p = record { rows_most = p.rows_most; trace_most = p.trace_most; schedule_most = p.schedule_most; stations = p.stations; events = p.events }
 
-pub proper_more : (seen : Seen) (line : List ℕ) → IsProper seen → reason_in (next seen) line ≡ None → IsProper (after (next seen) line)
-unfolding reason_in after
+pub proper_more : (seen : Seen) (line : List ℕ) → IsProper seen → reason_behind (next seen) line ≡ None → IsProper (after (next seen) line)
+unfolding reason_behind after
 proper_more seen line p none =
     let parts = chain_none (ltb most_octets (length line)) (is_passed_over line) (is_heading line) LineTooLong (next_heading_reason seen.section (heading_of line)) (own_reason seen.section (next seen) line) none in
     by_line IsProper (is_passed_over line) (is_heading line) (next seen) (record (next seen) { section = heading_of line }) (own_after seen.section (next seen) line)

@@ -8,7 +8,7 @@ use Rattle.std.proofs.lemmas.List.Elements.{filter_map-append, filter-append}
 use Rattle.echo_base.specs.declared.reason.Reason.{Reason}
 use Rattle.case_form.specs.declared.section.Section.{Section}
 use Rattle.case_form.specs.declared.section.Section.TheVariants.{Subscribers, Trace, Schedule}
-use Rattle.case_form.specs.Case.{Placed, placed_behind, placed, number_at, headings, section_behind, is_counted, counted, row_at, rows_of, trace_line_at, trace_of, event_at, schedule_of, reason_at, refusals}
+use Rattle.case_form.specs.Case.{Placed, placed_behind, placed, placed_number, headings, section_behind, is_counted, counted, placed_row, rows_of, placed_trace_line, trace_of, placed_event, schedule_of, placed_reason, refusals}
 use Rattle.case_form.specs.Section.{heading_of}
 
 abbrev Lines : Type 0
@@ -60,30 +60,30 @@ said-push : {A : Type 0} (section : Section) (say : Placed → Option A) (before
 said-push section say before line =
     ap (filter_map say) (counted-push section before line) ∙ filter_map-append say (counted section before) (where_true (is_counted section (place before line)) (place before line ∷ [])) ∙ ap (λ (l : List _). filter_map say (counted section before) ++ l) (filter_map-where say (is_counted section (place before line)) (place before line))
 
-pub rows_of-push : (before : Lines) (line : List ℕ) → rows_of (before ++ line ∷ []) ≡ rows_of before ++ where_true (is_counted Subscribers (place before line)) (option_to_list (row_at (place before line)))
+pub rows_of-push : (before : Lines) (line : List ℕ) → rows_of (before ++ line ∷ []) ≡ rows_of before ++ where_true (is_counted Subscribers (place before line)) (option_to_list (placed_row (place before line)))
 unfolding rows_of
-rows_of-push before line = said-push Subscribers row_at before line
+rows_of-push before line = said-push Subscribers placed_row before line
 
-pub trace_of-push : (before : Lines) (line : List ℕ) → trace_of (before ++ line ∷ []) ≡ trace_of before ++ where_true (is_counted Trace (place before line)) (option_to_list (trace_line_at (place before line)))
+pub trace_of-push : (before : Lines) (line : List ℕ) → trace_of (before ++ line ∷ []) ≡ trace_of before ++ where_true (is_counted Trace (place before line)) (option_to_list (placed_trace_line (place before line)))
 unfolding trace_of
-trace_of-push before line = said-push Trace trace_line_at before line
+trace_of-push before line = said-push Trace placed_trace_line before line
 
-pub schedule_of-push : (before : Lines) (line : List ℕ) → schedule_of (before ++ line ∷ []) ≡ schedule_of before ++ where_true (is_counted Schedule (place before line)) (option_to_list (event_at (place before line)))
+pub schedule_of-push : (before : Lines) (line : List ℕ) → schedule_of (before ++ line ∷ []) ≡ schedule_of before ++ where_true (is_counted Schedule (place before line)) (option_to_list (placed_event (place before line)))
 unfolding schedule_of
-schedule_of-push before line = said-push Schedule event_at before line
+schedule_of-push before line = said-push Schedule placed_event before line
 
 -- the refusal of a line
-abbrev pub refusal_at : Placed → Option (ℕ × Reason)
-refusal_at p = option_map (λ reason. (number_at p, reason)) (reason_at p)
+abbrev pub placed_refusal : Placed → Option (ℕ × Reason)
+placed_refusal p = option_map (λ reason. (placed_number p, reason)) (placed_reason p)
 
-pub refusals-push : (before : Lines) (line : List ℕ) → refusals (before ++ line ∷ []) ≡ refusals before ++ option_to_list (refusal_at (place before line))
+pub refusals-push : (before : Lines) (line : List ℕ) → refusals (before ++ line ∷ []) ≡ refusals before ++ option_to_list (placed_refusal (place before line))
 refusals-push before line =
-    ap (filter_map refusal_at) (placed-push before line) ∙ filter_map-append refusal_at (placed before) (place before line ∷ []) ∙ ap (λ (l : List (ℕ × Reason)). refusals before ++ l) (filter_map-one refusal_at (place before line))
+    ap (filter_map placed_refusal) (placed-push before line) ∙ filter_map-append placed_refusal (placed before) (place before line ∷ []) ∙ ap (λ (l : List (ℕ × Reason)). refusals before ++ l) (filter_map-one placed_refusal (place before line))
 
 -- the first refusal, behind lines with none
-pub first_refusal : (before back : Lines) (line : List ℕ) (reason : Reason) → refusals before ≡ [] → reason_at (place before line) ≡ Some reason → slice_get (refusals (before ++ line ∷ back)) 0 ≡ Some (number_at (place before line), reason)
+pub first_refusal : (before back : Lines) (line : List ℕ) (reason : Reason) → refusals before ≡ [] → placed_reason (place before line) ≡ Some reason → slice_get (refusals (before ++ line ∷ back)) 0 ≡ Some (placed_number (place before line), reason)
 first_refusal before back line reason good bad =
-    let split : refusals (before ++ line ∷ back) ≡ refusals before ++ filter_map refusal_at (placed_behind before (line ∷ back)) = ap (filter_map refusal_at) (placed-append before (line ∷ back)) ∙ filter_map-append refusal_at (placed before) (placed_behind before (line ∷ back)) in
+    let split : refusals (before ++ line ∷ back) ≡ refusals before ++ filter_map placed_refusal (placed_behind before (line ∷ back)) = ap (filter_map placed_refusal) (placed-append before (line ∷ back)) ∙ filter_map-append placed_refusal (placed before) (placed_behind before (line ∷ back)) in
     rw (split, good, bad) refl
 
 -- ---- headings

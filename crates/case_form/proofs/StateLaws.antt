@@ -9,6 +9,7 @@ use Rattle.std.proofs.lemmas.Bool.Decides.{nat_tests}
 use Rattle.std.proofs.lemmas.List.{length-append, append-nil}
 use Rattle.std.proofs.lemmas.List.Folds.{list_any-append}
 use Rattle.echo_base.specs.declared.reason.Reason.{Reason}
+use Rattle.echo_base.specs.declared.refusal.Refusal.{Refusal}
 use Rattle.echo_base.specs.declared.reason.Reason.TheVariants.{LineTooLong}
 use Rattle.device_types.specs.declared.event.Event.{Event}
 use Rattle.device_types.specs.declared.subscriber.Subscriber.{Subscriber}
@@ -16,10 +17,10 @@ use Rattle.subs_table.specs.Row.{row_of}
 use Rattle.case_form.specs.declared.case.TraceLine.{TraceLine}
 use Rattle.case_form.specs.declared.section.Section.{Section}
 use Rattle.case_form.specs.declared.section.Section.TheVariants.{Subscribers, Trace, Schedule}
-use Rattle.case_form.specs.Case.{most_octets, most_lines, number_at, headings, section_behind, is_section, is_counted, counted, row_at, rows_of, trace_line_at, trace_of, event_at, schedule_of, heading_reason, row_reason, form_reason, section_reason, reason_at, refusals}
+use Rattle.case_form.specs.Case.{most_octets, most_lines, placed_number, headings, section_behind, is_section, is_counted, counted, placed_row, rows_of, placed_trace_line, trace_of, placed_event, schedule_of, heading_reason, row_reason, form_reason, section_reason, placed_reason, refusals}
 use Rattle.case_form.specs.Event.{event_of}
 use Rattle.case_form.specs.Section.{place_of, is_passed_over, is_heading, heading_of}
-use Rattle.case_form.specs.State.{Seen, unread, next, is_late, next_heading_reason, own_reason, reason_in, rows_after, trace_after, schedule_after, own_after, after}
+use Rattle.case_form.specs.State.{Seen, unread, next, is_late, next_heading_reason, own_reason, reason_behind, rows_after, trace_after, schedule_after, own_after, after}
 use Rattle.case_form.specs.Trace.{sent_of}
 use Rattle.case_form.proofs.PlaceLaws.{place, where_true, counted-push, rows_of-push, trace_of-push, schedule_of-push, refusals-push, section_behind-heading, headings-push, headings-same}
 
@@ -55,8 +56,8 @@ same_own before line seen s (Some Subscribers) = rw (s.row_count, s.rows) refl
 same_own before line seen s (Some Trace) = rw s.trace_count refl
 same_own before line seen s (Some Schedule) = rw (s.schedule_count, s.rows) refl
 
-pub same_reason : (before : List (List ℕ)) (line : List ℕ) (seen : Seen) → IsSeen before seen → reason_in (next seen) line ≡ reason_at (place before line)
-unfolding reason_in reason_at
+pub same_reason : (before : List (List ℕ)) (line : List ℕ) (seen : Seen) → IsSeen before seen → reason_behind (next seen) line ≡ placed_reason (place before line)
+unfolding reason_behind placed_reason
 same_reason before line seen s =
     same_chain (ltb most_octets (length line)) (is_passed_over line) (is_heading line) (Some LineTooLong) _ _ _ _
     (same_heading before seen s (heading_of line))
@@ -64,7 +65,7 @@ same_reason before line seen s =
 
 -- ---- one line more
 
-pub same_number : (before : List (List ℕ)) (line : List ℕ) (seen : Seen) → IsSeen before seen → (next seen).number ≡ number_at (place before line)
+pub same_number : (before : List (List ℕ)) (line : List ℕ) (seen : Seen) → IsSeen before seen → (next seen).number ≡ placed_number (place before line)
 same_number before line seen s = omega (arith, s.number)
 
 next_number : (before : List (List ℕ)) (line : List ℕ) (seen : Seen) → IsSeen before seen → (next seen).number ≡ min (length (before ++ line ∷ [])) (2 ^ 32 - 1)
@@ -81,29 +82,29 @@ record IsGrown (before : List (List ℕ)) (line : List ℕ) (seen new : Seen) : 
   section : new.section ≡ section_behind (before ++ line ∷ [])
   order : (heading : Section) → list_any (λ earlier. leb (place_of heading) (place_of earlier)) (headings (before ++ line ∷ [])) ≡ is_late heading new.section
   number : new.number ≡ (next seen).number
-  rows : new.rows ≡ seen.rows ++ where_true (is_counted Subscribers (place before line)) (option_to_list (row_at (place before line)))
-  row_there : is_counted Subscribers (place before line) ≡ true → is_some (row_at (place before line)) ≡ true
-  trace : new.trace ≡ seen.trace ++ where_true (is_counted Trace (place before line)) (option_to_list (trace_line_at (place before line)))
-  trace_there : is_counted Trace (place before line) ≡ true → is_some (trace_line_at (place before line)) ≡ true
-  schedule : new.schedule ≡ seen.schedule ++ where_true (is_counted Schedule (place before line)) (option_to_list (event_at (place before line)))
-  schedule_there : is_counted Schedule (place before line) ≡ true → is_some (event_at (place before line)) ≡ true
+  rows : new.rows ≡ seen.rows ++ where_true (is_counted Subscribers (place before line)) (option_to_list (placed_row (place before line)))
+  row_there : is_counted Subscribers (place before line) ≡ true → is_some (placed_row (place before line)) ≡ true
+  trace : new.trace ≡ seen.trace ++ where_true (is_counted Trace (place before line)) (option_to_list (placed_trace_line (place before line)))
+  trace_there : is_counted Trace (place before line) ≡ true → is_some (placed_trace_line (place before line)) ≡ true
+  schedule : new.schedule ≡ seen.schedule ++ where_true (is_counted Schedule (place before line)) (option_to_list (placed_event (place before line)))
+  schedule_there : is_counted Schedule (place before line) ≡ true → is_some (placed_event (place before line)) ≡ true
 
 grown_length : {A : Type 0} (section : Section) (before : List (List ℕ)) (line : List ℕ) (old new : List A) (o : Option A) → new ≡ old ++ where_true (is_counted section (place before line)) (option_to_list o) → length old ≡ length (counted section before) → (is_counted section (place before line) ≡ true → is_some o ≡ true) → length new ≡ length (counted section (before ++ line ∷ []))
 grown_length section before line old new o is count there =
     let b : Bool = is_counted section (place before line) in
     ap length is ∙ length-append old (where_true b (option_to_list o)) ∙ rw (count, grown_count b o (place before line) there) (sym (length-append (counted section before) (where_true b (place before line ∷ [])))) ∙ sym (ap length (counted-push section before line))
 
-grown : (before : List (List ℕ)) (line : List ℕ) (seen new : Seen) → IsSeen before seen → reason_at (place before line) ≡ None → IsGrown before line seen new → IsSeen (before ++ line ∷ []) new
+grown : (before : List (List ℕ)) (line : List ℕ) (seen new : Seen) → IsSeen before seen → placed_reason (place before line) ≡ None → IsGrown before line seen new → IsSeen (before ++ line ∷ []) new
 grown before line seen new s none g = record {
   section = g.section;
   order = g.order;
   number = g.number ∙ next_number before line seen s;
-  rows = g.rows ∙ ap (λ (l : List Subscriber). l ++ where_true (is_counted Subscribers (place before line)) (option_to_list (row_at (place before line)))) s.rows ∙ sym (rows_of-push before line);
-  row_count = grown_length Subscribers before line seen.rows new.rows (row_at (place before line)) g.rows s.row_count g.row_there;
-  trace = g.trace ∙ ap (λ (l : List TraceLine). l ++ where_true (is_counted Trace (place before line)) (option_to_list (trace_line_at (place before line)))) s.trace ∙ sym (trace_of-push before line);
-  trace_count = grown_length Trace before line seen.trace new.trace (trace_line_at (place before line)) g.trace s.trace_count g.trace_there;
-  schedule = g.schedule ∙ ap (λ (l : List Event). l ++ where_true (is_counted Schedule (place before line)) (option_to_list (event_at (place before line)))) s.schedule ∙ sym (schedule_of-push before line);
-  schedule_count = grown_length Schedule before line seen.schedule new.schedule (event_at (place before line)) g.schedule s.schedule_count g.schedule_there;
+  rows = g.rows ∙ ap (λ (l : List Subscriber). l ++ where_true (is_counted Subscribers (place before line)) (option_to_list (placed_row (place before line)))) s.rows ∙ sym (rows_of-push before line);
+  row_count = grown_length Subscribers before line seen.rows new.rows (placed_row (place before line)) g.rows s.row_count g.row_there;
+  trace = g.trace ∙ ap (λ (l : List TraceLine). l ++ where_true (is_counted Trace (place before line)) (option_to_list (placed_trace_line (place before line)))) s.trace ∙ sym (trace_of-push before line);
+  trace_count = grown_length Trace before line seen.trace new.trace (placed_trace_line (place before line)) g.trace s.trace_count g.trace_there;
+  schedule = g.schedule ∙ ap (λ (l : List Event). l ++ where_true (is_counted Schedule (place before line)) (option_to_list (placed_event (place before line)))) s.schedule ∙ sym (schedule_of-push before line);
+  schedule_count = grown_length Schedule before line seen.schedule new.schedule (placed_event (place before line)) g.schedule s.schedule_count g.schedule_there;
   good = rw (refusals-push before line, s.good, none) refl;
 }
 
@@ -195,9 +196,9 @@ heading_grows before line seen other s heading is early =
     or_true false e = e
 
 -- a line of its section
-row_there_from : (rows : List Subscriber) (row : Result Subscriber Reason) → row_reason rows row ≡ None → is_some (result_ok row) ≡ true
+row_there_from : (rows : List Subscriber) (row : Result Subscriber Refusal) → row_reason rows row ≡ None → is_some (result_ok row) ≡ true
 row_there_from rows (Ok row) e = refl
-row_there_from rows (Err reason) e = absurd cc
+row_there_from rows (Err x) e = absurd cc
 
 pub some_of : {A : Type 0} {x : A} → Some x ≡ None → ⊥
 some_of e = cc
@@ -285,10 +286,10 @@ by_line P true heading x y z f g h = f refl
 by_line P false true x y z f g h = g refl refl
 by_line P false false x y z f g h = h refl refl
 
-pub seen_more : (before : List (List ℕ)) (line : List ℕ) (seen : Seen) → IsSeen before seen → reason_in (next seen) line ≡ None → IsSeen (before ++ line ∷ []) (after (next seen) line)
-unfolding reason_in after
+pub seen_more : (before : List (List ℕ)) (line : List ℕ) (seen : Seen) → IsSeen before seen → reason_behind (next seen) line ≡ None → IsSeen (before ++ line ∷ []) (after (next seen) line)
+unfolding reason_behind after
 seen_more before line seen s none =
-    let good : reason_at (place before line) ≡ None = sym (same_reason before line seen s) ∙ none in
+    let good : placed_reason (place before line) ≡ None = sym (same_reason before line seen s) ∙ none in
     let parts = chain_none (ltb most_octets (length line)) (is_passed_over line) (is_heading line) LineTooLong (next_heading_reason seen.section (heading_of line)) (own_reason seen.section (next seen) line) none in
     by_line (λ new. IsSeen (before ++ line ∷ []) new) (is_passed_over line) (is_heading line) (next seen) (record (next seen) { section = heading_of line }) (own_after seen.section (next seen) line)
     (λ passed. grown before line seen _ s good (passed_grows before line seen s passed))

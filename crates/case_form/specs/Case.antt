@@ -5,6 +5,7 @@ use Rattle.std.specs.Result.{result_ok}
 use Rattle.std.specs.List.{list_any, filter_map}
 use Rattle.echo_base.specs.declared.reason.Reason.{Reason}
 use Rattle.echo_base.specs.declared.reason.Reason.TheVariants.{LineTooLong, BadSection, TooManyLines, BadLine}
+use Rattle.echo_base.specs.declared.refusal.Refusal.{Refusal}
 use Rattle.device_types.specs.declared.event.Event.{Event}
 use Rattle.device_types.specs.declared.subscriber.Subscriber.{Subscriber}
 use Rattle.subs_table.specs.Row.{row_of}
@@ -43,8 +44,8 @@ abbrev pub placed : List (List ℕ) → List Placed
 placed lines = placed_behind [] lines
 
 -- a line's number, from 1; those above the last of 32 bits count as that one
-abbrev pub number_at : Placed → ℕ
-number_at p = min (length p.before + 1) (2 ^ 32 - 1)
+abbrev pub placed_number : Placed → ℕ
+placed_number p = min (length p.before + 1) (2 ^ 32 - 1)
 
 -- the headings among lines
 abbrev pub headings : List (List ℕ) → List Section
@@ -67,24 +68,24 @@ counted section lines = filter (is_counted section) (placed lines)
 -- ---- what the lines of a section say
 
 -- the row of a subscriber line; its number is that of the line in its section
-abbrev pub row_at : Placed → Option Subscriber
-row_at p = result_ok (row_of (length (counted Subscribers p.before) + 1) p.line)
+abbrev pub placed_row : Placed → Option Subscriber
+placed_row p = result_ok (row_of (length (counted Subscribers p.before) + 1) p.line)
 
 unfoldable pub rows_of : List (List ℕ) → List Subscriber
-rows_of lines = filter_map row_at (counted Subscribers lines)
+rows_of lines = filter_map placed_row (counted Subscribers lines)
 
-abbrev pub trace_line_at : Placed → Option TraceLine
-trace_line_at p = option_map (λ sent. record { line = number_at p; station = sent.0; text = sent.1 }) (sent_of p.line)
+abbrev pub placed_trace_line : Placed → Option TraceLine
+placed_trace_line p = option_map (λ sent. record { line = placed_number p; station = sent.0; text = sent.1 }) (sent_of p.line)
 
 unfoldable pub trace_of : List (List ℕ) → List TraceLine
-trace_of lines = filter_map trace_line_at (counted Trace lines)
+trace_of lines = filter_map placed_trace_line (counted Trace lines)
 
 -- the event of a schedule line, whose devices are the rows before it
-abbrev pub event_at : Placed → Option Event
-event_at p = event_of (length (rows_of p.before)) p.line
+abbrev pub placed_event : Placed → Option Event
+placed_event p = event_of (length (rows_of p.before)) p.line
 
 unfoldable pub schedule_of : List (List ℕ) → List Event
-schedule_of lines = filter_map event_at (counted Schedule lines)
+schedule_of lines = filter_map placed_event (counted Schedule lines)
 
 -- ---- why a line is refused
 
@@ -94,9 +95,9 @@ heading_reason before None = Some BadSection
 heading_reason before (Some heading) = if list_any (λ earlier. nat_le (place_of heading) (place_of earlier)) before then Some BadSection else None
 
 -- a row that reads, and that the rows before it let in
-abbrev pub row_reason : List Subscriber → Result Subscriber Reason → Option Reason
+abbrev pub row_reason : List Subscriber → Result Subscriber Refusal → Option Reason
 row_reason before (Ok row) = add_refusal before row
-row_reason before (Err reason) = Some reason
+row_reason before (Err e) = Some e.reason
 
 -- a line of the trace or the schedule: one too many, or of another form
 abbrev pub form_reason : ℕ → Bool → Option Reason
@@ -107,11 +108,11 @@ abbrev pub section_reason : Option Section → Placed → Option Reason
 section_reason None p = Some BadSection
 section_reason (Some Subscribers) p = row_reason (rows_of p.before) (row_of (length (counted Subscribers p.before) + 1) p.line)
 section_reason (Some Trace) p = form_reason (length (counted Trace p.before)) (is_some (sent_of p.line))
-section_reason (Some Schedule) p = form_reason (length (counted Schedule p.before)) (is_some (event_at p))
+section_reason (Some Schedule) p = form_reason (length (counted Schedule p.before)) (is_some (placed_event p))
 
 -- why a line is refused, or nothing; the first of these that applies
-unfoldable pub reason_at : Placed → Option Reason
-reason_at p =
+unfoldable pub placed_reason : Placed → Option Reason
+placed_reason p =
     if nat_lt most_octets (length p.line) then Some LineTooLong
     else if is_passed_over p.line then None
     else if is_heading p.line then heading_reason (headings p.before) (heading_of p.line)
@@ -121,7 +122,7 @@ reason_at p =
 
 -- the lines that are refused: their numbers, and why
 abbrev pub refusals : List (List ℕ) → List (ℕ × Reason)
-refusals lines = filter_map (λ p. option_map (λ reason. (number_at p, reason)) (reason_at p)) (placed lines)
+refusals lines = filter_map (λ p. option_map (λ reason. (placed_number p, reason)) (placed_reason p)) (placed lines)
 
 -- the first line that is refused, and why
 unfoldable pub first_bad : List ℕ → Option (ℕ × Reason)

@@ -10,7 +10,8 @@ use Rattle.device_types.specs.declared.subscriber.DeviceId.{DeviceId}
 use Rattle.device_types.specs.Event.{IsInForm}
 use Rattle.case_form.specs.declared.event.Verb.{Verb}
 use Rattle.case_form.specs.declared.event.Verb.TheVariants.{Send, Take, Answer, Read, Write, Stop, Reply, Push, Effect, Settle}
-use Rattle.case_form.specs.Words.{Reader, ◌>>=◌, done, word_in, number_in, whole, words_of}
+use Rattle.echo_base.specs.Reading.{◌>>=◌, done, known}
+use Rattle.case_form.specs.Words.{Reader, word_at, number_at, whole, words_of}
 
 -- the verbs
 unfoldable pub verb_of : List ℕ → Option Verb
@@ -41,90 +42,90 @@ call_lane lane.Down = None
 call_lane lane.Gateway = Some lane.Gateway
 call_lane lane.Subscriber = Some lane.Subscriber
 
-unfoldable pub verb_in : Reader Verb
-verb_in = do
-  word ← word_in
-  done (verb_of word)
+unfoldable pub verb_at : Reader Verb
+verb_at = do
+  word ← word_at
+  known (verb_of word) tt
 
-unfoldable pub lane_in : Reader Lane
-lane_in = do
-  word ← word_in
-  done (lane_of word)
+unfoldable pub lane_at : Reader Lane
+lane_at = do
+  word ← word_at
+  known (lane_of word) tt
 
-unfoldable pub call_lane_in : Reader Lane
-call_lane_in = do
-  lane ← lane_in
-  done (call_lane lane)
+unfoldable pub call_lane_at : Reader Lane
+call_lane_at = do
+  lane ← lane_at
+  known (call_lane lane) tt
 
 -- a device by its row, of so many rows
-unfoldable pub device_in : ℕ → Reader DeviceId
-device_in rows = do
-  n ← number_in rows
-  done (Some (record { 0 = n }))
+unfoldable pub device_at : ℕ → Reader DeviceId
+device_at rows = do
+  n ← number_at rows
+  done (record { 0 = n })
 
 -- the number of a replica
-abbrev pub replica_in : Reader ℕ
-replica_in = number_in 16
+abbrev pub replica_at : Reader ℕ
+replica_at = number_at 16
 
 -- the number of a message or an effect
-abbrev pub count_in : Reader ℕ
-count_in = number_in 4294967295
+abbrev pub count_at : Reader ℕ
+count_at = number_at 4294967295
 
 -- a message of a device
-unfoldable pub message_in : ℕ → Reader (DeviceId × ℕ)
-message_in rows = do
-  d ← device_in rows
-  n ← count_in
-  done (Some (d, n))
+unfoldable pub message_at : ℕ → Reader (DeviceId × ℕ)
+message_at rows = do
+  d ← device_at rows
+  n ← count_at
+  done (d, n)
 
 -- an effect on a lane of a device
-unfoldable pub effect_in : ℕ → Reader (DeviceId × Lane × ℕ)
-effect_in rows = do
-  d ← device_in rows
-  lane ← lane_in
-  k ← count_in
-  done (Some (d, lane, k))
+unfoldable pub effect_at : ℕ → Reader (DeviceId × Lane × ℕ)
+effect_at rows = do
+  d ← device_at rows
+  lane ← lane_at
+  k ← count_at
+  done (d, lane, k)
 
 -- what the verbs are of
-unfoldable pub event_in : ℕ → Verb → Reader Event
-event_in rows Send = do
-  m ← message_in rows
-  done (Some (event.Send m.0 m.1))
-event_in rows Take = do
-  r ← replica_in
-  m ← message_in rows
-  done (Some (event.Take r m.0 m.1))
-event_in rows Answer = do
-  r ← replica_in
-  d ← device_in rows
-  lane ← call_lane_in
-  k ← count_in
-  done (Some (event.Answer r d lane k))
-event_in rows Read = do
-  r ← replica_in
-  done (Some (event.Read r))
-event_in rows Write = do
-  r ← replica_in
-  done (Some (event.Write r))
-event_in rows Stop = do
-  r ← replica_in
-  done (Some (event.Stop r))
-event_in rows Reply = do
-  m ← message_in rows
-  done (Some (event.Reply m.0 m.1))
-event_in rows Push = do
-  e ← effect_in rows
-  done (Some (event.Push e.0 e.1 e.2))
-event_in rows Effect = do
-  e ← effect_in rows
-  done (Some (event.Effect e.0 e.1 e.2))
-event_in rows Settle = do
-  e ← effect_in rows
-  done (Some (event.Settle e.0 e.1 e.2))
+unfoldable pub event_at : ℕ → Verb → Reader Event
+event_at rows Send = do
+  m ← message_at rows
+  done (event.Send m.0 m.1)
+event_at rows Take = do
+  r ← replica_at
+  m ← message_at rows
+  done (event.Take r m.0 m.1)
+event_at rows Answer = do
+  r ← replica_at
+  d ← device_at rows
+  lane ← call_lane_at
+  k ← count_at
+  done (event.Answer r d lane k)
+event_at rows Read = do
+  r ← replica_at
+  done (event.Read r)
+event_at rows Write = do
+  r ← replica_at
+  done (event.Write r)
+event_at rows Stop = do
+  r ← replica_at
+  done (event.Stop r)
+event_at rows Reply = do
+  m ← message_at rows
+  done (event.Reply m.0 m.1)
+event_at rows Push = do
+  e ← effect_at rows
+  done (event.Push e.0 e.1 e.2)
+event_at rows Effect = do
+  e ← effect_at rows
+  done (event.Effect e.0 e.1 e.2)
+event_at rows Settle = do
+  e ← effect_at rows
+  done (event.Settle e.0 e.1 e.2)
 
 -- the event that a line is, where there are so many rows
 unfoldable pub event_of : ℕ → List ℕ → Option Event
-event_of rows line = whole (verb_in >>= event_in rows) line
+event_of rows line = whole (verb_at >>= event_at rows) line
 
 -- ---- the words of an event
 

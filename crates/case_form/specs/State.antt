@@ -55,8 +55,8 @@ own_reason (Some Trace) seen line = form_reason (length seen.trace) (is_some (se
 own_reason (Some Schedule) seen line = form_reason (length seen.schedule) (is_some (event_of (length seen.rows) line))
 
 -- why a line is refused behind what was seen
-unfoldable pub reason_in : Seen → List ℕ → Option Reason
-reason_in seen line =
+unfoldable pub reason_behind : Seen → List ℕ → Option Reason
+reason_behind seen line =
     if nat_lt most_octets (length line) then Some LineTooLong
     else if is_passed_over line then None
     else if is_heading line then next_heading_reason seen.section (heading_of line)
@@ -85,13 +85,13 @@ after seen line =
     else own_after seen.section seen line
 
 -- the line is counted in the section that was seen
-unfoldable pub counts_in : Option Section → List ℕ → Bool
-counts_in section line = if is_passed_over line then false else if is_heading line then false else is_some section
+unfoldable pub counts_behind : Option Section → List ℕ → Bool
+counts_behind section line = if is_passed_over line then false else if is_heading line then false else is_some section
 
 -- P, and no reason to refuse, or the reason, or no memory, which is taken only where takes_memory says so
 abbrev pub Takes : Result (Unit {0}) Bad → Option Reason → Bool → Type 0 → Type 0
 Takes (Ok v) reason takes_memory P = (reason ≡ None) × P
-Takes (Err (bad.Refused refusal)) reason takes_memory P = reason ≡ Some refusal.reason
+Takes (Err (bad.Refused e)) reason takes_memory P = reason ≡ Some e.reason
 Takes (Err bad.OutOfMemory) reason takes_memory P = takes_memory ≡ true
 
 -- the same of a line of that number

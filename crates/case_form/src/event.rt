@@ -1,8 +1,8 @@
 //! The lines of a schedule.
 
 ghost use Rattle.std.specs.Prelude.{◌≡◌};
-ghost use Rattle.case_form.specs.Words.{Gives};
-ghost use Rattle.case_form.specs.Event.{verb_of, lane_of, verb_in, lane_in, call_lane_in, device_in, count_in, message_in, effect_in, event_in, event_of};
+ghost use Rattle.echo_base.specs.Reading.{GivesSome};
+ghost use Rattle.case_form.specs.Event.{verb_of, lane_of, verb_at, lane_at, call_lane_at, device_at, count_at, message_at, effect_at, event_at, event_of};
 
 use crate::words::Words;
 use device_types::{DeviceId, Event, Lane};
@@ -69,17 +69,17 @@ fn lane_of(word: &[u8]) -> Option<Lane>
 }
 
 /// Reads a lane.
-#[tactic(auto, unfolding(crate::specs::Event::lane_in))]
+#[tactic(auto, unfolding(crate::specs::Event::lane_at))]
 fn read_lane(words: &mut Words) -> Option<Lane>
-    ensures { Gives result words.new (lane_in words.old) }
+    ensures { GivesSome result words.new (lane_at words.old) }
 {
     lane_of(words.word()?)
 }
 
 /// Reads a lane of calls.
-#[tactic(auto, unfolding(crate::specs::Event::call_lane_in))]
+#[tactic(auto, unfolding(crate::specs::Event::call_lane_at))]
 fn read_call_lane(words: &mut Words) -> Option<Lane>
-    ensures { Gives result words.new (call_lane_in words.old) }
+    ensures { GivesSome result words.new (call_lane_at words.old) }
 {
     match read_lane(words)? {
         Lane::Down => None,
@@ -89,24 +89,24 @@ fn read_call_lane(words: &mut Words) -> Option<Lane>
 }
 
 /// Reads the device of one of so many rows.
-#[tactic(auto, unfolding(crate::specs::Event::device_in))]
+#[tactic(auto, unfolding(crate::specs::Event::device_at))]
 fn read_device(words: &mut Words, rows: u32) -> Option<DeviceId>
-    ensures { Gives result words.new (device_in rows words.old) }
+    ensures { GivesSome result words.new (device_at rows words.old) }
 {
     Some(DeviceId(words.number(rows)?))
 }
 
 /// Reads the number of a message or an effect.
 fn read_count(words: &mut Words) -> Option<u64>
-    ensures { Gives result words.new (count_in words.old) }
+    ensures { GivesSome result words.new (count_at words.old) }
 {
     Some(u64::from(words.number(u32::MAX)?))
 }
 
 /// Reads a message of a device.
-#[tactic(auto, unfolding(crate::specs::Event::message_in))]
+#[tactic(auto, unfolding(crate::specs::Event::message_at))]
 fn read_message(words: &mut Words, rows: u32) -> Option<(DeviceId, u64)>
-    ensures { Gives result words.new (message_in rows words.old) }
+    ensures { GivesSome result words.new (message_at rows words.old) }
 {
     let d = read_device(words, rows)?;
     let n = read_count(words)?;
@@ -114,9 +114,9 @@ fn read_message(words: &mut Words, rows: u32) -> Option<(DeviceId, u64)>
 }
 
 /// Reads an effect on a lane of a device.
-#[tactic(auto, unfolding(crate::specs::Event::effect_in))]
+#[tactic(auto, unfolding(crate::specs::Event::effect_at))]
 fn read_effect(words: &mut Words, rows: u32) -> Option<(DeviceId, Lane, u64)>
-    ensures { Gives result words.new (effect_in rows words.old) }
+    ensures { GivesSome result words.new (effect_at rows words.old) }
 {
     let d = read_device(words, rows)?;
     let lane = read_lane(words)?;
@@ -125,9 +125,9 @@ fn read_effect(words: &mut Words, rows: u32) -> Option<(DeviceId, Lane, u64)>
 }
 
 /// Reads what a verb is of, where there are so many rows.
-#[tactic(auto, unfolding(crate::specs::Event::event_in))]
+#[tactic(auto, unfolding(crate::specs::Event::event_at))]
 fn read_rest(words: &mut Words, verb: Verb, rows: u32) -> Option<Event>
-    ensures { Gives result words.new (event_in rows verb words.old) }
+    ensures { GivesSome result words.new (event_at rows verb words.old) }
 {
     match verb {
         Verb::Send => read_message(words, rows).map(|(d, n)| Event::Send { d, n }),
@@ -153,7 +153,7 @@ fn read_rest(words: &mut Words, verb: Verb, rows: u32) -> Option<Event>
 }
 
 /// The event that a line is, where there are so many rows.
-#[tactic(auto, unfolding(crate::specs::Event::verb_in, crate::specs::Event::event_of))]
+#[tactic(auto, unfolding(crate::specs::Event::verb_at, crate::specs::Event::event_of))]
 pub(crate) fn read_event(line: &[u8], rows: u32) -> Option<Event>
     ensures { result ≡ event_of rows line.now }
 {

@@ -1,7 +1,6 @@
 //! Reading a case text, line by line.
 
 ghost use Rattle.std.specs.Prelude.{◌≡◌, ◌+◌, ◌≤◌, length, is_some, true, false, All, Err, IfOk, IfErr};
-ghost use Rattle.echo_base.specs.declared.refusal.Bad.TheVariants.{Refused};
 ghost use Rattle.device_types.specs.Event.{IsInForm};
 ghost use Rattle.device_types.specs.Numbers.{IsWithin};
 ghost use Rattle.subs_table.specs.Row.{row_of};
@@ -10,7 +9,7 @@ ghost use Rattle.case_form.specs.declared.case.CaseBad.TheVariants.{OutOfMemory}
 ghost use Rattle.case_form.specs.Case.{row_reason, form_reason, most_lines, first_bad, MatchFirstBad, IsCase, IsNumbered, HasCounted};
 ghost use Rattle.case_form.specs.Event.{event_of};
 ghost use Rattle.case_form.specs.Section.{heading_of};
-ghost use Rattle.case_form.specs.State.{Takes, TakesLine, counts_in, seen_of, unread, next, next_heading_reason, reason_in, rows_after, trace_after, schedule_after, after};
+ghost use Rattle.case_form.specs.State.{Takes, TakesLine, counts_behind, seen_of, unread, next, next_heading_reason, reason_behind, rows_after, trace_after, schedule_after, after};
 ghost use Rattle.case_form.specs.Trace.{sent_of};
 
 use crate::case::{Case, CaseBad, TraceLine};
@@ -19,7 +18,7 @@ use crate::section::{Section, heading_of, is_heading, is_passed_over};
 use crate::trace::read_sent;
 use bstr::ByteSlice;
 use device_types::{Event, Octets};
-use echo_base::{Bad, Reason, Refusal};
+use echo_base::{Bad, Reason, refused};
 use std::alloc::Global;
 use subs_table::{SubsTable, read_row};
 
@@ -29,23 +28,16 @@ const MOST_OCTETS: usize = 8192;
 /// As many lines as a trace or a schedule may have.
 const MOST_LINES: usize = 100_000;
 
-/// A refusal, which has the place 0.
-fn refused(reason: Reason) -> Bad
-    ensures { result ≡ Refused (record { reason = reason; place = 0 }) }
-{
-    Bad::Refused(Refusal { reason, place: 0 })
-}
-
 /// Goes on to the section of a heading, which has to come later than the section before.
 fn take_heading(section: &mut Option<Section>, line: &[u8]) -> Result<(), Bad>
     ensures { Takes result (next_heading_reason section.old (heading_of line.now)) false
         (section.new ≡ heading_of line.now) }
 {
     let Some(heading) = heading_of(line) else {
-        return Err(refused(Reason::BadSection));
+        return Err(refused(Reason::BadSection).into());
     };
     if Some(heading) <= *section {
-        return Err(refused(Reason::BadSection));
+        return Err(refused(Reason::BadSection).into());
     }
     *section = Some(heading);
     Ok(())
@@ -74,10 +66,10 @@ fn take_trace_line(
         (trace.new.items ≡ trace_after number trace.old.items line.now) }
 {
     if trace.len() >= MOST_LINES {
-        return Err(refused(Reason::TooManyLines));
+        return Err(refused(Reason::TooManyLines).into());
     }
     let Some((station, text)) = read_sent(line) else {
-        return Err(refused(Reason::BadLine));
+        return Err(refused(Reason::BadLine).into());
     };
     let text = Octets::from(Vec::from_slice(alloc, text)?);
     trace.push(TraceLine {
@@ -95,10 +87,10 @@ fn take_event(schedule: &mut Vec<Event>, rows: u32, line: &[u8]) -> Result<(), B
         (schedule.new.items ≡ schedule_after rows schedule.old.items line.now) }
 {
     if schedule.len() >= MOST_LINES {
-        return Err(refused(Reason::TooManyLines));
+        return Err(refused(Reason::TooManyLines).into());
     }
     let Some(event) = read_event(line, rows) else {
-        return Err(refused(Reason::BadLine));
+        return Err(refused(Reason::BadLine).into());
     };
     schedule.push(event)?;
     Ok(())
@@ -133,13 +125,13 @@ fn begin(alloc: Global) -> Reading
 }
 
 /// Takes a line, of the number that is set.
-#[tactic(auto, unfolding(crate::specs::State::reason_in, crate::specs::State::counts_in, crate::specs::State::after))]
+#[tactic(auto, unfolding(crate::specs::State::reason_behind, crate::specs::State::counts_behind, crate::specs::State::after))]
 fn take(reading: &mut Reading, line: &[u8]) -> Result<(), Bad>
-    ensures { Takes result (reason_in (seen_of reading.old) line.now) (counts_in reading.old.section line.now)
+    ensures { Takes result (reason_behind (seen_of reading.old) line.now) (counts_behind reading.old.section line.now)
         (seen_of reading.new ≡ after (seen_of reading.old) line.now) }
 {
     if line.len() > MOST_OCTETS {
-        return Err(refused(Reason::LineTooLong));
+        return Err(refused(Reason::LineTooLong).into());
     }
     if is_passed_over(line) {
         return Ok(());
@@ -150,7 +142,7 @@ fn take(reading: &mut Reading, line: &[u8]) -> Result<(), Bad>
     let alloc = reading.alloc;
     let number = reading.number;
     match reading.section {
-        None => Err(refused(Reason::BadSection)),
+        None => Err(refused(Reason::BadSection).into()),
         Some(Section::Subscribers) => take_row(alloc, &mut reading.case.table, line),
         Some(Section::Trace) => take_trace_line(alloc, &mut reading.case.trace, number, line),
         Some(Section::Schedule) => {
@@ -163,7 +155,7 @@ fn take(reading: &mut Reading, line: &[u8]) -> Result<(), Bad>
 /// Takes the next line.
 fn take_next(reading: &mut Reading, line: &[u8]) -> Result<(), CaseBad>
     ensures { let seen = next (seen_of reading.old) in
-        TakesLine result (reason_in seen line.now) (counts_in seen.section line.now) seen.number
+        TakesLine result (reason_behind seen line.now) (counts_behind seen.section line.now) seen.number
         (seen_of reading.new ≡ after seen line.now) }
 {
     let number = reading.number.saturating_add(1);

@@ -1,15 +1,15 @@
 //! The lines of a trace.
 
 ghost use Rattle.std.specs.Prelude.{◌≡◌, option_map};
-ghost use Rattle.case_form.specs.Words.{GivesBy};
-ghost use Rattle.case_form.specs.Trace.{text_in, sent_of};
+ghost use Rattle.echo_base.specs.Reading.{GivesSomeBy};
+ghost use Rattle.case_form.specs.Trace.{text_at, sent_of};
 
 use crate::words::Words;
 
 /// Reads a word that is not empty.
-#[tactic(auto, unfolding(crate::specs::Trace::text_in))]
+#[tactic(auto, unfolding(crate::specs::Trace::text_at))]
 fn read_text<'a>(words: &mut Words<'a>) -> Option<&'a [u8]>
-    ensures { GivesBy (λ text. text.now) result words.new (text_in words.old) }
+    ensures { GivesSomeBy (λ text. text.now) result words.new (text_at words.old) }
 {
     let text = words.word()?;
     if text.is_empty() {
@@ -19,7 +19,7 @@ fn read_text<'a>(words: &mut Words<'a>) -> Option<&'a [u8]>
 }
 
 /// The base station that a line of a trace names, and the text behind it.
-#[tactic(auto, unfolding(crate::specs::Trace::sent_in, crate::specs::Trace::sent_of))]
+#[tactic(auto, unfolding(crate::specs::Trace::sent_at, crate::specs::Trace::sent_of))]
 pub(crate) fn read_sent(line: &[u8]) -> Option<(u16, &[u8])>
     ensures { option_map (λ sent. (sent.0, sent.1.now)) result ≡ sent_of line.now }
 {

@@ -31,7 +31,8 @@ fn first_space(octets: &[u8]) -> Option<usize>
 
 impl<'a> Words<'a> {
     ghost use Rattle.std.specs.Prelude.{length, ◌≤◌, IfSome};
-    ghost use Rattle.case_form.specs.Words.{words_of, word_in, number_in, Gives, GivesBy};
+    ghost use Rattle.echo_base.specs.Reading.{GivesSome, GivesSomeBy};
+    ghost use Rattle.case_form.specs.Words.{words_of, word_at, number_at};
 
     /// All words of a line.
     pub(crate) fn new(line: &'a [u8]) -> Words<'a>
@@ -42,7 +43,7 @@ impl<'a> Words<'a> {
 
     /// The next word, if there is one.
     pub(crate) fn word(&mut self) -> Option<&'a [u8]>
-        ensures { GivesBy (λ word. word.now) result self.new (word_in self.old) }
+        ensures { GivesSomeBy (λ word. word.now) result self.new (word_at self.old) }
     {
         let left = self.left?;
         match first_space(left) {
@@ -58,9 +59,9 @@ impl<'a> Words<'a> {
     }
 
     /// The next word as a number from 1 to `most`, if it is one.
-    #[tactic(auto, unfolding(crate::specs::Words::number_in))]
+    #[tactic(auto, unfolding(crate::specs::Words::number_at))]
     pub(crate) fn number(&mut self, most: u32) -> Option<u32>
-        ensures read { Gives result self.new (number_in most self.old) }
+        ensures read { GivesSome result self.new (number_at most self.old) }
         ensures most { IfSome result (λ n. n ≤ most) }
     {
         number_of(self.word()?, most)

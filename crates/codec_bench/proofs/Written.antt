@@ -13,7 +13,7 @@ use Rattle.s1ap_ies.specs.Names.{criticality_number}
 use Rattle.s1ap_ies.specs.Run.{choice_run}
 use Rattle.s1ap_messages.specs.Messages.{outcome_index, header_of, kind_of, values_of}
 use Rattle.s1ap_messages.specs.Run.{header_run, ies_run, pdu_run, written}
-use Rattle.s1ap_messages.specs.Answer.{IsAnswer}
+use Rattle.echo_base.specs.Answer.{IsAnswer}
 use Rattle.codec_bench.specs.declared.sample.Sample.{Sample}
 use Rattle.codec_bench.specs.Sample.{IsSample, IsMore}
 

@@ -1,13 +1,11 @@
 //! The messages that are read and written.
 
-ghost use Rattle.std.specs.Prelude.{◌≡◌, ◌↔◌, IsTrue, IfOk, IfErr};
+ghost use Rattle.std.specs.Prelude.{◌≡◌, IfOk, IfErr};
 ghost use Rattle.hex.specs.Hex.{decode_of};
-ghost use Rattle.hex.specs.declared.error.FromHexError.TheVariants.{OutOfMemory};
 ghost use Rattle.codec_bench.specs.Sample.{IsSampleOf, IsDueTo};
 
 use device_types::Octets;
-use echo_base::{Bad, Refusal};
-use hex::FromHexError;
+use echo_base::{Bad, Refusal, decode_hex};
 use s1ap_messages::{Pdu, read_pdu};
 use std::alloc::Global;
 use thiserror::Error;
@@ -35,27 +33,15 @@ pub enum SampleError {
     OutOfMemory,
 }
 
-/// Was there no memory for the octets?
-fn is_memory(error: &FromHexError) -> bool
-    ensures { IsTrue result ↔ (error.now ≡ OutOfMemory) }
-{
-    matches!(error, FromHexError::OutOfMemory)
-}
-
 /// The octets of a line of hexadecimal digits.
 fn decode(alloc: Global, line: &str) -> Result<Octets, SampleError>
     ensures ok { IfOk result (λ octets. decode_of line.now ≡ Ok octets) }
     ensures err { IfErr result (IsDueTo line.now) }
 {
-    match hex::decode(alloc, line) {
-        Ok(octets) => Ok(Octets::from(octets)),
-        Err(error) => {
-            if is_memory(&error) {
-                Err(SampleError::OutOfMemory)
-            } else {
-                Err(SampleError::NotHex)
-            }
-        }
+    match decode_hex(alloc, line.as_bytes()) {
+        Ok(Some(octets)) => Ok(Octets::from(octets)),
+        Ok(None) => Err(SampleError::NotHex),
+        Err(_) => Err(SampleError::OutOfMemory),
     }
 }
 

@@ -1,2 +1,5 @@
+pub mod Answers
+pub mod Fields
+pub mod Formats
 pub mod Printed
 pub mod Taking

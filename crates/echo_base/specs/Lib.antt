@@ -1,5 +1,9 @@
+pub mod Answer
+pub mod Field
+pub mod Format
 pub mod Memory
 pub mod Outside
+pub mod Reading
 pub mod Reason
 pub mod Refusal
 pub mod Status

@@ -1,6 +1,8 @@
 //! What every other crate stands on: octets in and out, refusals, and the statuses of the programs.
 #![tactic(auto)]
 
+mod hexadecimal;
+mod laws;
 mod memory;
 mod plan;
 mod real;
@@ -13,11 +15,13 @@ mod status;
 mod tests;
 mod whole;
 
+pub use hexadecimal::decode_hex;
+pub use laws::fields_are_exact;
 pub use memory::{MemSink, MemSource, SureSource};
 pub use plan::Give;
 pub use real::{RealSink, RealSource};
 pub use reason::{Column, Identity, Reason, name_of_number};
-pub use refusal::{Bad, Refusal};
+pub use refusal::{Bad, Refusal, refused};
 pub use sink::{Sink, WriteStep};
 pub use source::{ReadStep, Source};
 pub use status::Status;

@@ -1,6 +1,7 @@
 //! What is refused, and where.
 ghost use Rattle.std.specs.Prelude.{◌≡◌, Some};
 ghost use Rattle.echo_base.specs.Reason.{hex_octet};
+ghost use Rattle.echo_base.specs.Answer.{refused};
 ghost use Rattle.echo_base.specs.Refusal.{refusal_text};
 
 use crate::{OutOfMemory, Reason};
@@ -14,6 +15,13 @@ pub struct Refusal {
     pub reason: Reason,
     /// The octet's place for what is refused in a PDU or a session, and else 0.
     pub place: u64,
+}
+
+/// The refusal of what is not in a PDU or a session, which has the place 0.
+pub fn refused(reason: Reason) -> Refusal
+    ensures { result ≡ refused reason }
+{
+    Refusal { reason, place: 0 }
 }
 
 /// An octet, printed in two hexadecimal digits.

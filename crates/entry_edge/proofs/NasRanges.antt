@@ -2,8 +2,10 @@
 use Rattle.std.proofs.Common.{ℕ, ◌+◌, ◌*◌, ◌/◌, ◌%◌, ◌<◌, Bool, true, false, cond, List, [], ◌∷◌, length, take, drop, Option, Some, None, Ok, Err}
 use Rattle.std.specs.Prelude.{IfSome, IfOk, nat_lt, ◌==◌}
 use Rattle.std.proofs.lemmas.List.Elements.{All-take, All-drop, All-from_recursion, recursion_from_All}
-use Rattle.echo_base.specs.declared.reason.Reason.{Reason}
-use Rattle.echo_base.specs.declared.reason.Reason.TheVariants as reasons
+use Rattle.echo_base.specs.declared.refusal.Refusal.{Refusal}
+use Rattle.echo_base.specs.Field.{octet_at, octets_at, counted_at, long_counted_at}
+use Rattle.echo_base.specs.Reading.{Read, ◌>>=◌, done, known, value_of}
+use Rattle.echo_base.proofs.Answers.{bind}
 use Rattle.device_types.specs.Octets.{AreOctets}
 use Rattle.nas_kinds.specs.declared.kind.Header.{Header}
 use Rattle.nas_kinds.specs.declared.kind.Header.TheVariants.{Plain, Protected, Service}
@@ -11,14 +13,15 @@ use Rattle.nas_kinds.specs.declared.kind.Kind.{Kind}
 use Rattle.nas_kinds.specs.declared.kind.Kind.TheVariants as kinds
 use Rattle.nas_kinds.specs.declared.nas_in.NasIn.{NasIn}
 use Rattle.nas_kinds.specs.declared.nas_in.NasIn.TheVariants.{AttachRequest, AttachComplete, DetachRequest, AreaRequest, AuthResponse, SecurityComplete, SecurityReject, ServiceRequest}
-use Rattle.nas_kinds.specs.Reading.{Read, Reader, on, ◌>>=◌, done, known, octet_at, octets_at, counted_at, long_counted_at, identity_of, identity_at, algorithms_of, capability_at, pti_of, container_at, attach_request_at, attach_complete_at, detach_request_at, area_request_at, auth_response_at, security_reject_at, fields_at, kind_of, kind_at, message_at, header_of, header_at, security_at, protected_at, service_at, behind_at, nas_at, message_of, nas_of}
+use Rattle.nas_kinds.specs.Reading.{Reader, identity_of, identity_at, algorithms_of, capability_at, pti_of, container_at, attach_request_at, attach_complete_at, detach_request_at, area_request_at, auth_response_at, security_reject_at, fields_at, kind_of, kind_at, message_at, header_of, header_at, security_at, protected_at, service_at, behind_at, nas_at, nas_of}
+use Rattle.nas_kinds.specs.Kinds.{short}
 
 -- ---- readings of octets
 
 -- what is read meets P, and what is left are octets
-abbrev Yields : {A : Type 0} → (A → Type 0) → Read A → Type 0
+abbrev Yields : {A : Type 0} → (A → Type 0) → Read (List ℕ) Refusal A → Type 0
 Yields P (Ok x) = P x.0 × AreOctets x.1
-Yields P (Err reason) = Unit {0}
+Yields P (Err e) = Unit {0}
 
 abbrev IsRanged : {A : Type 0} → (A → Type 0) → Reader A → Type 0
 IsRanged P f = (octets : List ℕ) → AreOctets octets → Yields P (f octets)
@@ -26,9 +29,9 @@ IsRanged P f = (octets : List ℕ) → AreOctets octets → Yields P (f octets)
 abbrev Any : {A : Type 0} → A → Type 0
 Any v = Unit {0}
 
-on_yields : {A B : Type 0} (P : A → Type 0) (Q : B → Type 0) (r : Read A) (g : A → Reader B) → Yields P r → ((x : A) → P x → IsRanged Q (g x)) → Yields Q (on r g)
+on_yields : {A B : Type 0} (P : A → Type 0) (Q : B → Type 0) (r : Read (List ℕ) Refusal A) (g : A → Reader B) → Yields P r → ((x : A) → P x → IsRanged Q (g x)) → Yields Q (bind r (λ x. g x.0 x.1))
 on_yields P Q (Ok x) g h k = k x.0 h.0 x.1 h.1
-on_yields P Q (Err reason) g h k = tt
+on_yields P Q (Err e) g h k = tt
 
 behind : {A B : Type 0} (P : A → Type 0) (Q : B → Type 0) (f : Reader A) (g : A → Reader B) → IsRanged P f → ((x : A) → P x → IsRanged Q (g x)) → IsRanged Q (f >>= g)
 behind P Q f g h k = λ octets all. on_yields P Q (f octets) g (h octets all) k
@@ -36,9 +39,9 @@ behind P Q f g h k = λ octets all. on_yields P Q (f octets) g (h octets all) k
 done_ranged : {A : Type 0} (P : A → Type 0) (v : A) → P v → IsRanged P (done v)
 done_ranged P v h = λ octets all. (h, all)
 
-known_ranged : {A : Type 0} (P : A → Type 0) (o : Option A) (reason : Reason) → IfSome o P → IsRanged P (known o reason)
-known_ranged P (Some v) reason h = λ octets all. (h, all)
-known_ranged P None reason h = λ octets all. tt
+known_ranged : {A : Type 0} (P : A → Type 0) (o : Option A) (e : Refusal) → IfSome o P → IsRanged P (known o e)
+known_ranged P (Some v) e h = λ octets all. (h, all)
+known_ranged P None e h = λ octets all. tt
 
 some_any : {A : Type 0} (o : Option A) → IfSome o Any
 some_any (Some v) = tt
@@ -49,30 +52,30 @@ some_any None = tt
 abbrev IsOctet : ℕ → Type 0
 IsOctet octet = octet < 256
 
-octet_ranged : IsRanged IsOctet octet_at
+octet_ranged : IsRanged IsOctet (octet_at short)
 unfolding octet_at
 octet_ranged [] all = tt
 octet_ranged (octet ∷ octets) all = let parts = recursion_from_All IsOctet (octet ∷ octets) all in (parts.0, All-from_recursion IsOctet octets parts.1)
 
-octets_by : (n : ℕ) (octets : List ℕ) (short : Bool) → AreOctets octets → Yields AreOctets (cond short (Err reasons.NasShort) (Ok (take n octets, drop n octets)))
+octets_by : (n : ℕ) (octets : List ℕ) (few : Bool) → AreOctets octets → Yields AreOctets (cond few (Err short) (Ok (take n octets, drop n octets)))
 octets_by n octets true all = tt
 octets_by n octets false all = (All-take IsOctet n octets all, All-drop IsOctet n octets all)
 
-octets_ranged : (n : ℕ) → IsRanged AreOctets (octets_at n)
+octets_ranged : (n : ℕ) → IsRanged AreOctets (octets_at short n)
 unfolding octets_at
 octets_ranged n = λ octets all. octets_by n octets (nat_lt (length octets) n) all
 
-counted_ranged : IsRanged AreOctets counted_at
+counted_ranged : IsRanged AreOctets (counted_at short)
 unfolding counted_at
-counted_ranged = behind IsOctet AreOctets octet_at octets_at octet_ranged (λ n h. octets_ranged n)
+counted_ranged = behind IsOctet AreOctets (octet_at short) (octets_at short) octet_ranged (λ n h. octets_ranged n)
 
-long_counted_ranged : IsRanged AreOctets long_counted_at
+long_counted_ranged : IsRanged AreOctets (long_counted_at short)
 unfolding long_counted_at
-long_counted_ranged = behind IsOctet AreOctets octet_at _ octet_ranged (λ high h. behind IsOctet AreOctets octet_at _ octet_ranged (λ low l. octets_ranged (256 * high + low)))
+long_counted_ranged = behind IsOctet AreOctets (octet_at short) _ octet_ranged (λ high h. behind IsOctet AreOctets (octet_at short) _ octet_ranged (λ low l. octets_ranged (256 * high + low)))
 
 identity_ranged : IsRanged Any identity_at
 unfolding identity_at
-identity_ranged = behind AreOctets Any counted_at _ counted_ranged (λ octets h. known_ranged Any (identity_of octets) reasons.NasIdentity (some_any (identity_of octets)))
+identity_ranged = behind AreOctets Any (counted_at short) _ counted_ranged (λ octets h. known_ranged Any (identity_of octets) _ (some_any (identity_of octets)))
 
 abbrev ArePair : ℕ × ℕ → Type 0
 ArePair v = (v.0 < 256) × (v.1 < 256)
@@ -84,7 +87,7 @@ algorithms_right (eea ∷ eia ∷ more) all = let parts = recursion_from_All IsO
 
 capability_ranged : IsRanged ArePair capability_at
 unfolding capability_at
-capability_ranged = behind AreOctets ArePair counted_at _ counted_ranged (λ octets h. known_ranged ArePair (algorithms_of octets) reasons.NasShort (algorithms_right octets h))
+capability_ranged = behind AreOctets ArePair (counted_at short) _ counted_ranged (λ octets h. known_ranged ArePair (algorithms_of octets) _ (algorithms_right octets h))
 
 pti_right : (octets : List ℕ) → AreOctets octets → IfSome (pti_of octets) IsOctet
 pti_right [] all = tt
@@ -94,7 +97,7 @@ pti_right (bearer ∷ pti ∷ type ∷ more) all = (recursion_from_All IsOctet (
 
 container_ranged : IsRanged IsOctet container_at
 unfolding container_at
-container_ranged = behind AreOctets IsOctet long_counted_at _ long_counted_ranged (λ octets h. known_ranged IsOctet (pti_of octets) reasons.NasShort (pti_right octets h))
+container_ranged = behind AreOctets IsOctet (long_counted_at short) _ long_counted_ranged (λ octets h. known_ranged IsOctet (pti_of octets) _ (pti_right octets h))
 
 -- ---- messages
 
@@ -111,27 +114,27 @@ IsNasRight ServiceRequest = Unit {0}
 
 attach_ranged : IsRanged IsNasRight attach_request_at
 unfolding attach_request_at
-attach_ranged = behind IsOctet IsNasRight octet_at _ octet_ranged (λ type t. behind Any IsNasRight identity_at _ identity_ranged (λ identity i. behind ArePair IsNasRight capability_at _ capability_ranged (λ capability c. behind IsOctet IsNasRight container_at _ container_ranged (λ pti p. done_ranged IsNasRight (AttachRequest identity capability.0 capability.1 pti) (c.0, c.1, p)))))
+attach_ranged = behind IsOctet IsNasRight (octet_at short) _ octet_ranged (λ type t. behind Any IsNasRight identity_at _ identity_ranged (λ identity i. behind ArePair IsNasRight capability_at _ capability_ranged (λ capability c. behind IsOctet IsNasRight container_at _ container_ranged (λ pti p. done_ranged IsNasRight (AttachRequest identity capability.0 capability.1 pti) (c.0, c.1, p)))))
 
 complete_ranged : IsRanged IsNasRight attach_complete_at
 unfolding attach_complete_at
-complete_ranged = behind AreOctets IsNasRight long_counted_at _ long_counted_ranged (λ container c. done_ranged IsNasRight AttachComplete tt)
+complete_ranged = behind AreOctets IsNasRight (long_counted_at short) _ long_counted_ranged (λ container c. done_ranged IsNasRight AttachComplete tt)
 
 detach_ranged : IsRanged IsNasRight detach_request_at
 unfolding detach_request_at
-detach_ranged = behind IsOctet IsNasRight octet_at _ octet_ranged (λ type t. behind Any IsNasRight identity_at _ identity_ranged (λ identity i. done_ranged IsNasRight (DetachRequest (type / 8 % 2 == 1) identity) tt))
+detach_ranged = behind IsOctet IsNasRight (octet_at short) _ octet_ranged (λ type t. behind Any IsNasRight identity_at _ identity_ranged (λ identity i. done_ranged IsNasRight (DetachRequest (type / 8 % 2 == 1) identity) tt))
 
 area_ranged : IsRanged IsNasRight area_request_at
 unfolding area_request_at
-area_ranged = behind IsOctet IsNasRight octet_at _ octet_ranged (λ type t. behind Any IsNasRight identity_at _ identity_ranged (λ identity i. done_ranged IsNasRight (AreaRequest identity) tt))
+area_ranged = behind IsOctet IsNasRight (octet_at short) _ octet_ranged (λ type t. behind Any IsNasRight identity_at _ identity_ranged (λ identity i. done_ranged IsNasRight (AreaRequest identity) tt))
 
 response_ranged : IsRanged IsNasRight auth_response_at
 unfolding auth_response_at
-response_ranged = behind AreOctets IsNasRight counted_at _ counted_ranged (λ res r. done_ranged IsNasRight (AuthResponse res) r)
+response_ranged = behind AreOctets IsNasRight (counted_at short) _ counted_ranged (λ res r. done_ranged IsNasRight (AuthResponse res) r)
 
 reject_ranged : IsRanged IsNasRight security_reject_at
 unfolding security_reject_at
-reject_ranged = behind IsOctet IsNasRight octet_at _ octet_ranged (λ cause c. done_ranged IsNasRight (SecurityReject cause) tt)
+reject_ranged = behind IsOctet IsNasRight (octet_at short) _ octet_ranged (λ cause c. done_ranged IsNasRight (SecurityReject cause) tt)
 
 fields_ranged : (kind : Kind) → IsRanged IsNasRight (fields_at kind)
 fields_ranged kinds.AttachRequest = attach_ranged
@@ -144,7 +147,7 @@ fields_ranged kinds.SecurityReject = reject_ranged
 
 kind_ranged : IsRanged Any kind_at
 unfolding kind_at
-kind_ranged = behind IsOctet Any octet_at _ octet_ranged (λ octet o. known_ranged Any (kind_of octet) _ (some_any (kind_of octet)))
+kind_ranged = behind IsOctet Any (octet_at short) _ octet_ranged (λ octet o. known_ranged Any (kind_of octet) _ (some_any (kind_of octet)))
 
 message_ranged : IsRanged IsNasRight message_at
 unfolding message_at
@@ -152,11 +155,11 @@ message_ranged = behind Any IsNasRight kind_at fields_at kind_ranged (λ kind k.
 
 header_ranged : IsRanged Any header_at
 unfolding header_at
-header_ranged = behind IsOctet Any octet_at _ octet_ranged (λ octet o. known_ranged Any (header_of octet) _ (some_any (header_of octet)))
+header_ranged = behind IsOctet Any (octet_at short) _ octet_ranged (λ octet o. known_ranged Any (header_of octet) _ (some_any (header_of octet)))
 
 security_ranged : IsRanged Any security_at
 unfolding security_at
-security_ranged = behind AreOctets Any (octets_at 4) _ (octets_ranged 4) (λ code c. behind IsOctet Any octet_at _ octet_ranged (λ number n. behind IsOctet Any octet_at _ octet_ranged (λ inner i. known_ranged Any _ _ (some_any _))))
+security_ranged = behind AreOctets Any (octets_at short 4) _ (octets_ranged 4) (λ code c. behind IsOctet Any (octet_at short) _ octet_ranged (λ number n. behind IsOctet Any (octet_at short) _ octet_ranged (λ inner i. known_ranged Any _ _ (some_any _))))
 
 protected_ranged : IsRanged IsNasRight protected_at
 unfolding protected_at
@@ -164,7 +167,7 @@ protected_ranged = behind Any IsNasRight security_at _ security_ranged (λ secur
 
 service_ranged : IsRanged IsNasRight service_at
 unfolding service_at
-service_ranged = behind AreOctets IsNasRight (octets_at 3) _ (octets_ranged 3) (λ behind b. done_ranged IsNasRight ServiceRequest tt)
+service_ranged = behind AreOctets IsNasRight (octets_at short 3) _ (octets_ranged 3) (λ behind b. done_ranged IsNasRight ServiceRequest tt)
 
 behind_ranged : (header : Header) → IsRanged IsNasRight (behind_at header)
 behind_ranged Plain = message_ranged
@@ -175,9 +178,9 @@ nas_ranged : IsRanged IsNasRight nas_at
 unfolding nas_at
 nas_ranged = behind Any IsNasRight header_at behind_at header_ranged (λ header h. behind_ranged header)
 
-read_right : (read : Read NasIn) → Yields IsNasRight read → IfOk (message_of read) IsNasRight
+read_right : (read : Read (List ℕ) Refusal NasIn) → Yields IsNasRight read → IfOk (value_of read) IsNasRight
 read_right (Ok x) h = h.0
-read_right (Err reason) h = tt
+read_right (Err e) h = tt
 
 pub nas_right : (octets : List ℕ) → AreOctets octets → IfOk (nas_of octets) IsNasRight
 unfolding nas_of

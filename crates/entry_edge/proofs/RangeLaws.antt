@@ -5,8 +5,8 @@ use Rattle.std.specs.List.{AllByRecursion, range_with_len}
 use Rattle.std.proofs.lemmas.Bool.{cases_Bool}
 use Rattle.std.proofs.lemmas.List.{length-append, map-append}
 use Rattle.std.proofs.lemmas.List.Elements.{All-nil, All-push, All-from_recursion, recursion_from_All}
-use Rattle.echo_base.specs.declared.reason.Reason.{Reason}
 use Rattle.echo_base.specs.declared.refusal.Refusal.{Refusal}
+use Rattle.echo_base.specs.Answer.{◌>>=◌}
 use Rattle.echo_base.specs.declared.reason.Identity.{Identity}
 use Rattle.device_types.specs.declared.subscriber.Subscriber.{Subscriber}
 use Rattle.device_types.specs.declared.subscriber.DeviceId.{DeviceId}
@@ -32,7 +32,7 @@ use Rattle.nas_kinds.specs.declared.nas_in.NasIn.TheVariants.{AttachRequest, Att
 use Rattle.nas_kinds.specs.Reading.{nas_of}
 use Rattle.entry_edge.specs.declared.sent.Sent.{Sent}
 use Rattle.entry_edge.specs.declared.check.Taken.{Taken}
-use Rattle.entry_edge.specs.Sent.{◌>>=◌, octets_of, without_place, service_from, request_of, onward_of, context_from, named, numbered, code_of, sent_of, said_by}
+use Rattle.entry_edge.specs.Sent.{octets_of, service_from, request_of, onward_of, context_from, named, numbered, code_of, sent_of, said_by}
 use Rattle.entry_edge.specs.Trace.{Turn, Admitted, Refused, device_for, taken_by, taken_at, turn_of, turn, history, and_message, messages_of, book_of}
 use Rattle.entry_edge.proofs.Causes.{cause_left}
 use Rattle.entry_edge.proofs.NasRanges.{IsNasRight, nas_right}
@@ -80,11 +80,11 @@ numbered_right : (mme enb : ℕ) (body : Result Body Refusal) (s : Sent) → enb
 numbered_right mme enb (Ok body) s en h e = is_sent _ s (en, h) e
 numbered_right mme enb (Err x) s en h e = absurd (cc e)
 
-initial_right : (end enb : ℕ) (tai : Tai) (stmsi : Option Stmsi) (read : Result NasIn Reason) (s : Sent) → enb < 2 ^ 24 → IsTai tai → IfOk read IsNasRight → (without_place read >>= request_of end tai stmsi >>= named enb) ≡ Ok s → IsSentRight s
+initial_right : (end enb : ℕ) (tai : Tai) (stmsi : Option Stmsi) (read : Result NasIn Refusal) (s : Sent) → enb < 2 ^ 24 → IsTai tai → IfOk read IsNasRight → (read >>= request_of end tai stmsi >>= named enb) ≡ Ok s → IsSentRight s
 initial_right end enb tai stmsi (Ok m) s en h n e = named_right enb (request_of end tai stmsi m) s en (request_right end tai stmsi m h n) e
 initial_right end enb tai stmsi (Err x) s en h n e = absurd (cc e)
 
-uplink_right : (mme enb : ℕ) (tai : Tai) (read : Result NasIn Reason) (s : Sent) → enb < 2 ^ 24 → IsTai tai → IfOk read IsNasRight → (without_place read >>= onward_of tai >>= numbered mme enb) ≡ Ok s → IsSentRight s
+uplink_right : (mme enb : ℕ) (tai : Tai) (read : Result NasIn Refusal) (s : Sent) → enb < 2 ^ 24 → IsTai tai → IfOk read IsNasRight → (read >>= onward_of tai >>= numbered mme enb) ≡ Ok s → IsSentRight s
 uplink_right mme enb tai (Ok m) s en h n e = numbered_right mme enb (onward_of tai m) s en (onward_right tai m h n) e
 uplink_right mme enb tai (Err x) s en h n e = absurd (cc e)
 

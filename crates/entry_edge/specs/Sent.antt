@@ -2,11 +2,11 @@
 use Rattle.std.specs.Prelude.{ℕ, ◌==◌, Bool, true, false, List, [], ◌∷◌, length, find, Option, Some, None, Result, Ok, Err}
 use Rattle.hex.specs.Hex.{decode_of}
 use Rattle.hex.specs.declared.error.FromHexError.{FromHexError}
-use Rattle.echo_base.specs.declared.reason.Reason.{Reason}
 use Rattle.echo_base.specs.declared.reason.Reason.TheVariants.{BadHex, WrongDirection, MissingIe, NasKind}
 use Rattle.echo_base.specs.declared.reason.Identity.{Identity}
 use Rattle.echo_base.specs.declared.reason.Identity.TheVariants.{Tmsi}
 use Rattle.echo_base.specs.declared.refusal.Refusal.{Refusal}
+use Rattle.echo_base.specs.Answer.{◌>>=◌, refused}
 use Rattle.device_types.specs.declared.message.Body.{Body}
 use Rattle.device_types.specs.declared.message.Body.TheVariants.{Attach, Service, Area, Detach, Response, Secured, SecurityRefused, AttachDone, ContextDone, ContextFailed, ReleaseAsked, Released, Capability}
 use Rattle.device_types.specs.declared.cause.CauseCode.{CauseCode}
@@ -24,40 +24,22 @@ use Rattle.nas_kinds.specs.Reading.{nas_of}
 use Rattle.entry_edge.specs.declared.sent.Claim.TheVariants.{Named, Numbered}
 use Rattle.entry_edge.specs.declared.sent.Sent.{Sent}
 
--- what comes of a check, and behind it the next
-infixl 10 ◌>>=◌
-abbrev pub ◌>>=◌ : {A B : Type 0} → Result A Refusal → (A → Result B Refusal) → Result B Refusal
-(Ok x) >>= f = f x
-(Err e) >>= f = Err e
-
--- refused, at a place, and without one
-abbrev pub refused_at : {A : Type 0} → Reason → ℕ → Result A Refusal
-refused_at reason place = Err (record { reason = reason; place = place })
-
-abbrev pub refused : {A : Type 0} → Reason → Result A Refusal
-refused reason = refused_at reason 0
-
 -- ---- the text
 
 -- the octets, at least one, that hexadecimal text stands for
 abbrev pub some_octets : Result (List ℕ) FromHexError → Result (List ℕ) Refusal
-some_octets (Ok []) = refused BadHex
+some_octets (Ok []) = Err (refused BadHex)
 some_octets (Ok (octet ∷ octets)) = Ok (octet ∷ octets)
-some_octets (Err e) = refused BadHex
+some_octets (Err e) = Err (refused BadHex)
 
 unfoldable pub octets_of : List ℕ → Result (List ℕ) Refusal
 octets_of text = some_octets (decode_of text)
 
 -- ---- the message
 
--- a refusal of a NAS message has no place
-abbrev pub without_place : Result NasIn Reason → Result NasIn Refusal
-without_place (Ok nas) = Ok nas
-without_place (Err reason) = refused reason
-
 -- An INITIAL UE MESSAGE carries a request, which says which device it is from. A SERVICE REQUEST says it by the S-TMSI; at the end of the PDU that is missing.
 abbrev pub service_from : ℕ → Option Stmsi → Result (Identity × Body) Refusal
-service_from end None = refused_at (MissingIe 96) end
+service_from end None = Err (record { reason = MissingIe 96; place = end })
 service_from end (Some stmsi) = Ok (Tmsi stmsi.tmsi, Service)
 
 abbrev pub request_of : ℕ → Tai → Option Stmsi → NasIn → Result (Identity × Body) Refusal
@@ -65,7 +47,7 @@ request_of end tai stmsi (AttachRequest identity eea eia pti) = Ok (identity, At
 request_of end tai stmsi (DetachRequest off identity) = Ok (identity, Detach true off)
 request_of end tai stmsi (AreaRequest identity) = Ok (identity, Area true tai.plmn tai.tac)
 request_of end tai stmsi ServiceRequest = service_from end stmsi
-request_of end tai stmsi nas = refused (NasKind (type_of nas))
+request_of end tai stmsi nas = Err (refused (NasKind (type_of nas)))
 
 -- an UPLINK NAS TRANSPORT goes on with a procedure
 abbrev pub onward_of : Tai → NasIn → Result Body Refusal
@@ -75,7 +57,7 @@ onward_of tai (AreaRequest identity) = Ok (Area false tai.plmn tai.tac)
 onward_of tai (AuthResponse res) = Ok (Response res)
 onward_of tai SecurityComplete = Ok Secured
 onward_of tai (SecurityReject cause) = Ok SecurityRefused
-onward_of tai nas = refused (NasKind (type_of nas))
+onward_of tai nas = Err (refused (NasKind (type_of nas)))
 
 -- the context is set up with the first E-RAB 5
 abbrev pub context_from : Option ErabDone → Body
@@ -94,18 +76,22 @@ named enb said = Ok (record { claim = Named said.0; enb = enb; body = said.1 })
 abbrev pub numbered : ℕ → ℕ → Body → Result Sent Refusal
 numbered mme enb body = Ok (record { claim = Numbered mme; enb = enb; body = body })
 
+-- a message of the network is refused at its procedure code
+abbrev pub wrong_direction : Result Sent Refusal
+wrong_direction = Err (record { reason = WrongDirection; place = 1 })
+
 -- what a message of so many octets says: which device it claims to be from, and its body
 unfoldable pub sent_of : ℕ → Pdu → Result Sent Refusal
-sent_of end (InitialUeMessage enb nas tai cgi rrc stmsi) = without_place (nas_of nas) >>= request_of end tai stmsi >>= named enb
-sent_of end (UplinkNasTransport mme enb nas cgi tai) = without_place (nas_of nas) >>= onward_of tai >>= numbered mme enb
+sent_of end (InitialUeMessage enb nas tai cgi rrc stmsi) = nas_of nas >>= request_of end tai stmsi >>= named enb
+sent_of end (UplinkNasTransport mme enb nas cgi tai) = nas_of nas >>= onward_of tai >>= numbered mme enb
 sent_of end (InitialContextSetupResponse mme enb done) = numbered mme enb (context_of done)
 sent_of end (InitialContextSetupFailure mme enb cause) = numbered mme enb ContextFailed
 sent_of end (UeContextReleaseRequest mme enb cause) = numbered mme enb (ReleaseAsked (code_of cause))
 sent_of end (UeContextReleaseComplete mme enb) = numbered mme enb Released
 sent_of end (UeCapabilityInfoIndication mme enb radio) = numbered mme enb (Capability radio)
-sent_of end (DownlinkNasTransport mme enb nas) = refused_at WrongDirection 1
-sent_of end (InitialContextSetupRequest mme enb rates bearers caps key) = refused_at WrongDirection 1
-sent_of end (UeContextReleaseCommand ids cause) = refused_at WrongDirection 1
+sent_of end (DownlinkNasTransport mme enb nas) = wrong_direction
+sent_of end (InitialContextSetupRequest mme enb rates bearers caps key) = wrong_direction
+sent_of end (UeContextReleaseCommand ids cause) = wrong_direction
 
 -- What a line says, whatever came before it: its text, its PDU, and what the message says.
 unfoldable pub said_by : List ℕ → Result Sent Refusal

@@ -5,6 +5,7 @@ use Rattle.echo_base.specs.declared.reason.Reason.TheVariants.{UnknownDevice, Un
 use Rattle.echo_base.specs.declared.reason.Identity.{Identity}
 use Rattle.echo_base.specs.declared.reason.Identity.TheVariants.{Imsi, Tmsi}
 use Rattle.echo_base.specs.declared.refusal.Refusal.{Refusal}
+use Rattle.echo_base.specs.Answer.{◌>>=◌, refused}
 use Rattle.device_types.specs.declared.subscriber.Subscriber.{Subscriber}
 use Rattle.device_types.specs.declared.subscriber.DeviceId.{DeviceId}
 use Rattle.device_types.specs.declared.message.Message.{Message}
@@ -15,7 +16,7 @@ use Rattle.entry_edge.specs.declared.sent.Claim.TheVariants.{Named, Numbered}
 use Rattle.entry_edge.specs.declared.sent.Sent.{Sent}
 use Rattle.entry_edge.specs.declared.check.Taken.{Taken}
 use Rattle.entry_edge.specs.declared.admission.RefusedLine.{RefusedLine}
-use Rattle.entry_edge.specs.Sent.{◌>>=◌, refused, is_release, said_by}
+use Rattle.entry_edge.specs.Sent.{is_release, said_by}
 
 -- what came of a line: its message is admitted, or the line is refused
 pub data Turn : Type 0 where
@@ -85,13 +86,13 @@ device_of_identity rows (Imsi imsi) = device_by imsi_of rows imsi
 device_of_identity rows (Tmsi tmsi) = device_by tmsi_of rows tmsi
 
 abbrev pub known : Identity → Option DeviceId → Result DeviceId Refusal
-known identity None = refused (UnknownDevice identity)
+known identity None = Err (refused (UnknownDevice identity))
 known identity (Some d) = Ok d
 
 -- the device of any other message is that of its pair, and has the number of the message
 abbrev pub agreed : Pair → ℕ → Option DeviceId → Result DeviceId Refusal
-agreed pair mme None = refused (UnknownPair pair.0 pair.1)
-agreed pair mme (Some d) = if d.0 == mme then Ok d else refused (UnknownPair pair.0 pair.1)
+agreed pair mme None = Err (refused (UnknownPair pair.0 pair.1))
+agreed pair mme (Some d) = if d.0 == mme then Ok d else Err (refused (UnknownPair pair.0 pair.1))
 
 abbrev pub device_for : List Subscriber → List Turn → Pair → Claim → Result DeviceId Refusal
 device_for rows H pair (Named identity) = known identity (device_of_identity rows identity)

@@ -1,9 +1,8 @@
 //! The checks of a line.
 
-ghost use Rattle.std.specs.Prelude.{◌≡◌, ◌↔◌, List, length, IsTrue, IfOk, Some};
-ghost use Rattle.hex.specs.declared.error.FromHexError.TheVariants.{OutOfMemory};
+ghost use Rattle.std.specs.Prelude.{◌≡◌, List, length, IfOk, Some};
 ghost use Rattle.device_types.specs.Numbers.{IsWithin};
-ghost use Rattle.s1ap_messages.specs.Answer.{IsAnswer};
+ghost use Rattle.echo_base.specs.Answer.{IsAnswer};
 ghost use Rattle.entry_edge.specs.Sent.{octets_of, said_by};
 ghost use Rattle.entry_edge.specs.Trace.{Turn, known, device_of_identity, agreed, device_for, taken_at};
 ghost use Rattle.entry_edge.specs.Kept.{Keeps};
@@ -12,8 +11,7 @@ use crate::bindings::{Bindings, Pair};
 use crate::sent::{Claim, Sent, sent_of};
 use case_form::TraceLine;
 use device_types::{DeviceId, Octets};
-use echo_base::{Bad, Identity, Reason, Refusal};
-use hex::FromHexError;
+use echo_base::{Bad, Identity, Reason, Refusal, decode_hex, refused};
 use s1ap_messages::read_pdu;
 use std::alloc::Global;
 use subs_table::SubsTable;
@@ -29,36 +27,19 @@ pub struct Taken {
     pub sent: Sent,
 }
 
-/// Was there no memory for the decoded octets?
-fn is_memory(error: &FromHexError) -> bool
-    ensures { IsTrue result ↔ (error.now ≡ OutOfMemory) }
-{
-    matches!(error, FromHexError::OutOfMemory)
-}
-
 /// The octets, at least one, that hexadecimal text in either case stands for. It is refused as BadHex, with place 0.
 #[tactic(auto, unfolding(crate::specs::Sent::octets_of))]
 pub fn decode(alloc: Global, text: &[u8]) -> Result<Octets, Bad>
     ensures { IsAnswer (octets_of text.now) result }
 {
-    let bad = Bad::Refused(Refusal {
-        reason: Reason::BadHex,
-        place: 0,
-    });
-    match hex::decode(alloc, text) {
-        Ok(octets) => {
-            if octets.is_empty() {
-                return Err(bad);
-            }
-            Ok(Octets::from(octets))
-        }
-        Err(error) => {
-            if is_memory(&error) {
-                return Err(Bad::OutOfMemory);
-            }
-            Err(bad)
-        }
+    let bad = refused(Reason::BadHex);
+    let Some(octets) = decode_hex(alloc, text)? else {
+        return Err(bad.into());
+    };
+    if octets.is_empty() {
+        return Err(bad.into());
     }
+    Ok(Octets::from(octets))
 }
 
 /// What a line says, whatever came before it.
@@ -81,10 +62,7 @@ fn known(table: &SubsTable, identity: Identity) -> Result<DeviceId, Refusal>
         Identity::Imsi(imsi) => table.by_imsi(imsi),
         Identity::Tmsi(tmsi) => table.by_tmsi(tmsi),
     };
-    found.ok_or(Refusal {
-        reason: Reason::UnknownDevice(identity),
-        place: 0,
-    })
+    found.ok_or(refused(Reason::UnknownDevice(identity)))
 }
 
 /// The device of the pair, if it has the number.
@@ -92,10 +70,7 @@ fn agreed(pair: Pair, mme: u32, bound: Option<DeviceId>) -> Result<DeviceId, Ref
     ensures agreed { result ≡ agreed pair mme bound }
     ensures bound { IfOk result (λ d. bound ≡ Some d) }
 {
-    let refusal = Refusal {
-        reason: Reason::UnknownPair(pair.0, pair.1),
-        place: 0,
-    };
+    let refusal = refused(Reason::UnknownPair(pair.0, pair.1));
     let Some(device) = bound else {
         return Err(refusal);
     };

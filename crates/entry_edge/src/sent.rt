@@ -1,12 +1,12 @@
 //! What a message says.
 
 ghost use Rattle.std.specs.Prelude.{◌≡◌, ◌==◌, length, find};
-ghost use Rattle.s1ap_messages.specs.Answer.{IsAnswer};
+ghost use Rattle.echo_base.specs.Answer.{IsAnswer};
 ghost use Rattle.nas_kinds.specs.Reading.{nas_of};
-ghost use Rattle.entry_edge.specs.Sent.{without_place, request_of, onward_of, context_of, code_of, sent_of};
+ghost use Rattle.entry_edge.specs.Sent.{request_of, onward_of, context_of, code_of, sent_of};
 
 use device_types::{Body, CauseCode};
-use echo_base::{Bad, Identity, Reason, Refusal};
+use echo_base::{Bad, Identity, Reason, Refusal, refused};
 use nas_kinds::{NasIn, read_nas};
 use s1ap_ies::{Cause, ErabDone, Stmsi, Tai};
 use s1ap_messages::Pdu;
@@ -32,16 +32,9 @@ pub struct Sent {
     pub body: Body,
 }
 
-/// A refusal without a place.
-fn refused(reason: Reason) -> Refusal
-    ensures { result ≡ record { reason = reason; place = 0 } }
-{
-    Refusal { reason, place: 0 }
-}
-
 /// The NAS message of a NAS-PDU.
 fn read_nas_pdu(alloc: Global, octets: &[u8]) -> Result<NasIn, Bad>
-    ensures { IsAnswer (without_place (nas_of octets.now)) result }
+    ensures { IsAnswer (nas_of octets.now) result }
 {
     read_nas(alloc, octets)
 }

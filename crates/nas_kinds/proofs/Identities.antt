@@ -3,23 +3,24 @@ use Rattle.std.proofs.Common.{◌≡◌, ℕ, ◌+◌, ◌*◌, ◌<◌, Bool, t
 use Rattle.std.proofs.lemmas.Bool.{ltb-false, le-ltb, eqb-true, eq-eqb}
 use Rattle.std.proofs.lemmas.List.{drop_at, take-append-drop, length-append, length-take, length-drop}
 use Rattle.std.proofs.lemmas.List.Elements.{All-nil, All-cons, All-head, All-tail}
+use Rattle.std.proofs.lemmas.Option.{same_Some}
 use Rattle.std.specs.Int.{w32, from_be_bytes}
+use Rattle.echo_base.specs.Format.{Decides}
 use Rattle.echo_base.specs.declared.reason.Identity.{Identity}
 use Rattle.echo_base.specs.declared.reason.Identity.TheVariants.{Imsi, Tmsi}
 use Rattle.nas_kinds.specs.Identity.{halves, IsImsi, IsGuti, IsIdentity}
 use Rattle.nas_kinds.specs.Reading.{decimal_from, imsi_of_halves, imsi_of, guti_of, identity_by, identity_of}
-use Rattle.nas_kinds.proofs.Fields.{Decides, none_some, some_is}
 
 -- ---- decided by a test
 
 -- a test that has to hold
 pub if_some : {B : Type 0} (b : Bool) (o : Option B) (w : B) → cond b o None ≡ Some w → (b ≡ true) × (o ≡ Some w)
 if_some true o w h = (refl, h)
-if_some false o w h = absurd (none_some w h)
+if_some false o w h = absurd cc
 
 -- a test that must not hold
 pub unless_some : {B : Type 0} (b : Bool) (o : Option B) (w : B) → cond b None o ≡ Some w → (b ≡ false) × (o ≡ Some w)
-unless_some true o w h = absurd (none_some w h)
+unless_some true o w h = absurd cc
 unless_some false o w h = (refl, h)
 
 -- ---- IMSI
@@ -28,7 +29,7 @@ abbrev IsDecimal : ℕ → List ℕ → ℕ → Type 0
 IsDecimal number digits end = All (λ digit. digit < 10) digits × (end ≡ fold (λ number digit. 10 * number + digit) number digits)
 
 decimal_found : (number : ℕ) (digits : List ℕ) (end : ℕ) → decimal_from number digits ≡ Some end → IsDecimal number digits end
-decimal_found number [] end h = (All-nil (λ digit. digit < 10), sym (some_is _ _ h))
+decimal_found number [] end h = (All-nil (λ digit. digit < 10), sym (same_Some _ _ h))
 decimal_found number (digit ∷ digits) end h =
     let t = unless_some (ltb 9 digit) (decimal_from (10 * number + digit) digits) end h in
     let more = decimal_found (10 * number + digit) digits end t.1 in
@@ -43,7 +44,7 @@ decimal_only number (digit ∷ digits) end h =
 
 -- the halves of an IMSI
 halves_found : (halves : List ℕ) (imsi : ℕ) → imsi_of_halves halves ≡ Some imsi → (digits : List ℕ) × (halves ≡ 9 ∷ digits) × IsDecimal 0 digits imsi
-halves_found [] imsi h = absurd (none_some imsi h)
+halves_found [] imsi h = absurd cc
 halves_found (type ∷ digits) imsi h =
     let t = if_some (eqb type 9) (decimal_from 0 digits) imsi h in
     (digits, ap (λ x. x ∷ digits) (eqb-true type 9 t.0), decimal_found 0 digits imsi t.1)
@@ -60,7 +61,7 @@ imsi_decides octets = record {
 -- ---- GUTI
 
 guti_found : (octets : List ℕ) (tmsi : ℕ) → guti_of octets ≡ Some tmsi → IsGuti octets tmsi
-guti_found [] tmsi h = absurd (none_some tmsi h)
+guti_found [] tmsi h = absurd cc
 guti_found (type ∷ octets) tmsi h =
     let t = if_some (eqb type 0xf6) (cond (eqb (length octets) 10) (Some (from_be_bytes w32 (drop 6 octets))) None) tmsi h in
     let u = if_some (eqb (length octets) 10) (Some (from_be_bytes w32 (drop 6 octets))) tmsi t.1 in
@@ -71,7 +72,7 @@ guti_found (type ∷ octets) tmsi h =
       ap (λ x. x ∷ octets) kind ∙ ap (λ (l : List ℕ). 0xf6 ∷ l) (sym (take-append-drop 6 octets)),
       omega (arith, length-take 6 octets),
       omega (arith, length-drop 6 octets),
-      sym (some_is _ _ u.1),
+      sym (same_Some _ _ u.1),
     )
 
 guti_only : (octets : List ℕ) (tmsi : ℕ) → IsGuti octets tmsi → guti_of octets ≡ Some tmsi
@@ -86,9 +87,9 @@ apart : (octets : List ℕ) (imsi tmsi : ℕ) → IsImsi octets imsi → IsGuti 
 apart octets imsi tmsi p q = absurd (omega (arith, p.1, ap length q.2, length-append q.0 q.1, q.3, q.4))
 
 by_found : (octets : List ℕ) (imsi guti : Option ℕ) (w : Identity) → ((n : ℕ) → imsi ≡ Some n → IsImsi octets n) → ((n : ℕ) → guti ≡ Some n → IsGuti octets n) → identity_by imsi guti ≡ Some w → IsIdentity octets w
-by_found octets (Some imsi) guti w p q h = subst (IsIdentity octets) (some_is _ _ h) (p imsi refl)
-by_found octets None (Some tmsi) w p q h = subst (IsIdentity octets) (some_is _ _ h) (q tmsi refl)
-by_found octets None None w p q h = absurd (none_some w h)
+by_found octets (Some imsi) guti w p q h = subst (IsIdentity octets) (same_Some _ _ h) (p imsi refl)
+by_found octets None (Some tmsi) w p q h = subst (IsIdentity octets) (same_Some _ _ h) (q tmsi refl)
+by_found octets None None w p q h = absurd cc
 
 -- no IMSI is there where a GUTI is
 no_imsi : (octets : List ℕ) (imsi : Option ℕ) (tmsi : ℕ) → ((n : ℕ) → imsi ≡ Some n → IsImsi octets n) → IsGuti octets tmsi → imsi ≡ None

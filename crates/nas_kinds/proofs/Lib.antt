@@ -1,6 +1,5 @@
 pub mod Digits
-pub mod Fields
-pub mod Identities
 pub mod Exact
+pub mod Identities
 pub mod Lengths
 pub mod Types

@@ -1,31 +1,54 @@
 -- The messages of a device (TS 24.301, 8.2): their first octets, and their mandatory fields in order.
 use Rattle.std.specs.Prelude.{◌≡◌, ℕ, ◌/◌, ◌%◌, ◌≤◌, ◌==◌, List, ◌∷◌, Some, slice_get}
-use Rattle.echo_base.specs.declared.reason.Reason.{Reason}
 use Rattle.echo_base.specs.declared.reason.Reason.TheVariants as reasons
 use Rattle.echo_base.specs.declared.reason.Identity.{Identity}
+use Rattle.echo_base.specs.declared.refusal.Refusal.{Refusal}
+use Rattle.echo_base.specs.Answer.{refused}
+use Rattle.echo_base.specs.Format.{◌>>=◌, just, meant}
+use Rattle.echo_base.specs.Field as octets
+use Rattle.echo_base.specs.Field.{octet_in, octets_in, counted_in, long_counted_in}
 use Rattle.nas_kinds.specs.declared.kind.Header.{Header}
 use Rattle.nas_kinds.specs.declared.kind.Header.TheVariants.{Plain, Protected, Service}
 use Rattle.nas_kinds.specs.declared.kind.Kind.{Kind}
 use Rattle.nas_kinds.specs.declared.kind.Kind.TheVariants as kinds
 use Rattle.nas_kinds.specs.declared.nas_in.NasIn.{NasIn}
 use Rattle.nas_kinds.specs.declared.nas_in.NasIn.TheVariants.{AttachRequest, AttachComplete, DetachRequest, AreaRequest, AuthResponse, SecurityComplete, SecurityReject, ServiceRequest}
-use Rattle.nas_kinds.specs.Field.{Field, Stands, just, ◌>>=◌, meaning, octet_in, octets_in, counted_in, long_counted_in}
 use Rattle.nas_kinds.specs.Identity.{IsIdentity}
+
+-- a field, or the refusal that is due, which has no place
+abbrev pub Field : Type 0 → Type 1
+Field A = octets.Field Refusal A
+
+-- the refusal of a field that is not whole, or too short for what is used of it
+abbrev pub short : Refusal
+short = refused reasons.NasShort
 
 -- ---- fields
 
 -- EPS mobile identity (9.9.3.12)
 unfoldable pub identity_in : Field Identity
-identity_in = meaning IsIdentity (λ octets. reasons.NasIdentity) counted_in
+identity_in = do
+  octets ← counted_in short
+  meant (IsIdentity octets) (refused reasons.NasIdentity)
 
 -- UE network capability (9.9.3.34): its first two octets are the encryption and the integrity algorithms
+abbrev pub AreAlgorithms : List ℕ → ℕ × ℕ → Type 0
+AreAlgorithms octets algorithms = (more : List ℕ) × (octets ≡ algorithms.0 ∷ algorithms.1 ∷ more)
+
 unfoldable pub capability_in : Field (ℕ × ℕ)
-capability_in = meaning (λ octets algorithms. (more : List ℕ) × (octets ≡ algorithms.0 ∷ algorithms.1 ∷ more)) (λ octets. reasons.NasShort) counted_in
+capability_in = do
+  octets ← counted_in short
+  meant (AreAlgorithms octets) short
 
 -- ESM message container (9.9.3.15): an ESM message (9.2) begins with the bearer identity and discriminator, the procedure
 -- transaction identity and the message type
+abbrev pub IsTransaction : List ℕ → ℕ → Type 0
+IsTransaction octets pti = (bearer : ℕ) × (type : ℕ) × (more : List ℕ) × (octets ≡ bearer ∷ pti ∷ type ∷ more)
+
 unfoldable pub container_in : Field ℕ
-container_in = meaning (λ octets pti. (bearer : ℕ) × (type : ℕ) × (more : List ℕ) × (octets ≡ bearer ∷ pti ∷ type ∷ more)) (λ octets. reasons.NasShort) long_counted_in
+container_in = do
+  octets ← long_counted_in short
+  meant (IsTransaction octets) short
 
 -- ---- the table: the messages that are read, by their message types (9.8), each with its mandatory fields (8.2)
 
@@ -51,39 +74,41 @@ type_of ServiceRequest = 0xc7
 
 -- an octet that is none of these is refused as NasKind
 unfoldable pub kind_in : Field Kind
-kind_in = meaning (λ octet kind. octet ≡ message_type kind) reasons.NasKind octet_in
+kind_in = do
+  octet ← octet_in short
+  meant (λ kind. octet ≡ message_type kind) (refused (reasons.NasKind octet))
 
 unfoldable pub fields_in : Kind → Field NasIn
 -- 8.2.4: EPS attach type and NAS key set identifier, identity, capability, container
 fields_in kinds.AttachRequest = do
-  attach_type ← octet_in
+  attach_type ← octet_in short
   identity ← identity_in
   capability ← capability_in
   pti ← container_in
   just (AttachRequest identity capability.0 capability.1 pti)
 -- 8.2.2: container
 fields_in kinds.AttachComplete = do
-  container ← long_counted_in
+  container ← long_counted_in short
   just AttachComplete
 -- 8.2.11.1: detach type (9.9.3.7: bit 4 is switch off) and NAS key set identifier, identity
 fields_in kinds.DetachRequest = do
-  detach_type ← octet_in
+  detach_type ← octet_in short
   identity ← identity_in
   just (DetachRequest (detach_type / 8 % 2 == 1) identity)
 -- 8.2.29: update type and NAS key set identifier, identity
 fields_in kinds.AreaRequest = do
-  update_type ← octet_in
+  update_type ← octet_in short
   identity ← identity_in
   just (AreaRequest identity)
 -- 8.2.8: authentication response parameter (9.9.3.4)
 fields_in kinds.AuthResponse = do
-  res ← counted_in
+  res ← counted_in short
   just (AuthResponse res)
 -- 8.2.21
 fields_in kinds.SecurityComplete = just SecurityComplete
 -- 8.2.22: EMM cause (9.9.3.9)
 fields_in kinds.SecurityReject = do
-  cause ← octet_in
+  cause ← octet_in short
   just (SecurityReject cause)
 
 -- ---- whole messages
@@ -100,15 +125,18 @@ IsHeader octet Protected = (octet % 16 ≡ 7) × (1 ≤ octet / 16) × (octet / 
 IsHeader octet Service = (octet % 16 ≡ 7) × (octet / 16 ≡ 12)
 
 unfoldable pub header_in : Field Header
-header_in = meaning IsHeader (λ octet. reasons.NasDiscriminator) octet_in
+header_in = do
+  octet ← octet_in short
+  meant (IsHeader octet) (refused reasons.NasDiscriminator)
 
 -- what is in front of the message type in a protected message (8.2.23): a message authentication code (9.5), a sequence
 -- number (9.6), and the first octet of a plain message
 unfoldable pub security_in : Field (Unit {0})
 security_in = do
-  code ← octets_in 4
-  number ← octet_in
-  meaning (λ octet nothing. IsHeader octet Plain) (λ octet. reasons.NasDiscriminator) octet_in
+  code ← octets_in short 4
+  number ← octet_in short
+  inner ← octet_in short
+  meant (λ nothing. IsHeader inner Plain) (refused reasons.NasDiscriminator)
 
 -- where the message type stands: behind the first octet, or behind what is in front of it in a protected message; that of a
 -- SERVICE REQUEST is its first octet
@@ -129,7 +157,7 @@ behind_in Protected = do
   message_in
 -- 8.2.25: key set identifier and sequence number, a short message authentication code of two octets
 behind_in Service = do
-  behind ← octets_in 3
+  behind ← octets_in short 3
   just ServiceRequest
 
 unfoldable pub nas_in : Field NasIn
@@ -137,8 +165,17 @@ nas_in = header_in >>= behind_in
 
 -- the octets are this message, whatever follows its mandatory fields
 abbrev pub NasSpells : List ℕ → NasIn → Type 0
-NasSpells octets message = (rest : List ℕ) × Stands nas_in octets message rest
+NasSpells octets message = (rest : List ℕ) × nas_in.Stands octets message rest
 
--- the octets are no message, and the first field that is wrong is so for that reason
-abbrev pub NasRefuses : List ℕ → Reason → Type 0
-NasRefuses octets reason = nas_in.Refuses octets reason
+-- the octets are no message, and this refusal is that of the first field that is wrong
+abbrev pub NasRefuses : List ℕ → Refusal → Type 0
+NasRefuses octets e = nas_in.Refuses octets e
+
+-- ---- the messages that take memory
+
+-- a response, whose RES is kept
+abbrev pub IsResponse : NasIn → Type 0
+IsResponse message = (res : List ℕ) × (message ≡ AuthResponse res)
+
+abbrev pub SpellsResponse : List ℕ → Type 0
+SpellsResponse octets = (message : NasIn) × IsResponse message × NasSpells octets message

@@ -1,11 +1,13 @@
--- Reading a NAS message from left to right: a value and what is left, or the reason of the first field that is wrong.
-use Rattle.std.specs.Prelude.{◌≡◌, ℕ, ◌+◌, ◌*◌, ◌/◌, ◌%◌, ◌==◌, nat_lt, List, [], ◌∷◌, length, take, drop, Option, Some, None, Result, Ok, Err, if◌then◌else◌}
+-- Reading a NAS message from left to right: a value and what is left, or the refusal of the first field that is wrong.
+use Rattle.std.specs.Prelude.{ℕ, ◌+◌, ◌*◌, ◌/◌, ◌%◌, ◌==◌, nat_lt, List, [], ◌∷◌, length, drop, Option, Some, None, Result, if◌then◌else◌}
 use Rattle.std.specs.Int.{w32, from_be_bytes}
-use Rattle.echo_base.specs.declared.reason.Reason.{Reason}
 use Rattle.echo_base.specs.declared.reason.Reason.TheVariants as reasons
 use Rattle.echo_base.specs.declared.reason.Identity.{Identity}
 use Rattle.echo_base.specs.declared.reason.Identity.TheVariants.{Imsi, Tmsi}
 use Rattle.echo_base.specs.declared.refusal.Refusal.{Refusal}
+use Rattle.echo_base.specs.Answer.{refused}
+use Rattle.echo_base.specs.Reading.{◌>>=◌, done, known, value_of}
+use Rattle.echo_base.specs.Field.{FieldReader, octet_at, octets_at, counted_at, long_counted_at}
 use Rattle.nas_kinds.specs.declared.kind.Header.{Header}
 use Rattle.nas_kinds.specs.declared.kind.Header.TheVariants.{Plain, Protected, Service}
 use Rattle.nas_kinds.specs.declared.kind.Kind.{Kind}
@@ -13,66 +15,11 @@ use Rattle.nas_kinds.specs.declared.kind.Kind.TheVariants as kinds
 use Rattle.nas_kinds.specs.declared.nas_in.NasIn.{NasIn}
 use Rattle.nas_kinds.specs.declared.nas_in.NasIn.TheVariants.{AttachRequest, AttachComplete, DetachRequest, AreaRequest, AuthResponse, SecurityComplete, SecurityReject, ServiceRequest}
 use Rattle.nas_kinds.specs.Identity.{halves}
+use Rattle.nas_kinds.specs.Kinds.{short}
 
--- a value and what is left behind it, or why there is none
-abbrev pub Read : Type 0 → Type 0
-Read A = Result (A × List ℕ) Reason
-
--- a way to read
+-- a way to read a field
 abbrev pub Reader : Type 0 → Type 0
-Reader A = List ℕ → Read A
-
--- What a reader returned is what reading gives. It stands behind what it read; a refusal has no place.
-abbrev pub Gives : {A : Type 0} → Result A Refusal → List ℕ → List ℕ → Read A → Type 0
-Gives (Ok v) old new read = read ≡ Ok (v, new)
-Gives (Err e) old new read = (read ≡ Err e.reason) × (e.place ≡ 0)
-
--- the same where view says what is seen of the value
-abbrev pub GivesBy : {X A : Type 0} → (X → A) → Result X Refusal → List ℕ → List ℕ → Read A → Type 0
-GivesBy view (Ok x) old new read = read ≡ Ok (view x, new)
-GivesBy view (Err e) old new read = (read ≡ Err e.reason) × (e.place ≡ 0)
-
--- ---- ways to read out of others
-
--- what was read, and behind it what its value calls for
-abbrev pub on : {A B : Type 0} → Read A → (A → Reader B) → Read B
-on (Ok x) g = g x.0 x.1
-on (Err reason) g = Err reason
-
-infixl 10 ◌>>=◌
-abbrev pub ◌>>=◌ : {A B : Type 0} → Reader A → (A → Reader B) → Reader B
-f >>= g = λ octets. on (f octets) g
-
--- the value, of no octets
-abbrev pub done : {A : Type 0} → A → Reader A
-done v = λ octets. Ok (v, octets)
-
--- the value that is there, of no octets, or the reason
-abbrev pub known : {A : Type 0} → Option A → Reason → Reader A
-known (Some v) reason = λ octets. Ok (v, octets)
-known None reason = λ octets. Err reason
-
--- ---- the formats of fields
-
--- an octet
-unfoldable pub octet_at : Reader ℕ
-octet_at [] = Err reasons.NasShort
-octet_at (octet ∷ octets) = Ok (octet, octets)
-
--- so many octets
-unfoldable pub octets_at : ℕ → Reader (List ℕ)
-octets_at n octets = if nat_lt (length octets) n then Err reasons.NasShort else Ok (take n octets, drop n octets)
-
--- octets behind their count in one octet
-unfoldable pub counted_at : Reader (List ℕ)
-counted_at = octet_at >>= octets_at
-
--- octets behind their count in two octets
-unfoldable pub long_counted_at : Reader (List ℕ)
-long_counted_at = do
-  high ← octet_at
-  low ← octet_at
-  octets_at (256 * high + low)
+Reader A = FieldReader Refusal A
 
 -- ---- fields
 
@@ -106,8 +53,8 @@ identity_of octets = identity_by (imsi_of octets) (guti_of octets)
 
 unfoldable pub identity_at : Reader Identity
 identity_at = do
-  octets ← counted_at
-  known (identity_of octets) reasons.NasIdentity
+  octets ← counted_at short
+  known (identity_of octets) (refused reasons.NasIdentity)
 
 -- the first two octets
 abbrev pub algorithms_of : List ℕ → Option (ℕ × ℕ)
@@ -117,8 +64,8 @@ algorithms_of (eea ∷ eia ∷ more) = Some (eea, eia)
 
 unfoldable pub capability_at : Reader (ℕ × ℕ)
 capability_at = do
-  octets ← counted_at
-  known (algorithms_of octets) reasons.NasShort
+  octets ← counted_at short
+  known (algorithms_of octets) short
 
 -- the second of three octets
 abbrev pub pti_of : List ℕ → Option ℕ
@@ -129,14 +76,14 @@ pti_of (bearer ∷ pti ∷ type ∷ more) = Some pti
 
 unfoldable pub container_at : Reader ℕ
 container_at = do
-  octets ← long_counted_at
-  known (pti_of octets) reasons.NasShort
+  octets ← long_counted_at short
+  known (pti_of octets) short
 
 -- ---- messages
 
 unfoldable pub attach_request_at : Reader NasIn
 attach_request_at = do
-  attach_type ← octet_at
+  attach_type ← octet_at short
   identity ← identity_at
   capability ← capability_at
   pti ← container_at
@@ -144,29 +91,29 @@ attach_request_at = do
 
 unfoldable pub attach_complete_at : Reader NasIn
 attach_complete_at = do
-  container ← long_counted_at
+  container ← long_counted_at short
   done AttachComplete
 
 unfoldable pub detach_request_at : Reader NasIn
 detach_request_at = do
-  detach_type ← octet_at
+  detach_type ← octet_at short
   identity ← identity_at
   done (DetachRequest (detach_type / 8 % 2 == 1) identity)
 
 unfoldable pub area_request_at : Reader NasIn
 area_request_at = do
-  update_type ← octet_at
+  update_type ← octet_at short
   identity ← identity_at
   done (AreaRequest identity)
 
 unfoldable pub auth_response_at : Reader NasIn
 auth_response_at = do
-  res ← counted_at
+  res ← counted_at short
   done (AuthResponse res)
 
 unfoldable pub security_reject_at : Reader NasIn
 security_reject_at = do
-  cause ← octet_at
+  cause ← octet_at short
   done (SecurityReject cause)
 
 abbrev pub fields_at : Kind → Reader NasIn
@@ -184,8 +131,8 @@ kind_of octet = if octet == 0x41 then Some kinds.AttachRequest else (if octet ==
 
 unfoldable pub kind_at : Reader Kind
 kind_at = do
-  octet ← octet_at
-  known (kind_of octet) (reasons.NasKind octet)
+  octet ← octet_at short
+  known (kind_of octet) (refused (reasons.NasKind octet))
 
 unfoldable pub message_at : Reader NasIn
 message_at = kind_at >>= fields_at
@@ -198,16 +145,16 @@ header_of octet = if octet == 0x07 then Some Plain else (if octet == 0x17 then S
 
 unfoldable pub header_at : Reader Header
 header_at = do
-  octet ← octet_at
-  known (header_of octet) reasons.NasDiscriminator
+  octet ← octet_at short
+  known (header_of octet) (refused reasons.NasDiscriminator)
 
 -- what is in front of the message type in a protected message
 unfoldable pub security_at : Reader (Unit {0})
 security_at = do
-  code ← octets_at 4
-  number ← octet_at
-  inner ← octet_at
-  known (if inner == 0x07 then Some tt else None) reasons.NasDiscriminator
+  code ← octets_at short 4
+  number ← octet_at short
+  inner ← octet_at short
+  known (if inner == 0x07 then Some tt else None) (refused reasons.NasDiscriminator)
 
 unfoldable pub protected_at : Reader NasIn
 protected_at = do
@@ -216,7 +163,7 @@ protected_at = do
 
 unfoldable pub service_at : Reader NasIn
 service_at = do
-  behind ← octets_at 3
+  behind ← octets_at short 3
   done ServiceRequest
 
 abbrev pub behind_at : Header → Reader NasIn
@@ -227,10 +174,6 @@ behind_at Service = service_at
 unfoldable pub nas_at : Reader NasIn
 nas_at = header_at >>= behind_at
 
-abbrev pub message_of : Read NasIn → Result NasIn Reason
-message_of (Ok x) = Ok x.0
-message_of (Err reason) = Err reason
-
--- the message that octets begin with, or the reason for which they are refused
-unfoldable pub nas_of : List ℕ → Result NasIn Reason
-nas_of octets = message_of (nas_at octets)
+-- the message that octets begin with, or the refusal
+unfoldable pub nas_of : List ℕ → Result NasIn Refusal
+nas_of octets = value_of (nas_at octets)

@@ -1,25 +1,26 @@
 //! Reading whole messages.
 
-ghost use Rattle.std.specs.Prelude.{◌≡◌, Err};
-ghost use Rattle.echo_base.specs.declared.reason.Reason.{Reason};
+ghost use Rattle.std.specs.Prelude.{◌≡◌, Err, ⊤};
+ghost use Rattle.echo_base.specs.declared.refusal.Refusal.{Refusal};
 ghost use Rattle.echo_base.specs.declared.refusal.Bad.TheVariants.{Refused};
+ghost use Rattle.echo_base.specs.Answer.{Answers, IsAnswerTaking};
+ghost use Rattle.echo_base.specs.Reading.{GivesOrEnds, GivesTaking};
 ghost use Rattle.nas_kinds.specs.declared.nas_in.NasIn.{NasIn};
-ghost use Rattle.nas_kinds.specs.Reading.{Gives, identity_at, capability_at, container_at, attach_request_at, attach_complete_at, detach_request_at, area_request_at, security_reject_at, auth_response_at, kind_at, fields_at, message_at, security_at, behind_at, header_at, service_at, nas_at, nas_of};
-ghost use Rattle.nas_kinds.specs.Memory.{GivesIn, IsAnswer, Reads, IsUnlessNoMemory};
-ghost use Rattle.nas_kinds.specs.Kinds.{NasSpells, NasRefuses};
+ghost use Rattle.nas_kinds.specs.Reading.{identity_at, capability_at, container_at, attach_request_at, attach_complete_at, detach_request_at, area_request_at, security_reject_at, auth_response_at, kind_at, fields_at, message_at, security_at, behind_at, header_at, service_at, nas_at, nas_of};
+ghost use Rattle.nas_kinds.specs.Kinds.{NasSpells, NasRefuses, IsResponse, SpellsResponse};
 
 use crate::identity::identity_of;
 use crate::kind::{Header, Kind, header_of, kind_of};
 use crate::nas_in::NasIn;
-use crate::reader::{NasReader, refused};
+use crate::reader::NasReader;
 use device_types::Octets;
-use echo_base::{Bad, Identity, Reason, Refusal};
+use echo_base::{Bad, Identity, Reason, Refusal, refused};
 use std::alloc::Global;
 
 /// An EPS mobile identity (9.9.3.12).
 #[tactic(auto, unfolding(crate::specs::Reading::identity_at))]
 fn read_identity(r: &mut NasReader) -> Result<Identity, Refusal>
-    ensures { Gives result r.old r.new (identity_at r.old) }
+    ensures { GivesOrEnds result r.new (identity_at r.old) }
 {
     let octets = r.counted()?;
     let Some(identity) = identity_of(octets) else {
@@ -31,7 +32,7 @@ fn read_identity(r: &mut NasReader) -> Result<Identity, Refusal>
 /// The first two octets of a UE network capability (9.9.3.34): the encryption and the integrity algorithms.
 #[tactic(auto, unfolding(crate::specs::Reading::capability_at))]
 fn read_capability(r: &mut NasReader) -> Result<(u8, u8), Refusal>
-    ensures { Gives result r.old r.new (capability_at r.old) }
+    ensures { GivesOrEnds result r.new (capability_at r.old) }
 {
     let [eea, eia, ..] = r.counted()? else {
         return Err(refused(Reason::NasShort));
@@ -42,7 +43,7 @@ fn read_capability(r: &mut NasReader) -> Result<(u8, u8), Refusal>
 /// The procedure transaction identity of the ESM message in a container (9.9.3.15).
 #[tactic(auto, unfolding(crate::specs::Reading::container_at))]
 fn read_container(r: &mut NasReader) -> Result<u8, Refusal>
-    ensures { Gives result r.old r.new (container_at r.old) }
+    ensures { GivesOrEnds result r.new (container_at r.old) }
 {
     let [_bearer, pti, _kind, ..] = r.long_counted()? else {
         return Err(refused(Reason::NasShort));
@@ -53,7 +54,7 @@ fn read_container(r: &mut NasReader) -> Result<u8, Refusal>
 /// The fields of an ATTACH REQUEST (8.2.4).
 #[tactic(auto, unfolding(crate::specs::Reading::attach_request_at))]
 fn read_attach_request(r: &mut NasReader) -> Result<NasIn, Refusal>
-    ensures { Gives result r.old r.new (attach_request_at r.old) }
+    ensures { GivesOrEnds result r.new (attach_request_at r.old) }
 {
     r.octet()?;
     let identity = read_identity(r)?;
@@ -70,7 +71,7 @@ fn read_attach_request(r: &mut NasReader) -> Result<NasIn, Refusal>
 /// The fields of an ATTACH COMPLETE (8.2.2).
 #[tactic(auto, unfolding(crate::specs::Reading::attach_complete_at))]
 fn read_attach_complete(r: &mut NasReader) -> Result<NasIn, Refusal>
-    ensures { Gives result r.old r.new (attach_complete_at r.old) }
+    ensures { GivesOrEnds result r.new (attach_complete_at r.old) }
 {
     r.long_counted()?;
     Ok(NasIn::AttachComplete)
@@ -79,7 +80,7 @@ fn read_attach_complete(r: &mut NasReader) -> Result<NasIn, Refusal>
 /// The fields of a DETACH REQUEST (8.2.11.1).
 #[tactic(auto, using(crate::proofs::Digits::fourth_bit), unfolding(crate::specs::Reading::detach_request_at))]
 fn read_detach_request(r: &mut NasReader) -> Result<NasIn, Refusal>
-    ensures { Gives result r.old r.new (detach_request_at r.old) }
+    ensures { GivesOrEnds result r.new (detach_request_at r.old) }
 {
     let detach_type = r.octet()?;
     let identity = read_identity(r)?;
@@ -92,7 +93,7 @@ fn read_detach_request(r: &mut NasReader) -> Result<NasIn, Refusal>
 /// The fields of a TRACKING AREA UPDATE REQUEST (8.2.29).
 #[tactic(auto, unfolding(crate::specs::Reading::area_request_at))]
 fn read_area_request(r: &mut NasReader) -> Result<NasIn, Refusal>
-    ensures { Gives result r.old r.new (area_request_at r.old) }
+    ensures { GivesOrEnds result r.new (area_request_at r.old) }
 {
     r.octet()?;
     let identity = read_identity(r)?;
@@ -102,7 +103,7 @@ fn read_area_request(r: &mut NasReader) -> Result<NasIn, Refusal>
 /// The fields of an AUTHENTICATION RESPONSE (8.2.8), with RES in memory of its own.
 #[tactic(auto, unfolding(crate::specs::Reading::auth_response_at))]
 fn read_auth_response(alloc: Global, r: &mut NasReader) -> Result<NasIn, Bad>
-    ensures { GivesIn result r.new (auth_response_at r.old) }
+    ensures { GivesTaking IsResponse result r.new (auth_response_at r.old) }
 {
     let res = r.counted()?;
     let res = Octets::from(Vec::from_slice(alloc, res)?);
@@ -112,7 +113,7 @@ fn read_auth_response(alloc: Global, r: &mut NasReader) -> Result<NasIn, Bad>
 /// The fields of a SECURITY MODE REJECT (8.2.22).
 #[tactic(auto, unfolding(crate::specs::Reading::security_reject_at))]
 fn read_security_reject(r: &mut NasReader) -> Result<NasIn, Refusal>
-    ensures { Gives result r.old r.new (security_reject_at r.old) }
+    ensures { GivesOrEnds result r.new (security_reject_at r.old) }
 {
     let cause = r.octet()?;
     Ok(NasIn::SecurityReject { cause })
@@ -120,7 +121,7 @@ fn read_security_reject(r: &mut NasReader) -> Result<NasIn, Refusal>
 
 /// The mandatory fields of a message.
 fn read_fields(alloc: Global, r: &mut NasReader, kind: Kind) -> Result<NasIn, Bad>
-    ensures { GivesIn result r.new (fields_at kind r.old) }
+    ensures { GivesTaking IsResponse result r.new (fields_at kind r.old) }
 {
     match kind {
         Kind::AttachRequest => Ok(read_attach_request(r)?),
@@ -136,7 +137,7 @@ fn read_fields(alloc: Global, r: &mut NasReader, kind: Kind) -> Result<NasIn, Ba
 /// The message type (9.8).
 #[tactic(auto, unfolding(crate::specs::Reading::kind_at))]
 fn read_kind(r: &mut NasReader) -> Result<Kind, Refusal>
-    ensures { Gives result r.old r.new (kind_at r.old) }
+    ensures { GivesOrEnds result r.new (kind_at r.old) }
 {
     let octet = r.octet()?;
     let Some(kind) = kind_of(octet) else {
@@ -148,7 +149,7 @@ fn read_kind(r: &mut NasReader) -> Result<Kind, Refusal>
 /// A message type, and the fields of its message.
 #[tactic(auto, unfolding(crate::specs::Reading::message_at))]
 fn read_message(alloc: Global, r: &mut NasReader) -> Result<NasIn, Bad>
-    ensures { GivesIn result r.new (message_at r.old) }
+    ensures { GivesTaking IsResponse result r.new (message_at r.old) }
 {
     let kind = read_kind(r)?;
     read_fields(alloc, r, kind)
@@ -158,7 +159,7 @@ fn read_message(alloc: Global, r: &mut NasReader) -> Result<NasIn, Bad>
 /// and the first octet of a plain message.
 #[tactic(auto, unfolding(crate::specs::Reading::security_at))]
 fn skip_security(r: &mut NasReader) -> Result<(), Refusal>
-    ensures { Gives result r.old r.new (security_at r.old) }
+    ensures { GivesOrEnds result r.new (security_at r.old) }
 {
     r.octets(4)?;
     r.octet()?;
@@ -172,7 +173,7 @@ fn skip_security(r: &mut NasReader) -> Result<(), Refusal>
 /// The fields of a SERVICE REQUEST (8.2.25).
 #[tactic(auto, unfolding(crate::specs::Reading::service_at))]
 fn read_service(r: &mut NasReader) -> Result<NasIn, Refusal>
-    ensures { Gives result r.old r.new (service_at r.old) }
+    ensures { GivesOrEnds result r.new (service_at r.old) }
 {
     r.octets(3)?;
     Ok(NasIn::ServiceRequest)
@@ -181,7 +182,7 @@ fn read_service(r: &mut NasReader) -> Result<NasIn, Refusal>
 /// What is behind the first octet.
 #[tactic(auto, unfolding(crate::specs::Reading::protected_at))]
 fn read_behind(alloc: Global, r: &mut NasReader, header: Header) -> Result<NasIn, Bad>
-    ensures { GivesIn result r.new (behind_at header r.old) }
+    ensures { GivesTaking IsResponse result r.new (behind_at header r.old) }
 {
     match header {
         Header::Plain => read_message(alloc, r),
@@ -196,7 +197,7 @@ fn read_behind(alloc: Global, r: &mut NasReader, header: Header) -> Result<NasIn
 /// The first octet of a message.
 #[tactic(auto, unfolding(crate::specs::Reading::header_at))]
 fn read_header(r: &mut NasReader) -> Result<Header, Refusal>
-    ensures { Gives result r.old r.new (header_at r.old) }
+    ensures { GivesOrEnds result r.new (header_at r.old) }
 {
     let octet = r.octet()?;
     let Some(header) = header_of(octet) else {
@@ -208,7 +209,7 @@ fn read_header(r: &mut NasReader) -> Result<Header, Refusal>
 /// A message from its first octet on.
 #[tactic(auto, unfolding(crate::specs::Reading::nas_at))]
 fn read_whole(alloc: Global, r: &mut NasReader) -> Result<NasIn, Bad>
-    ensures { GivesIn result r.new (nas_at r.old) }
+    ensures { GivesTaking IsResponse result r.new (nas_at r.old) }
 {
     let header = read_header(r)?;
     read_behind(alloc, r, header)
@@ -220,11 +221,10 @@ fn read_whole(alloc: Global, r: &mut NasReader) -> Result<NasIn, Bad>
 /// that is none of the table's; NasIdentity for an identity that is neither an IMSI of 15 digits nor a GUTI. Only RES takes
 /// memory.
 pub fn read_nas(alloc: Global, octets: &[u8]) -> Result<NasIn, Bad>
-    ensures reading { IsAnswer result (nas_of octets.now) }
-    ensures read { Reads octets.now result }
-    ensures only { (message : NasIn) → NasSpells octets.now message → IsUnlessNoMemory result message }
-    ensures refused { (reason : Reason) → NasRefuses octets.now reason
-        → result ≡ Err (Refused (record { reason = reason; place = 0 })) }
+    ensures reading { IsAnswerTaking IsResponse (nas_of octets.now) result }
+    ensures read { Answers (NasSpells octets.now) (NasRefuses octets.now) (SpellsResponse octets.now) result }
+    ensures only { (message : NasIn) → NasSpells octets.now message → Answers (λ read. read ≡ message) (λ e. ⊥) ⊤ result }
+    ensures refused { (e : Refusal) → NasRefuses octets.now e → result ≡ Err (Refused e) }
 {
     let mut r = NasReader::new(octets);
     read_whole(alloc, &mut r)

@@ -2,8 +2,9 @@
 
 ghost use Rattle.std.specs.Prelude.{◌≡◌, ◌^◌, ◌<◌, ◌≤◌, ◌∷◌, ◌++◌, length, IfOk, OnOk};
 ghost use Rattle.std.specs.Int.{w32, to_be_bytes};
+ghost use Rattle.echo_base.specs.Field.{counted_run, long_counted_run};
 ghost use Rattle.device_types.specs.Nas.{IsNasOut};
-ghost use Rattle.nas_kinds.specs.Written.{counted, long_counted, area, activate_request, nas_written};
+ghost use Rattle.nas_kinds.specs.Written.{area, activate_request, nas_written};
 ghost use Rattle.device_types.specs.declared.nas_out.NasOut.TheVariants.{AuthRequest, AttachAccept};
 
 use device_types::{NasOut, Octets};
@@ -20,7 +21,7 @@ fn owned(alloc: Global, octets: &[u8]) -> Result<Octets, OutOfMemory>
 /// Appends octets behind their count in one octet (format LV).
 fn put_counted(out: &mut Vec<u8>, octets: &[u8]) -> Result<(), OutOfMemory>
     requires { length octets.now < 256 }
-    ensures { OnOk result (out.new.items ≡ out.old.items ++ counted octets.now) }
+    ensures { OnOk result (out.new.items ≡ out.old.items ++ counted_run octets.now) }
 {
     out.push(octets.len() as u8)?;
     out.extend_from_slice(octets)
@@ -29,7 +30,7 @@ fn put_counted(out: &mut Vec<u8>, octets: &[u8]) -> Result<(), OutOfMemory>
 /// Appends octets behind their count in two octets (format LV-E).
 fn put_long_counted(out: &mut Vec<u8>, octets: &[u8]) -> Result<(), OutOfMemory>
     requires { length octets.now < 2 ^ 16 }
-    ensures { OnOk result (out.new.items ≡ out.old.items ++ long_counted octets.now) }
+    ensures { OnOk result (out.new.items ≡ out.old.items ++ long_counted_run octets.now) }
 {
     let count = octets.len() as u16;
     out.extend_from_slice(&count.to_be_bytes())?;

@@ -1,7 +1,7 @@
 //! What the lines of a trace are, as text.
 
 ghost use Rattle.std.specs.Prelude.{◌≡◌, ◌++◌, IfOk, OnOk, string_bytes};
-ghost use Rattle.s1ap_messages.specs.Answer.{IsAnswer};
+ghost use Rattle.echo_base.specs.Answer.{IsAnswer};
 ghost use Rattle.s1ap_messages.specs.Run.{IsRight};
 ghost use Rattle.report_text.specs.Lines.{ended};
 ghost use Rattle.report_text.specs.Show.{pdu_of, message_line, refusal_line, line_text, show_text};

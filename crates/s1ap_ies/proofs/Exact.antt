@@ -12,7 +12,8 @@ use Rattle.echo_base.specs.declared.refusal.Bad.TheVariants.{Refused, OutOfMemor
 use Rattle.aper_fields.specs.Reading.{Input, Read}
 use Rattle.s1ap_ies.specs.Reading as reading
 use Rattle.s1ap_ies.specs.Reading.{Reader, zero_bit_at, criticality_at, entry_at, entries_at, extensions_at, choice_at, present_at, item_at}
-use Rattle.s1ap_ies.specs.Memory.{GivesIn, ReadsIn}
+use Rattle.echo_base.specs.Reading.{GivesIn}
+use Rattle.s1ap_ies.specs.Memory.{ReadsIn}
 use Rattle.s1ap_ies.specs.Grammar.{zero_bit_in, criticality_in, entry_in, entries_in, extensions_in, choice_in, present_in, item_in}
 
 -- one behind another

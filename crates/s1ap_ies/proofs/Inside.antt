@@ -3,14 +3,10 @@ use Rattle.std.proofs.Common.{◌≡◌, [], Ok, ap, ◌∙◌, sym, inl, inr, r
 use Rattle.aper_fields.specs.Reading.{Input, whole_at}
 use Rattle.aper_fields.specs.Format.{Format, IsExactly}
 use Rattle.aper_fields.proofs.Octet.{input}
-use Rattle.aper_fields.proofs.Exact.{bind_ok}
-use Rattle.aper_fields.proofs.Formats.{bind_err, ok_err, ok_of}
+use Rattle.echo_base.proofs.Answers.{bind_ok, bind_err, ok_err, ok_is, ok_of}
 use Rattle.aper_fields.proofs.Containers.{whole_found, whole_only, whole_wrong, whole_refused}
 use Rattle.s1ap_ies.specs.Reading.{Reader}
 use Rattle.s1ap_ies.specs.Many.{inside, inside_at}
-
-ok_is : {A : Type 0} (x y : A) → ok_of x ≡ Ok y → x ≡ y
-ok_is x y e = cc
 
 pub inside_exactly : {A : Type 0} (content : Input) (F : Format A) (f : Reader A) → IsExactly F f → IsExactly (inside content F) (inside_at content f)
 inside_exactly content F f p = record {

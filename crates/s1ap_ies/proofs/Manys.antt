@@ -5,8 +5,8 @@ use Rattle.echo_base.specs.declared.refusal.Refusal.{Refusal}
 use Rattle.aper_fields.specs.Reading.{Input, Read}
 use Rattle.aper_fields.specs.Format.{Format, Stands, IsExactly}
 use Rattle.aper_fields.proofs.Octet.{input, same_input}
-use Rattle.aper_fields.proofs.Exact.{bind_ok}
-use Rattle.aper_fields.proofs.Formats.{bind_err, ok_err, ok_of, stands_read}
+use Rattle.echo_base.proofs.Answers.{bind_ok, bind_err, ok_err, ok_is, ok_of}
+use Rattle.aper_fields.proofs.Formats.{stands_read}
 use Rattle.s1ap_ies.specs.Reading.{Reader}
 use Rattle.s1ap_ies.specs.Many.{InOrder, StandInOrder, RefusesInOrder, many_in, many_at}
 
@@ -34,9 +34,6 @@ more F before i x j xs k first rest = record {
   left = first.2 ∙ ap (λ (l : List Bool). first.0 ++ l) rest.left ∙ sym (append_assoc first.0 rest.run k.left);
   offset = omega (arith, first.3, rest.offset, length-append first.0 rest.run);
 }
-
-ok_is : {A : Type 0} (x y : A) → ok_of x ≡ Ok y → x ≡ y
-ok_is x y e = cc
 
 found : {A : Type 0} (F : List A → Format A) (f : List A → Reader A) → ((b : List A) → IsExactly (F b) (f b)) → (n : ℕ) (before : List A) (i : Input) (all : List A) (j : Input) → many_at f n before i ≡ Ok (all, j) → (xs : List A) × (all ≡ before ++ xs) × (length xs ≡ n) × StandInOrder F before i xs j
 unfolding many_at

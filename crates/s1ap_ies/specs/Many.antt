@@ -1,7 +1,7 @@
 -- Formats out of formats: values one behind another, and what all of a container is.
 use Rattle.std.specs.Prelude.{◌≡◌, ℕ, zero, suc, ◌+◌, ◌<◌, Bool, List, [], ◌∷◌, ◌++◌, length, Ok}
 use Rattle.echo_base.specs.declared.refusal.Refusal.{Refusal}
-use Rattle.aper_fields.specs.Reading as pieces
+use Rattle.echo_base.specs.Answer as answers
 use Rattle.aper_fields.specs.Reading.{Input, whole_at}
 use Rattle.aper_fields.specs.Spelling.{Holds}
 use Rattle.aper_fields.specs.Format.{Format, WholeRefuses}
@@ -32,7 +32,7 @@ many_in F n = record { Spells = λ at xs run. (length xs ≡ n) × InOrder F [] 
 -- n values behind those before, from left to right
 unfoldable pub many_at : {A : Type 0} → (List A → Reader A) → ℕ → List A → Reader (List A)
 many_at f zero before i = Ok (before, i)
-many_at f (suc n) before i = pieces.◌>>=◌ (f before i) (λ x. many_at f n (before ++ x.0 ∷ []) x.1)
+many_at f (suc n) before i = answers.◌>>=◌ (f before i) (λ x. many_at f n (before ++ x.0 ∷ []) x.1)
 
 -- ---- containers
 
@@ -41,4 +41,4 @@ abbrev pub inside : {A : Type 0} → Input → Format A → Format A
 inside content F = record { Spells = λ at v run. Holds F.Spells content v × (run ≡ []); Refuses = λ i e. WholeRefuses F content e }
 
 abbrev pub inside_at : {A : Type 0} → Input → Reader A → Reader A
-inside_at content f = λ i. pieces.◌>>=◌ (whole_at f content) (λ v. Ok (v, i))
+inside_at content f = λ i. answers.◌>>=◌ (whole_at f content) (λ v. Ok (v, i))

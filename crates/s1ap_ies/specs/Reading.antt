@@ -1,35 +1,20 @@
 -- Reading the pieces of S1AP values from left to right.
-use Rattle.std.specs.Prelude.{ℕ, zero, suc, ◌==◌, nat_le, nat_lt, Bool, Ok, Err, if◌then◌else◌}
+use Rattle.std.specs.Prelude.{ℕ, zero, suc, ◌==◌, nat_le, nat_lt, Bool, Ok, if◌then◌else◌}
 use Rattle.echo_base.specs.declared.reason.Reason.{Reason}
 use Rattle.echo_base.specs.declared.reason.Reason.TheVariants as reasons
-use Rattle.aper_fields.specs.Reading as pieces
-use Rattle.aper_fields.specs.Reading.{Input, Read, refuse, fixed_bits_at, number_at, open_at}
+use Rattle.echo_base.specs.declared.refusal.Refusal.{Refusal}
+use Rattle.echo_base.specs.Answer as answers
+use Rattle.echo_base.specs.Reading as readings
+pub use Rattle.echo_base.specs.Reading.{◌>>=◌, done, skipping}
+use Rattle.aper_fields.specs.Reading.{Input, refuse, fixed_bits_at, number_at, open_at}
 
 -- a way to read
 abbrev pub Reader : Type 0 → Type 0
-Reader A = Input → Read A
-
--- one piece, and behind it what its value calls for
-infixl 10 ◌>>=◌
-abbrev pub ◌>>=◌ : {A B : Type 0} → Reader A → (A → Reader B) → Reader B
-f >>= g = λ i. pieces.◌>>=◌ (f i) (λ x. g x.0 x.1)
-
--- the value, of no bits
-abbrev pub done : {A : Type 0} → A → Reader A
-done v = λ i. Ok (v, i)
-
--- what is read with its value left out
-abbrev pub passed : {A : Type 0} → Read A → Read (Unit {0})
-passed (Ok x) = Ok (tt, x.1)
-passed (Err e) = Err e
-
--- a value that is passed over: read as ever, and not kept
-abbrev pub skipping : {A : Type 0} → Reader A → Reader (Unit {0})
-skipping f = λ i. passed (f i)
+Reader A = readings.Reader Input Refusal A
 
 -- a value that has to pass a test, and is refused where it begins
 abbrev pub passing_at : {A : Type 0} → (A → Bool) → Reason → Reader A → Reader A
-passing_at test reason f = λ i. pieces.◌>>=◌ (f i) (λ x. if test x.0 then Ok x else refuse reason i)
+passing_at test reason f = λ i. answers.◌>>=◌ (f i) (λ x. if test x.0 then Ok x else refuse reason i)
 
 -- ---- what SEQUENCEs share
 

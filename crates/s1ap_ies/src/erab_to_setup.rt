@@ -1,7 +1,7 @@
 //! E-RABs that are to be set up.
 
 ghost use Rattle.std.specs.Prelude.{◌≡◌, IfOk, IfSome, OnOk, OnErr, option_map, length};
-ghost use Rattle.aper_fields.specs.Reading.{GivesBy};
+ghost use Rattle.echo_base.specs.Reading.{GivesBy};
 ghost use Rattle.aper_fields.specs.Run.{then_written, ◌▸◌, fixed_bits_run};
 ghost use Rattle.s1ap_ies.specs.Kept.{Keeps};
 ghost use Rattle.s1ap_ies.specs.Asn1.{reading, run, fields_at, fields_run, FieldsFit, CanBeWritten, optional};

@@ -1,7 +1,7 @@
 //! The items of lists.
 
 ghost use Rattle.std.specs.Prelude.{◌≡◌, ◌≤◌, ◌%◌, length, OnOk, OnErr, IfOk};
-ghost use Rattle.aper_fields.specs.Reading.{Gives};
+ghost use Rattle.echo_base.specs.Reading.{Gives};
 ghost use Rattle.aper_fields.specs.Format.{ReadsExactly};
 ghost use Rattle.aper_fields.specs.Run.{then_written};
 ghost use Rattle.s1ap_ies.specs.Reading.{item_at};

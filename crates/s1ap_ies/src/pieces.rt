@@ -1,7 +1,7 @@
 //! Bits that have to be 0, criticalities, and the indices of CHOICEs.
 
 ghost use Rattle.std.specs.Prelude.{◌≡◌, ◌^◌, ◌≤◌, ◌<◌, IfOk, OnOk, OnErr};
-ghost use Rattle.aper_fields.specs.Reading.{Gives};
+ghost use Rattle.echo_base.specs.Reading.{Gives};
 ghost use Rattle.aper_fields.specs.Format.{ReadsExactly};
 ghost use Rattle.aper_fields.specs.Run.{then_written};
 ghost use Rattle.s1ap_ies.specs.Grammar.{zero_bit_in, criticality_in, choice_in};

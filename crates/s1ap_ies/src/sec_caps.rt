@@ -1,7 +1,7 @@
 //! Security capabilities.
 
 ghost use Rattle.std.specs.Prelude.{◌≡◌, IfOk, OnOk, OnErr, ◌^◌, ◌<◌};
-ghost use Rattle.aper_fields.specs.Reading.{Gives};
+ghost use Rattle.echo_base.specs.Reading.{Gives};
 ghost use Rattle.aper_fields.specs.Run.{then_written};
 ghost use Rattle.s1ap_ies.specs.Asn1.{reading, run};
 ghost use Rattle.s1ap_ies.specs.Kept.{Keeps};

@@ -1,7 +1,7 @@
 //! What SEQUENCEs share: the bits before the fields, and the iE-Extensions behind them.
 
 ghost use Rattle.std.specs.Prelude.{◌≡◌, OnOk, OnErr};
-ghost use Rattle.aper_fields.specs.Reading.{Gives};
+ghost use Rattle.echo_base.specs.Reading.{Gives};
 ghost use Rattle.aper_fields.specs.Run.{then_written, ◌▸◌, fixed_bits_run};
 ghost use Rattle.s1ap_ies.specs.Kept.{Keeps};
 ghost use Rattle.s1ap_ies.specs.Asn1.{present_run};

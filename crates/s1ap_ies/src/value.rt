@@ -1,11 +1,11 @@
 //! What the values of IEs share: each is read exactly by its type in ASN.1, and written whole or not at all.
 
 ghost use Rattle.std.specs.Prelude.{◌≡◌, ℕ, List, Bool, OnOk, OnErr};
-ghost use Rattle.aper_fields.specs.Reading.{Gives};
+ghost use Rattle.echo_base.specs.Reading.{Gives, GivesIn};
 ghost use Rattle.aper_fields.specs.Format.{ReadsExactly};
 ghost use Rattle.aper_fields.specs.Run.{then_written};
 ghost use Rattle.s1ap_ies.specs.Kept.{Keeps};
-ghost use Rattle.s1ap_ies.specs.Memory.{GivesIn, ReadsIn};
+ghost use Rattle.s1ap_ies.specs.Memory.{ReadsIn};
 ghost use Rattle.s1ap_ies.specs.Reading.{skipping};
 ghost use Rattle.s1ap_ies.specs.Asn1.{AsnType, format, reading, run, CanBeWritten};
 

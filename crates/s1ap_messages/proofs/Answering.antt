@@ -7,7 +7,7 @@ use Rattle.echo_base.specs.declared.refusal.Refusal.{Refusal}
 use Rattle.aper_fields.specs.Bits.{bits, bits_of, zeros, gap}
 use Rattle.aper_fields.proofs.BitLaws.{length-bits_of}
 use Rattle.aper_fields.proofs.Octet.{input}
-use Rattle.aper_fields.proofs.Formats.{ok_of, ok_err, err_is}
+use Rattle.echo_base.proofs.Answers.{ok_of, ok_err, err_is}
 use Rattle.s1ap_messages.specs.declared.pdu.Pdu.{Pdu}
 use Rattle.s1ap_messages.specs.Messages.{kind_of}
 use Rattle.s1ap_messages.specs.Grammar.{Spells, Refused}

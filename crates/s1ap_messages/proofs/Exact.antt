@@ -6,7 +6,7 @@ use Rattle.echo_base.specs.declared.refusal.Bad.{Bad}
 use Rattle.echo_base.specs.declared.refusal.Bad.TheVariants.{Refused, OutOfMemory}
 use Rattle.aper_fields.specs.Reading.{whole_at}
 use Rattle.aper_fields.specs.Format.{WholeRefuses}
-use Rattle.aper_fields.proofs.Formats.{bind, ok_of, err_of, ok_err, err_is}
+use Rattle.echo_base.proofs.Answers.{bind, bind_assoc, ok_of, err_of, ok_err, err_is}
 use Rattle.aper_fields.proofs.Containers.{whole_found, whole_only, whole_wrong, whole_refused}
 use Rattle.s1ap_messages.specs.declared.tables.MessageKind.{MessageKind}
 use Rattle.s1ap_messages.specs.Messages.{rows_of}
@@ -17,9 +17,9 @@ use Rattle.s1ap_messages.specs.Grammar.{Ie, pdu_in, ies_in, start, AreIes, field
 use Rattle.s1ap_messages.specs.Reading.{lacking}
 use Rattle.s1ap_messages.specs.Built.{at_end, message_at, received, uplink_at}
 use Rattle.s1ap_messages.specs.Messages.{message_from}
-use Rattle.s1ap_messages.specs.Answer.{Answers, IsAnswer}
+use Rattle.echo_base.specs.Answer.{Answers, IsAnswer}
 use Rattle.s1ap_messages.proofs.Frame.{pdu_kept_at, pdu_exactly}
-use Rattle.s1ap_messages.proofs.Kept.{slots_of, with_slots, whole_is, bind_assoc}
+use Rattle.s1ap_messages.proofs.Kept.{slots_of, with_slots, whole_is}
 use Rattle.s1ap_messages.proofs.Makes.{AreTyped, in_order_typed, Makes, makes, filled_up, made_back, whole_values, missing_is}
 
 -- the values of IEs that stand are of their ids
@@ -113,7 +113,7 @@ refused_message octets e h =
 
 -- ---- what a call answers
 
-pub message_answers : (octets : List ℕ) (r : Result Pdu Bad) → IsAnswer (message_at octets) r → Answers (Spells octets) (grammar.Refused octets) r
+pub message_answers : (octets : List ℕ) (r : Result Pdu Bad) → IsAnswer (message_at octets) r → Answers (Spells octets) (grammar.Refused octets) (Unit {0}) r
 message_answers octets (Ok p) h = found_message octets p h
 message_answers octets (Err (Refused e)) h = wrong_message octets e h
 message_answers octets (Err OutOfMemory) h = tt
@@ -142,7 +142,7 @@ uplink_wrong octets e (Ok q) read h =
     let is = received_err q e (is_downlink (kind_of q)) refl h in
     inr (q, found_message octets q read, is.0, is.1)
 
-pub uplink_answers : (octets : List ℕ) (r : Result Pdu Bad) → IsAnswer (uplink_at octets) r → Answers (SpellsUplink octets) (RefusedUplink octets) r
+pub uplink_answers : (octets : List ℕ) (r : Result Pdu Bad) → IsAnswer (uplink_at octets) r → Answers (SpellsUplink octets) (RefusedUplink octets) (Unit {0}) r
 unfolding uplink_at
 uplink_answers octets (Ok p) h = uplink_found octets p (message_at octets) refl h
 uplink_answers octets (Err (Refused e)) h = uplink_wrong octets e (message_at octets) refl h

@@ -5,7 +5,7 @@ use Rattle.echo_base.specs.declared.refusal.Refusal.{Refusal}
 use Rattle.echo_base.specs.declared.refusal.Bad.{Bad}
 use Rattle.echo_base.specs.declared.refusal.Bad.TheVariants.{Refused, OutOfMemory}
 use Rattle.aper_fields.specs.Reading.{whole_at}
-use Rattle.aper_fields.proofs.Formats.{bind, ok_of, ok_err, err_is}
+use Rattle.echo_base.proofs.Answers.{bind, ok_of, ok_err, answers_refused}
 use Rattle.aper_fields.proofs.Containers.{whole_found}
 use Rattle.s1ap_messages.specs.declared.tables.IeRow.{IeRow}
 use Rattle.s1ap_messages.specs.declared.tables.MessageKind.{MessageKind}
@@ -18,7 +18,7 @@ use Rattle.s1ap_messages.specs.Reading.{pdu_at, lacking}
 use Rattle.s1ap_messages.specs.Rows.{Slots}
 use Rattle.s1ap_messages.specs.Built.{at_end, message_at, received, uplink_at}
 use Rattle.s1ap_messages.specs.Messages.{message_from}
-use Rattle.s1ap_messages.specs.Answer.{IsAnswer}
+use Rattle.echo_base.specs.Answer.{IsAnswer}
 use Rattle.s1ap_messages.specs.Memory.{takes_memory, IsFound, IsRead}
 use Rattle.s1ap_messages.specs.Values.{FieldValue}
 use Rattle.s1ap_messages.proofs.Frame.{pdu_kept_at, pdu_exactly}
@@ -134,17 +134,11 @@ read_answer read (Err (Refused e)) h = h
 read_answer read (Err OutOfMemory) h = tt
 
 -- a refusal is given whatever memory there is
-given : (read : Result Pdu Refusal) (r : Result Pdu Bad) (e : Refusal) → read ≡ Err e → IsRead read r → r ≡ Err (Refused e)
-given read (Ok p) e is h = absurd (ok_err p e (sym h ∙ is))
-given read (Err (Refused d)) e is h = ap (λ (x : Refusal). Err (Refused x)) (err_is {A = Pdu} d e (sym h ∙ is))
-given (Ok p) (Err OutOfMemory) e is h = absurd (ok_err p e is)
-given (Err d) (Err OutOfMemory) e is h = absurd h
-
 pub refused_read : (octets : List ℕ) (r : Result Pdu Bad) (e : Refusal) → IsRead (message_at octets) r → grammar.Refused octets e → r ≡ Err (Refused e)
-refused_read octets r e h due = given (message_at octets) r e (refused_message octets e due) h
+refused_read octets r e h due = answers_refused Takes (message_at octets) r h e (refused_message octets e due)
 
 pub refused_received : (octets : List ℕ) (r : Result Pdu Bad) (e : Refusal) → IsRead (uplink_at octets) r → RefusedUplink octets e → r ≡ Err (Refused e)
-refused_received octets r e h due = given (uplink_at octets) r e (refused_uplink octets e due) h
+refused_received octets r e h due = answers_refused Takes (uplink_at octets) r h e (refused_uplink octets e due)
 
 -- memory runs out for a message that takes some
 short : (read : Result Pdu Refusal) (r : Result Pdu Bad) → IsRead read r → r ≡ Err OutOfMemory → (p : Pdu) × (read ≡ Ok p) × Takes p

@@ -4,11 +4,10 @@ use Rattle.std.specs.List.{list_any}
 use Rattle.std.proofs.lemmas.Bool.{cases_Bool, eqb-true, eq-eqb}
 use Rattle.echo_base.specs.declared.reason.Reason.{Reason}
 use Rattle.echo_base.specs.declared.reason.Reason.TheVariants as reasons
-use Rattle.echo_base.specs.declared.refusal.Refusal.{Refusal}
 use Rattle.aper_fields.specs.Reading.{Input, Read, number_at, open_at, close_at, whole_at, contained_at}
 use Rattle.aper_fields.specs.Format as formats
 use Rattle.aper_fields.specs.Format.{either, just}
-use Rattle.aper_fields.proofs.Formats.{bind, ok_of}
+use Rattle.echo_base.proofs.Answers.{bind, bind_same, bind_assoc, ok_of}
 use Rattle.s1ap_messages.specs.declared.tables.IeRow.{IeRow}
 use Rattle.s1ap_messages.specs.declared.tables.MessageKind.{MessageKind}
 use Rattle.s1ap_messages.specs.declared.tables.MessageKind.TheVariants as kind
@@ -29,14 +28,6 @@ use Rattle.s1ap_messages.proofs.Frame.{ie_kept_at, ies_kept_at, pdu_kept_at, ie_
 
 abbrev pub Maps : {A B : Type 0} → (A → B) → Reader A → Reader B → Type 0
 Maps h f g = (i : Input) → g i ≡ bind (f i) (λ x. Ok (h x.0, x.1))
-
-pub bind_same : {A B : Type 0} (r : Result A Refusal) (f g : A → Result B Refusal) → ((x : A) → f x ≡ g x) → bind r f ≡ bind r g
-bind_same (Ok x) f g same = same x
-bind_same (Err e) f g same = refl
-
-pub bind_assoc : {A B C : Type 0} (r : Result A Refusal) (f : A → Result B Refusal) (g : B → Result C Refusal) → bind (bind r f) g ≡ bind r (λ x. bind (f x) g)
-bind_assoc (Ok x) f g = refl
-bind_assoc (Err e) f g = refl
 
 -- behind the same piece
 behind_maps : {A B C : Type 0} (h : B → C) (f : Reader A) (g : A → Reader B) (k : A → Reader C) → ((a : A) → Maps h (g a) (k a)) → Maps h (f >>= g) (f >>= k)

@@ -4,13 +4,10 @@ use Rattle.echo_base.specs.declared.reason.Reason.{Reason}
 use Rattle.echo_base.specs.declared.refusal.Refusal.{Refusal}
 use Rattle.aper_fields.specs.Reading.{Input, refusal}
 use Rattle.aper_fields.specs.Format.{Format, IsExactly}
-use Rattle.aper_fields.proofs.Exact.{bind_ok}
-use Rattle.aper_fields.proofs.Formats.{bind_err, ok_err, ok_of, err_is, stands_read}
+use Rattle.echo_base.proofs.Answers.{bind_ok, bind_err, ok_err, ok_is, err_is}
+use Rattle.aper_fields.proofs.Formats.{stands_read}
 use Rattle.s1ap_ies.specs.Reading.{Reader}
 use Rattle.s1ap_messages.specs.Many.{looked_up, looked_up_at, answer}
-
-ok_is : {A : Type 0} (x y : A) → ok_of x ≡ Ok y → x ≡ y
-ok_is x y e = cc
 
 answered : {B : Type 0} (r : Result B Reason) (i j k : Input) (v : B) → answer r i j ≡ Ok (v, k) → (r ≡ Ok v) × (j ≡ k)
 answered (Ok w) i j k v e =

@@ -26,7 +26,7 @@ use Rattle.s1ap_messages.specs.Values.{FieldValue, value_type}
 use Rattle.s1ap_messages.specs.Messages.{kind_of}
 use Rattle.s1ap_messages.specs.Grammar.{Ie, Named, Other, found, has_ie, fields_of, ie_in, ies_in, pdu_in, Spells}
 use Rattle.s1ap_messages.specs.Run.{value_run, fields_run, count_of, ies_run, IsShort, IsRightValue, IsRightField, IsRight, HasOctetsIn, HasOctets}
-use Rattle.s1ap_messages.specs.Answer.{Answers}
+use Rattle.echo_base.specs.Answer.{Answers}
 use Rattle.aper_fields.proofs.Ends.{EndsBy, front_ends, open_ends}
 use Rattle.aper_fields.proofs.Opens.{open_offset}
 use Rattle.aper_fields.proofs.Room.{HasRoom, open_room}
@@ -167,7 +167,7 @@ message_right octets p s =
     let right = pdu_right 0 (kind, s.0) s.1.0 s.1.1 in
     ((subst (EachValue IsRightField) s.2 (fields_by IsRightField rows s.0 right.0), subst (λ (values : List (Option FieldValue)). IsShort (ies_run kind values 0)) s.2 right.2), subst (EachValue HasOctetsIn) s.2 (fields_by HasOctetsIn rows s.0 right.1))
 
-pub answer_right : (Right : Pdu → Type 0) (Due : Refusal → Type 0) → ((p : Pdu) → Right p → IsRight p) → (r : Result Pdu Bad) → Answers Right Due r → IfOk r IsRight
+pub answer_right : (Right : Pdu → Type 0) (Due : Refusal → Type 0) → ((p : Pdu) → Right p → IsRight p) → (r : Result Pdu Bad) → Answers Right Due (Unit {0}) r → IfOk r IsRight
 answer_right Right Due right (Ok p) h = right p h
 answer_right Right Due right (Err (Refused e)) h = tt
 answer_right Right Due right (Err OutOfMemory) h = tt

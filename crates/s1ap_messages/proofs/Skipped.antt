@@ -1,12 +1,17 @@
 -- Passing over a list of E-RABs is reading it, without its items.
 use Rattle.std.proofs.Common.{◌≡◌, ℕ, zero, suc, List, [], ◌∷◌, ◌++◌, Result, Ok, Err, IsOk, IsErrAnd, refl, sym, ap, ◌∙◌}
 use Rattle.echo_base.specs.declared.refusal.Refusal.{Refusal}
-use Rattle.aper_fields.specs.Reading.{Input, Read, Gives, number_at, close_at, whole_at}
-use Rattle.aper_fields.proofs.Formats.{bind, ok_of, ok_err, err_is}
-use Rattle.s1ap_ies.specs.Reading.{Reader, passed, skipping, item_at}
+use Rattle.echo_base.specs.Reading.{Gives}
+use Rattle.aper_fields.specs.Reading.{Input, Read, number_at, close_at, whole_at}
+use Rattle.echo_base.proofs.Answers.{bind, ok_of, ok_err, err_is}
+use Rattle.s1ap_ies.specs.Reading.{Reader, skipping, item_at}
 use Rattle.s1ap_ies.specs.Asn1.{contained_item_at, list_at}
 use Rattle.s1ap_ies.specs.Many.{many_at, inside_at}
 use Rattle.s1ap_messages.specs.Reading.{skipped_at, erabs_skipped_at, listed}
+
+-- what is read, with its value left out
+abbrev passed : {A : Type 0} → Read A → Read (Unit {0})
+passed r = bind r (λ x. Ok (tt, x.1))
 
 closed : {A : Type 0} (v : A) (k : Input) (r : Result (Unit {0}) Refusal) → bind (bind r (λ e. ok_of tt)) (λ u. Ok (u, k)) ≡ passed (bind (bind r (λ e. ok_of v)) (λ u. Ok (u, k)))
 closed v k (Ok e) = refl

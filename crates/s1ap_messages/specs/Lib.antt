@@ -1,4 +1,3 @@
-pub mod Answer
 pub mod Built
 pub mod Grammar
 pub mod Lent

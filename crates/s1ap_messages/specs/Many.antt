@@ -1,7 +1,7 @@
 -- A value that is looked up.
 use Rattle.std.specs.Prelude.{◌≡◌, ◌⊎◌, Result, Ok, Err}
 use Rattle.echo_base.specs.declared.reason.Reason.{Reason}
-use Rattle.aper_fields.specs.Reading as pieces
+use Rattle.echo_base.specs.Answer as answers
 use Rattle.aper_fields.specs.Reading.{Input, Read, refusal}
 use Rattle.aper_fields.specs.Format.{Format, Stands}
 use Rattle.s1ap_ies.specs.Reading.{Reader}
@@ -18,4 +18,4 @@ answer (Ok v) i j = Ok (v, j)
 answer (Err reason) i j = Err (refusal reason i)
 
 abbrev pub looked_up_at : {A B : Type 0} → (A → Result B Reason) → Reader A → Reader B
-looked_up_at look f = λ i. pieces.◌>>=◌ (f i) (λ x. answer (look x.0) i x.1)
+looked_up_at look f = λ i. answers.◌>>=◌ (f i) (λ x. answer (look x.0) i x.1)

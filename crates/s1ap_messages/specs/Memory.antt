@@ -3,7 +3,7 @@ use Rattle.std.specs.Prelude.{◌≡◌, ℕ, Bool, true, false, Option, Some, R
 use Rattle.std.specs.List.{list_any}
 use Rattle.echo_base.specs.declared.refusal.Refusal.{Refusal}
 use Rattle.echo_base.specs.declared.refusal.Bad.{Bad}
-use Rattle.echo_base.specs.declared.refusal.Bad.TheVariants.{Refused, OutOfMemory}
+use Rattle.echo_base.specs.Answer.{IsAnswerTaking}
 use Rattle.s1ap_messages.specs.declared.tables.MessageKind.{MessageKind}
 use Rattle.s1ap_messages.specs.declared.pdu.Pdu.{Pdu}
 use Rattle.s1ap_messages.specs.declared.value.IeValue.TheVariants as value
@@ -37,6 +37,4 @@ IsFound read (Err e) = read ≡ Err e
 
 -- What reading gives: the message, or the refusal; no memory only where it is a message that takes some.
 abbrev pub IsRead : Result Pdu Refusal → Result Pdu Bad → Type 0
-IsRead read (Ok p) = read ≡ Ok p
-IsRead read (Err (Refused e)) = read ≡ Err e
-IsRead read (Err OutOfMemory) = IsOkAnd read (λ p. takes_memory p ≡ true)
+IsRead read result = IsAnswerTaking (λ p. takes_memory p ≡ true) read result

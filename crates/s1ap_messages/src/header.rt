@@ -1,7 +1,7 @@
 //! How a message begins.
 
 ghost use Rattle.std.specs.Prelude.{◌≡◌, ◌≤◌, ◌<◌, OnOk};
-ghost use Rattle.aper_fields.specs.Reading.{Gives};
+ghost use Rattle.echo_base.specs.Reading.{Gives};
 ghost use Rattle.aper_fields.specs.Run.{then_written};
 ghost use Rattle.s1ap_messages.specs.Messages.{outcome_index, header_of};
 ghost use Rattle.s1ap_messages.specs.Grammar.{kind_with};

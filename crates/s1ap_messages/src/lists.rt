@@ -2,12 +2,11 @@
 
 ghost use Rattle.std.specs.Prelude.{◌≡◌, ◌≤◌, [], IfOk, OnOk, length};
 ghost use Rattle.std.specs.List.{AllByRecursion};
-ghost use Rattle.aper_fields.specs.Reading.{Gives};
+ghost use Rattle.echo_base.specs.Reading.{Gives, GivesIn};
 ghost use Rattle.aper_fields.specs.Run.{then_written};
 ghost use Rattle.s1ap_ies.specs.Names.{criticality_number};
 ghost use Rattle.s1ap_ies.specs.Asn1.{AsnType, reading, run, contained_item_at, list_at, each_run, list_run, item_run, CanBeWritten, IsItem};
 ghost use Rattle.s1ap_ies.specs.Many.{many_at};
-ghost use Rattle.s1ap_ies.specs.Memory.{GivesIn};
 ghost use Rattle.s1ap_ies.specs.Reading.{skipping};
 ghost use Rattle.s1ap_ies.specs.Values.{erabs_to_setup, erabs_done};
 ghost use Rattle.s1ap_messages.specs.Reading.{skipped_at, erabs_skipped_at};

@@ -1,7 +1,8 @@
 //! Reading messages.
 
-ghost use Rattle.std.specs.Prelude.{◌≡◌, ◌≤◌, ◌<◌, true, IfOk, IfSome, Ok, Err, length, take};
-ghost use Rattle.aper_fields.specs.Reading.{Gives, whole_at};
+ghost use Rattle.std.specs.Prelude.{◌≡◌, ◌≤◌, ◌<◌, true, IfOk, IfSome, Ok, Err, length, take, ⊤};
+ghost use Rattle.echo_base.specs.Reading.{Gives};
+ghost use Rattle.aper_fields.specs.Reading.{whole_at};
 ghost use Rattle.s1ap_messages.specs.Messages.{rows_of};
 ghost use Rattle.s1ap_messages.specs.Reading.{empty, place_of, ie_at, fields_at, ies_at, pdu_at};
 ghost use Rattle.echo_base.specs.declared.refusal.Refusal.{Refusal};
@@ -10,7 +11,7 @@ ghost use Rattle.s1ap_messages.specs.declared.pdu.Pdu.{Pdu};
 ghost use Rattle.s1ap_messages.specs.Grammar.{start, Spells, Refused, SpellsUplink, RefusedUplink};
 ghost use Rattle.s1ap_messages.specs.Run.{IsRight};
 ghost use Rattle.s1ap_messages.specs.Built.{message_at, uplink_at};
-ghost use Rattle.s1ap_messages.specs.Answer.{Answers, IsAnswer};
+ghost use Rattle.echo_base.specs.Answer.{Answers, IsAnswer};
 ghost use Rattle.s1ap_messages.specs.Memory.{takes_memory, IsFound, IsRead};
 
 use crate::build::message;
@@ -200,7 +201,7 @@ fn read_received(alloc: Global, bytes: &[u8]) -> Result<Pdu, Bad>
 /// the message is found right, for its NAS-PDU, key, radio capability and lists of E-RABs.
 pub fn read_pdu(alloc: Global, bytes: &[u8]) -> Result<Pdu, Bad>
     // What is read is spelled so, and what is refused is refused for the refusal that is due.
-    ensures answers { Answers (Spells bytes.now) (Refused bytes.now) result }
+    ensures answers { Answers (Spells bytes.now) (Refused bytes.now) ⊤ result }
     // The message that the octets are is read, unless memory runs out.
     ensures only { (p : Pdu) → Spells bytes.now p → IsAnswer (Ok p) result }
     // The refusal that is due is given, whatever memory there is.
@@ -219,7 +220,7 @@ pub fn read_pdu(alloc: Global, bytes: &[u8]) -> Result<Pdu, Bad>
 /// Reads the message that all of the octets are, of those that an MME receives: refused as `read_pdu` refuses, and
 /// WrongDirection at octet 1 for a message that an MME sends.
 pub fn read_uplink(alloc: Global, bytes: &[u8]) -> Result<Pdu, Bad>
-    ensures answers { Answers (SpellsUplink bytes.now) (RefusedUplink bytes.now) result }
+    ensures answers { Answers (SpellsUplink bytes.now) (RefusedUplink bytes.now) ⊤ result }
     ensures only { (p : Pdu) → SpellsUplink bytes.now p → IsAnswer (Ok p) result }
     ensures refused { (e : Refusal) → RefusedUplink bytes.now e → result ≡ Err (bad.Refused e) }
     ensures memory { result ≡ Err bad.OutOfMemory

@@ -1,7 +1,8 @@
 //! The values of IEs.
 
 ghost use Rattle.std.specs.Prelude.{◌≡◌, IfOk};
-ghost use Rattle.aper_fields.specs.Reading.{Gives, octet_string_at, fixed_octets_at};
+ghost use Rattle.echo_base.specs.Reading.{Gives};
+ghost use Rattle.aper_fields.specs.Reading.{octet_string_at, fixed_octets_at};
 ghost use Rattle.s1ap_ies.specs.Asn1.{reading};
 ghost use Rattle.s1ap_messages.specs.Values.{value_type};
 

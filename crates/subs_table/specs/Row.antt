@@ -1,21 +1,17 @@
 -- The lines of the subscriber table, a JSON object each.
-use Rattle.std.specs.Prelude.{◌≡◌, ℕ, List, [], ◌∷◌, codes, Option, Some, None, Result, Ok, Err, is_none, find, option_and_then, if◌then◌else◌}
+use Rattle.std.specs.Prelude.{ℕ, List, [], ◌∷◌, codes, Option, Some, None, Result, Ok, Err, is_none, find, option_and_then, if◌then◌else◌}
 use Rattle.std.specs.Option.{option_map_or}
 use Rattle.std.specs.Str.{is_utf8}
 use Rattle.serde_json.specs.Data as json
 use Rattle.serde_json.specs.Data.{Data}
 use Rattle.serde_json.specs.Read.{read}
 use Rattle.serde_json.specs.Find.{get}
-use Rattle.serde_json.specs.View.{view}
-use Rattle.serde_json.specs.declared.value.Value.{Value}
 use Rattle.device_types.specs.declared.subscriber.Subscriber.{Subscriber}
 use Rattle.echo_base.specs.declared.reason.Column.{Column}
 use Rattle.echo_base.specs.declared.reason.Column.TheVariants.{Imsi, Tmsi, Rand, Autn, Res, Key, Apn, Ip, Sgw, Teid, AmbrDl, AmbrUl, Forbidden}
-use Rattle.echo_base.specs.declared.reason.Reason.{Reason}
 use Rattle.echo_base.specs.declared.reason.Reason.TheVariants.{BadJson, MissingColumn, BadColumn}
 use Rattle.echo_base.specs.declared.refusal.Refusal.{Refusal}
-use Rattle.echo_base.specs.declared.refusal.Bad.{Bad}
-use Rattle.echo_base.specs.declared.refusal.Bad.TheVariants.{Refused, OutOfMemory}
+use Rattle.echo_base.specs.Answer.{◌>>=◌, refused}
 use Rattle.subs_table.specs.Kinds.{Kind, whole, decimal, hexadecimal, address, name, wholes}
 
 -- the columns in their order, all of them needed
@@ -38,50 +34,34 @@ key_of AmbrDl = codes "ambr_dl"
 key_of AmbrUl = codes "ambr_ul"
 key_of Forbidden = codes "forbidden"
 
--- ---- reading an object
-
--- what is read of an object, or why it is refused
-abbrev pub Reader : Type 0 → Type 0
-Reader A = Data → Result A Reason
-
-infixl 10 ◌>>=◌
-abbrev pub and_then : {A B : Type 0} → Result A Reason → (A → Result B Reason) → Result B Reason
-and_then (Ok v) f = f v
-and_then (Err reason) f = Err reason
-
--- one thing, and then what its value calls for; the first refusal stands
-abbrev pub ◌>>=◌ : {A B : Type 0} → Reader A → (A → Reader B) → Reader B
-f >>= g = λ row. and_then (f row) (λ v. g v row)
-
-abbrev pub done : {A : Type 0} → A → Reader A
-done v = λ row. Ok v
+-- ---- reading an object: what it has, or the refusal, which has no place
 
 -- every column is there, or the first that is missing is told
-unfoldable pub all_columns : Reader (Unit {0})
-all_columns row = option_map_or (λ column. Err (MissingColumn column)) (find (λ column. is_none (get (key_of column) row)) columns) (Ok tt)
+unfoldable pub all_columns : Data → Result (Unit {0}) Refusal
+all_columns row = option_map_or (λ column. Err (refused (MissingColumn column))) (find (λ column. is_none (get (key_of column) row)) columns) (Ok tt)
 
 -- a column of that kind; of a repeated key the last value counts, which is serde_json's word
-unfoldable pub column_at : {A : Type 0} → Column → Kind A → Reader A
-column_at column kind row = option_map_or Ok (option_and_then kind (get (key_of column) row)) (Err (BadColumn column))
+unfoldable pub column_at : {A : Type 0} → Column → Kind A → Data → Result A Refusal
+column_at column kind row = option_map_or Ok (option_and_then kind (get (key_of column) row)) (Err (refused (BadColumn column)))
 
 -- the row of that number: a line for each column, with its kind and range
-unfoldable pub subscriber_at : ℕ → Reader Subscriber
-subscriber_at number = do
-  all ← all_columns
-  imsi ← column_at Imsi (decimal 15)
-  tmsi ← column_at Tmsi (whole 0 4294967295)
-  rand ← column_at Rand (hexadecimal 16 16)
-  autn ← column_at Autn (hexadecimal 16 16)
-  res ← column_at Res (hexadecimal 4 16)
-  key ← column_at Key (hexadecimal 32 32)
-  apn ← column_at Apn (name 1 30)
-  ip ← column_at Ip address
-  sgw ← column_at Sgw address
-  teid ← column_at Teid (whole 1 4000000000)
-  ambr_dl ← column_at AmbrDl (whole 0 10000000000)
-  ambr_ul ← column_at AmbrUl (whole 0 10000000000)
-  forbidden ← column_at Forbidden (wholes 16 65535)
-  done (record { number = number; imsi = imsi; tmsi = tmsi; rand = rand; autn = autn; res = res; key = key; apn = apn; ip = ip; sgw = sgw; teid = teid; ambr_dl = ambr_dl; ambr_ul = ambr_ul; forbidden = forbidden })
+unfoldable pub subscriber_at : ℕ → Data → Result Subscriber Refusal
+subscriber_at number row = do
+  all ← all_columns row
+  imsi ← column_at Imsi (decimal 15) row
+  tmsi ← column_at Tmsi (whole 0 4294967295) row
+  rand ← column_at Rand (hexadecimal 16 16) row
+  autn ← column_at Autn (hexadecimal 16 16) row
+  res ← column_at Res (hexadecimal 4 16) row
+  key ← column_at Key (hexadecimal 32 32) row
+  apn ← column_at Apn (name 1 30) row
+  ip ← column_at Ip address row
+  sgw ← column_at Sgw address row
+  teid ← column_at Teid (whole 1 4000000000) row
+  ambr_dl ← column_at AmbrDl (whole 0 10000000000) row
+  ambr_ul ← column_at AmbrUl (whole 0 10000000000) row
+  forbidden ← column_at Forbidden (wholes 16 65535) row
+  Ok (record { number = number; imsi = imsi; tmsi = tmsi; rand = rand; autn = autn; res = res; key = key; apn = apn; ip = ip; sgw = sgw; teid = teid; ambr_dl = ambr_dl; ambr_ul = ambr_ul; forbidden = forbidden })
 
 -- ---- reading a line
 
@@ -99,24 +79,5 @@ unfoldable pub object_of : List ℕ → Option Data
 object_of line = if is_utf8 line then option_and_then as_row (read line) else None
 
 -- the row of that number that the line is, or why it is refused
-unfoldable pub row_of : ℕ → List ℕ → Result Subscriber Reason
-row_of number line = option_map_or (subscriber_at number) (object_of line) (Err BadJson)
-
--- ---- what a call answers
-
--- the value or the reason, which has the place 0
-abbrev pub Gives : {A : Type 0} → Result A Refusal → Result A Reason → Type 0
-Gives (Ok v) wanted = wanted ≡ Ok v
-Gives (Err refusal) wanted = (wanted ≡ Err refusal.reason) × (refusal.place ≡ 0)
-
--- the value or the reason, or no memory
-abbrev pub MatchRow : {A : Type 0} → Result A Bad → Result A Reason → Type 0
-MatchRow (Ok v) wanted = wanted ≡ Ok v
-MatchRow (Err (Refused refusal)) wanted = (wanted ≡ Err refusal.reason) × (refusal.place ≡ 0)
-MatchRow (Err OutOfMemory) wanted = Unit {0}
-
--- the object of a line, none where it is refused, or no memory
-abbrev pub MatchObject : Result Value Bad → Option Data → Type 0
-MatchObject (Ok value) wanted = wanted ≡ Some (view value)
-MatchObject (Err (Refused refusal)) wanted = (wanted ≡ None) × (refusal.reason ≡ BadJson) × (refusal.place ≡ 0)
-MatchObject (Err OutOfMemory) wanted = Unit {0}
+unfoldable pub row_of : ℕ → List ℕ → Result Subscriber Refusal
+row_of number line = option_map_or (subscriber_at number) (object_of line) (Err (refused BadJson))

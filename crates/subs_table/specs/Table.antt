@@ -5,6 +5,8 @@ use Rattle.std.specs.List.{list_any, range_with_len, IsDistinct}
 use Rattle.device_types.specs.declared.subscriber.Subscriber.{Subscriber}
 use Rattle.device_types.specs.declared.subscriber.DeviceId.{DeviceId}
 use Rattle.echo_base.specs.declared.reason.Reason.{Reason}
+use Rattle.echo_base.specs.declared.refusal.Refusal.{Refusal}
+use Rattle.echo_base.specs.Answer.{refused}
 use Rattle.echo_base.specs.declared.reason.Reason.TheVariants.{RepeatedImsi, RepeatedTmsi, TableFull}
 use Rattle.device_types.specs.Subscriber.{IsSubscriber}
 
@@ -54,5 +56,5 @@ add_refusal rows row =
     else Some TableFull
 
 -- what adding a row answers
-unfoldable pub add_answer : List Subscriber → Subscriber → Result DeviceId Reason
-add_answer rows row = option_map_or Err (add_refusal rows row) (Ok (device_of row))
+unfoldable pub add_answer : List Subscriber → Subscriber → Result DeviceId Refusal
+add_answer rows row = option_map_or (λ reason. Err (refused reason)) (add_refusal rows row) (Ok (device_of row))

@@ -1,20 +1,19 @@
 //! The columns of a row.
-ghost use Rattle.std.specs.Prelude.{◌≡◌, ◌↔◌, ◌^◌, ◌<◌, ◌≤◌, length, find, is_none, All, IsTrue, IfSome, IfOk, option_map, option_and_then};
+ghost use Rattle.std.specs.Prelude.{◌≡◌, ◌^◌, ◌<◌, ◌≤◌, length, find, is_none, All, IfSome, IfOk, option_map, option_and_then};
 ghost use Rattle.std.specs.List.{AllPass, list_all};
 ghost use Rattle.std.specs.Char.{is_ascii_digit};
 ghost use Rattle.std.specs.Int.{w32, from_be_bytes};
 ghost use Rattle.echo_base.specs.declared.reason.Reason.TheVariants.{BadColumn};
-ghost use Rattle.hex.specs.declared.error.FromHexError.TheVariants.{OutOfMemory};
+ghost use Rattle.echo_base.specs.Answer.{refused, IsAnswer};
 ghost use Rattle.serde_json.specs.View.{view, items_view};
 ghost use Rattle.serde_json.specs.Find.{get, as_str};
 ghost use Rattle.device_types.specs.Octets.{AreOctets};
 ghost use Rattle.device_types.specs.Subscriber.{is_letter_or_digit};
-ghost use Rattle.subs_table.specs.Kinds.{whole, number_of, decimal, octets_of, octets_within, hexadecimal, address, name, wholes_of, wholes};
-ghost use Rattle.subs_table.specs.Row.{Gives, MatchRow, columns, all_columns, key_of, column_at};
+ghost use Rattle.subs_table.specs.Kinds.{whole, number_of, decimal, octets_within, hexadecimal, address, name, wholes_of, wholes};
+ghost use Rattle.subs_table.specs.Row.{columns, all_columns, key_of, column_at};
 
 use device_types::{Areas, Octets};
-use echo_base::{Bad, Column, Reason, Refusal};
-use hex::FromHexError;
+use echo_base::{Bad, Column, Reason, Refusal, decode_hex, refused};
 use serde_json::Value;
 use std::alloc::{AllocError, Global};
 
@@ -57,14 +56,6 @@ fn key(column: Column) -> &'static str
     }
 }
 
-/// A refusal, which has the place 0.
-pub(crate) fn refused(reason: Reason) -> Refusal
-    ensures reason { result.reason ≡ reason }
-    ensures place { result.place ≡ 0 }
-{
-    Refusal { reason, place: 0 }
-}
-
 /// The first column that is missing.
 fn first_missing(row: &Value) -> Option<Column>
     ensures { result ≡ find (λ column. is_none (get (key_of column) (view row.now))) columns }
@@ -78,7 +69,7 @@ fn first_missing(row: &Value) -> Option<Column>
 /// Refuses a row for the first column that is missing.
 #[tactic(auto, unfolding(crate::specs::Row::all_columns))]
 pub(crate) fn need_columns(row: &Value) -> Result<(), Refusal>
-    ensures { Gives result (all_columns (view row.now)) }
+    ensures { result ≡ all_columns (view row.now) }
 {
     match first_missing(row) {
         Some(column) => Err(refused(Reason::MissingColumn(column))),
@@ -88,8 +79,7 @@ pub(crate) fn need_columns(row: &Value) -> Result<(), Refusal>
 
 /// The refusal of a column of a wrong kind or range.
 fn bad(column: Column) -> Refusal
-    ensures reason { result.reason ≡ BadColumn column }
-    ensures place { result.place ≡ 0 }
+    ensures { result ≡ refused (BadColumn column) }
 {
     refused(Reason::BadColumn(column))
 }
@@ -105,7 +95,7 @@ fn text(row: &Value, column: Column) -> Option<&str>
 /// Reads a column as a whole number from `low` to `high`.
 #[tactic(auto, unfolding(crate::specs::Row::column_at, crate::specs::Kinds::whole))]
 pub(crate) fn read_whole(row: &Value, column: Column, low: u64, high: u64) -> Result<u64, Refusal>
-    ensures read { Gives result (column_at column (whole low high) (view row.now)) }
+    ensures read { result ≡ column_at column (whole low high) (view row.now) }
     ensures least { IfOk result (λ n. low ≤ n) }
     ensures most { IfOk result (λ n. n ≤ high) }
 {
@@ -140,7 +130,7 @@ fn fifteen_digits(text: &str) -> Option<u64>
 /// Reads a column as the number of a text of 15 decimal digits.
 #[tactic(auto, unfolding(crate::specs::Row::column_at, crate::specs::Kinds::decimal))]
 pub(crate) fn read_imsi(row: &Value, column: Column) -> Result<u64, Refusal>
-    ensures read { Gives result (column_at column (decimal 15) (view row.now)) }
+    ensures read { result ≡ column_at column (decimal 15) (view row.now) }
     ensures range { IfOk result (λ n. n < 10 ^ 15) }
 {
     text(row, column)
@@ -166,7 +156,7 @@ pub(crate) fn read_name(
     low: usize,
     high: usize,
 ) -> Result<Octets, Bad>
-    ensures read { MatchRow result (column_at column (name low high) (view row.now)) }
+    ensures read { IsAnswer (column_at column (name low high) (view row.now)) result }
     ensures least { IfOk result (λ text. low ≤ length text) }
     ensures most { IfOk result (λ text. length text ≤ high) }
     ensures characters { IfOk result (λ text. AllPass is_letter_or_digit text) }
@@ -180,32 +170,8 @@ pub(crate) fn read_name(
     Ok(Octets::from(Vec::from_slice(alloc, text.as_bytes())?))
 }
 
-/// Was there no memory for the octets?
-fn is_memory(error: &FromHexError) -> bool
-    ensures { IsTrue result ↔ (error.now ≡ OutOfMemory) }
-{
-    matches!(error, FromHexError::OutOfMemory)
-}
-
-/// The octets of a text of hexadecimal digits, and nothing for another text.
-#[tactic(auto, unfolding(crate::specs::Kinds::octets_of))]
-fn decode(alloc: Global, text: &str) -> Result<Option<Vec<u8>>, AllocError>
-    ensures { IfOk result (λ octets. option_map (λ octets. octets.items) octets ≡ octets_of text.now) }
-{
-    match hex::decode(alloc, text) {
-        Ok(octets) => Ok(Some(octets)),
-        Err(error) => {
-            if is_memory(&error) {
-                Err(AllocError)
-            } else {
-                Ok(None)
-            }
-        }
-    }
-}
-
 /// Reads a column as `low` to `high` octets of hexadecimal digits in either case.
-#[tactic(auto, unfolding(crate::specs::Row::column_at, crate::specs::Kinds::hexadecimal))]
+#[tactic(auto, unfolding(crate::specs::Row::column_at, crate::specs::Kinds::hexadecimal, crate::specs::Kinds::octets_of))]
 pub(crate) fn read_octets(
     alloc: Global,
     row: &Value,
@@ -213,7 +179,7 @@ pub(crate) fn read_octets(
     low: usize,
     high: usize,
 ) -> Result<Octets, Bad>
-    ensures read { MatchRow result (column_at column (hexadecimal low high) (view row.now)) }
+    ensures read { IsAnswer (column_at column (hexadecimal low high) (view row.now)) result }
     ensures least { IfOk result (λ octets. low ≤ length octets) }
     ensures most { IfOk result (λ octets. length octets ≤ high) }
     ensures octets { IfOk result AreOctets }
@@ -221,7 +187,7 @@ pub(crate) fn read_octets(
     let Some(text) = text(row, column) else {
         return Err(bad(column).into());
     };
-    let Some(octets) = decode(alloc, text)? else {
+    let Some(octets) = decode_hex(alloc, text.as_bytes())? else {
         return Err(bad(column).into());
     };
     if octets.len() < low || high < octets.len() {
@@ -248,7 +214,7 @@ fn eight_digits(text: &str) -> Option<u32>
 /// Reads a column as an IPv4 address of eight hexadecimal digits.
 #[tactic(auto, unfolding(crate::specs::Row::column_at, crate::specs::Kinds::address, crate::specs::Kinds::hexadecimal))]
 pub(crate) fn read_address(row: &Value, column: Column) -> Result<u32, Refusal>
-    ensures { Gives result (column_at column address (view row.now)) }
+    ensures { result ≡ column_at column address (view row.now) }
 {
     text(row, column).and_then(eight_digits).ok_or(bad(column))
 }
@@ -279,7 +245,7 @@ pub(crate) fn read_areas(
     column: Column,
     most: usize,
 ) -> Result<Areas, Bad>
-    ensures read { MatchRow result (column_at column (wholes most 65535) (view row.now)) }
+    ensures read { IsAnswer (column_at column (wholes most 65535) (view row.now)) result }
     ensures most { IfOk result (λ areas. length areas ≤ most) }
     ensures range { IfOk result (λ areas. All (λ area. area < 65536) areas) }
 {

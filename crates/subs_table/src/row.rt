@@ -1,21 +1,24 @@
 //! The lines of the subscriber table.
-ghost use Rattle.std.specs.Prelude.{◌≡◌, IfOk};
+ghost use Rattle.std.specs.Prelude.{◌≡◌, Some, None, IfOk, ⊤};
 ghost use Rattle.serde_json.specs.View.{view};
+ghost use Rattle.echo_base.specs.declared.reason.Reason.TheVariants.{BadJson};
+ghost use Rattle.echo_base.specs.Answer.{refused, Answers, IsAnswer};
 ghost use Rattle.device_types.specs.Subscriber.{IsSubscriber};
-ghost use Rattle.subs_table.specs.Row.{MatchRow, MatchObject, object_of, subscriber_at, row_of};
+ghost use Rattle.subs_table.specs.Row.{object_of, subscriber_at, row_of};
 
 use crate::columns::{
-    need_columns, read_address, read_areas, read_imsi, read_name, read_octets, read_whole, refused,
+    need_columns, read_address, read_areas, read_imsi, read_name, read_octets, read_whole,
 };
 use device_types::Subscriber;
-use echo_base::{Bad, Column, Reason};
+use echo_base::{Bad, Column, Reason, refused};
 use serde_json::Value;
 use std::alloc::Global;
 
 /// Reads a line as a JSON object.
 #[tactic(auto, using(crate::proofs::ObjectLaws::object_read))]
 fn read_object(alloc: Global, line: &[u8]) -> Result<Value, Bad>
-    ensures { MatchObject result (object_of line.now) }
+    ensures { Answers (λ value. object_of line.now ≡ Some (view value))
+        (λ e. (object_of line.now ≡ None) × (e ≡ refused BadJson)) ⊤ result }
 {
     let bad_json = refused(Reason::BadJson);
     let value = match Value::from_slice(alloc, line) {
@@ -36,7 +39,7 @@ fn read_object(alloc: Global, line: &[u8]) -> Result<Value, Bad>
 /// Reads the columns of an object.
 #[tactic(auto, unfolding(crate::specs::Row::subscriber_at))]
 fn read_columns(alloc: Global, row: &Value, number: u32) -> Result<Subscriber, Bad>
-    ensures row { MatchRow result (subscriber_at number (view row.now)) }
+    ensures row { IsAnswer (subscriber_at number (view row.now)) result }
     ensures range { IfOk result IsSubscriber }
     ensures numbered { IfOk result (λ row. row.number ≡ number) }
 {
@@ -77,7 +80,7 @@ fn read_columns(alloc: Global, row: &Value, number: u32) -> Result<Subscriber, B
 /// wrong kind or range. The place of a refusal is 0. Other columns are passed over.
 #[tactic(auto, unfolding(crate::specs::Row::row_of))]
 pub fn read_row(alloc: Global, line: &[u8], number: u32) -> Result<Subscriber, Bad>
-    ensures row { MatchRow result (row_of number line.now) }
+    ensures row { IsAnswer (row_of number line.now) result }
     ensures range { IfOk result IsSubscriber }
     ensures numbered { IfOk result (λ row. row.number ≡ number) }
 {

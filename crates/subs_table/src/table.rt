@@ -4,12 +4,11 @@ ghost use Rattle.device_types.specs.declared.subscriber.DeviceId.{DeviceId};
 ghost use Rattle.device_types.specs.Subscriber.{IsSubscriber};
 ghost use Rattle.std.specs.List.Sorted.{IsStrictlyIncreasing, IsPermutation};
 ghost use Rattle.subs_table.specs.Order.{devices_by_imsi, imsi_at};
-ghost use Rattle.subs_table.specs.Row.{MatchRow};
+ghost use Rattle.echo_base.specs.Answer.{IsAnswer};
 ghost use Rattle.subs_table.specs.Table.{IsTable, imsi_of, tmsi_of, device_of, RowHas, device_by, add_refusal, add_answer};
 
-use crate::columns::refused;
 use device_types::{DeviceId, Subscriber};
-use echo_base::{Bad, Reason};
+use echo_base::{Bad, Reason, refused};
 use std::alloc::{AllocError, Global};
 use std::collections::BTreeMap;
 use std::marker::Model;
@@ -75,7 +74,7 @@ impl SubsTable {
     pub fn add(&mut self, row: Subscriber) -> Result<DeviceId, Bad>
         requires number { row.number ≡ length self.old + 1 }
         requires ranges { IsSubscriber row }
-        ensures answer { MatchRow result (add_answer self.old row) }
+        ensures answer { IsAnswer (add_answer self.old row) result }
         ensures added { OnOk result (self.new ≡ self.old ++ row ∷ []) }
         ensures err { OnErr result (self.new ≡ self.old) }
         ensures table { IsTable self.new }

@@ -1,5 +1,5 @@
 use Rattle.std.proofs.Common.{subst}
-use Rattle.s1ap_messages.specs.Answer.{IsAnswer}
+use Rattle.echo_base.specs.Answer.{IsAnswer}
 use Rattle.s1ap_messages.specs.Grammar.{Spells, Refused}
 use Rattle.s1ap_messages.specs.Built.{message_at}
 use Rattle.s1ap_messages.proofs.Right.{message_right, answer_right}
