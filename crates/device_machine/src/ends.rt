@@ -81,7 +81,7 @@ fn gather(alloc: Global, steps: Vec<Step>) -> Result<Lanes, AllocError>
 }
 
 /// What becomes of a device whose messages are taken one by one, with each call answered at once: how many messages and steps
-/// there were, the effects of each lane in order, and the last session. It takes time linear in the messages.
+/// there were, the effects of each lane in order, and the last session.
 pub fn end_of(row: &Subscriber, messages: &[Message]) -> Result<DeviceEnd, AllocError>
     requires tunnel { row.now.teid ≤ 4000000000 }
     requires count { length messages.now ≤ 100000 }

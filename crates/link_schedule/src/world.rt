@@ -21,8 +21,8 @@ pub(crate) type Agent = Window<4>;
 /// event, and what it comes to its answer. Contracts see what the world runs on, the events that it has taken, and its parts.
 ///
 /// No packet on a link is stored. A message is in its device's line, an effect with its receiver once it is accepted and in the row
-/// until then, and replies, acknowledgements and answers follow from how many there are. Every event takes at most a time that is
-/// logarithmic in devices, messages and events, but for a list that grows.
+/// until then, and replies, acknowledgements and answers follow from how many there are. So an event is meant to take a time that is
+/// logarithmic in devices, messages and events, but for a list that grows; no clause speaks of time.
 #[derive(Debug, Drop)]
 pub struct World {
     pub(crate) law: EchoLaw,

@@ -22,7 +22,7 @@ use std::marker::Model;
 pub type DeviceRow = Row<4>;
 
 /// The rows of all devices, under a law. Contracts see the charter of the law, and the rows in the order of the devices' numbers.
-/// A call on one device takes the same time however many devices and entries there are.
+/// A call on one device looks at its row alone, however many devices and entries there are; no clause speaks of time.
 #[derive(Debug, Drop)]
 pub struct Store<L: RowLaw> {
     law: L,

@@ -16,8 +16,8 @@ use std::marker::Model;
 /// As many rows as a table may have.
 const MOST_ROWS: usize = 4096;
 
-/// The subscriber table, which contracts see as its rows in the order of their numbers. A look-up takes time in the
-/// logarithm of the rows.
+/// The subscriber table, which contracts see as its rows in the order of their numbers. A look-up goes by an ordered map,
+/// in the logarithm of the rows; no clause speaks of time.
 #[derive(Debug, Drop)]
 pub struct SubsTable {
     rows: Vec<Subscriber>,
@@ -110,7 +110,7 @@ impl SubsTable {
         rows
     }
 
-    /// The devices in the order of their IMSIs, which takes time linear in the rows.
+    /// The devices in the order of their IMSIs, in one walk along an ordered map.
     pub fn in_imsi_order(&self, alloc: Global) -> Result<Vec<DeviceId>, AllocError>
         ensures devices { IfOk result (λ devices. devices.items ≡ devices_by_imsi self.now) }
         ensures increasing { IfOk result (λ devices. IsStrictlyIncreasing (map (imsi_at self.now) devices.items)) }
