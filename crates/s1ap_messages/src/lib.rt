@@ -19,4 +19,5 @@ mod writing;
 pub use laws::{one_answer, small_is_right, spelled_is_right, written_is_spelled};
 pub use pdu::{ErabsDone, ErabsToSetup, Pdu, message_name};
 pub use reading::{read_pdu, read_uplink};
+pub use tables::{IeRow, IeTable, MessageKind, ies_of};
 pub use writing::write_pdu;
