@@ -314,3 +314,26 @@ fn converts_into_bad(rt: HostRuntime) -> Result<(), Fail> {
     assert_eq!(rt; single(rt.alloc(), None)?.len(), 1);
     Ok(())
 }
+
+/// Texts, and the octets that their hexadecimal digits are (RFC 4648, 8), in either case.
+const HEXADECIMAL: &str = "\
+00 Some([0])
+0aFF Some([10, 255])
+0 None
+0g None
++1 None
+0a0 None
+";
+
+#[test]
+fn decodes_hexadecimal_digits(rt: HostRuntime) -> Result<(), Fail> {
+    for line in HEXADECIMAL.lines() {
+        let (digits, want) = line.split_once(' ').ok_or("no octets")?;
+        let octets = decode_hex(rt.alloc(), digits.as_bytes())?;
+        let text = format!(in rt.alloc(); "{octets:?}")?;
+        assert_eq!(rt; text.as_str(), want, "for {digits}");
+    }
+    let nothing = decode_hex(rt.alloc(), b"")?;
+    assert!(rt; nothing.is_some());
+    Ok(())
+}
