@@ -26,7 +26,7 @@ pub enum Outcome {
 
 impl Outcome {
     /// The index of the alternative.
-    fn index(self) -> u8
+    pub fn index(self) -> u8
         ensures index { result ≡ outcome_index self }
         ensures root { result < 3 }
     {

@@ -1,8 +1,9 @@
 //! Lists of one E-RAB, read from their octets.
 
-ghost use Rattle.std.specs.Prelude.{◌≡◌, ◌≤◌, ◌∷◌, [], IfSome, is_some};
+ghost use Rattle.std.specs.Prelude.{◌≡◌, ◌<◌, ◌∷◌, [], IfSome, is_some};
 ghost use Rattle.s1ap_ies.specs.Run.{IsErabDone, IsErabToSetup, IsNas};
 ghost use Rattle.s1ap_ies.specs.Asn1.{CanBeWritten};
+ghost use Rattle.s1ap_ies.specs.Names as named;
 ghost use Rattle.s1ap_ies.specs.Values as types;
 ghost use Rattle.s1ap_messages.specs.Usual.{nas_octets, done_octets, setup_octets, erabs_octets, ie_octets};
 
@@ -10,14 +11,14 @@ use crate::pdu::{ErabsDone, ErabsToSetup};
 use crate::usual::octets::{counted, ie, one};
 use crate::usual::values::{four, own};
 use device_types::{ListOf, Octets};
-use s1ap_ies::{ErabDone, ErabToSetup};
+use s1ap_ies::{Criticality, ErabDone, ErabToSetup, names};
 use std::alloc::Global;
 
 /// The one item of a list, where all of the octets are such a list.
 #[inline(always)]
-fn item(octets: &[u8], id: u8, criticality: u8) -> Option<&[u8]>
-    requires { criticality ≤ 2 }
-    ensures { IfSome result (λ x. octets.now ≡ 0 ∷ ie_octets id criticality x.now) }
+fn item(octets: &[u8], id: u16, criticality: Criticality) -> Option<&[u8]>
+    requires { id < 256 }
+    ensures { IfSome result (λ x. octets.now ≡ 0 ∷ ie_octets id (named.criticality_number criticality) x.now) }
 {
     let (count, items) = one(octets)?;
     let (item, more) = ie(items, id, criticality)?;
@@ -60,10 +61,10 @@ fn done(octets: &[u8]) -> Option<ErabDone>
 /// A list of one E-RAB that was set up, where all of the octets are it.
 #[tactic(auto, unfolding(crate::specs::Usual::erabs_octets, crate::specs::Usual::items_octets, s1ap_ies::specs::Values::erabs_done, s1ap_ies::specs::Values::erab_done, s1ap_ies::specs::Values::erab_id, s1ap_ies::specs::Values::address))]
 pub fn erabs_done(alloc: Global, octets: &[u8]) -> Option<ErabsDone>
-    ensures octets { IfSome result (λ list. octets.now ≡ erabs_octets 50 1 done_octets list) }
+    ensures octets { IfSome result (λ list. octets.now ≡ erabs_octets named.erab_setup_item named.ignore done_octets list) }
     ensures right { IfSome result (λ list. CanBeWritten types.erabs_done list) }
 {
-    let erab = done(item(octets, 50, 1)?)?;
+    let erab = done(item(octets, names::ERAB_SETUP_ITEM, Criticality::Ignore)?)?;
     let list = list_of(alloc, erab)?;
     Some(list)
 }
@@ -82,7 +83,7 @@ fn nas(alloc: Global, octets: &[u8], present: bool) -> Option<Option<Octets>>
         return Some(None);
     }
     let (nas, more) = counted(octets)?;
-    if nas.len() > 2048 || !more.is_empty() {
+    if nas.len() > names::MOST_OCTETS_OF_NAS || !more.is_empty() {
         return None;
     }
     Some(Some(own(alloc, nas)?))
@@ -115,10 +116,13 @@ fn setup(alloc: Global, octets: &[u8]) -> Option<ErabToSetup>
 /// A list of one E-RAB that is to be set up, where all of the octets are it.
 #[tactic(auto, unfolding(crate::specs::Usual::erabs_octets, crate::specs::Usual::items_octets, s1ap_ies::specs::Values::erabs_to_setup, s1ap_ies::specs::Values::erab_to_setup, s1ap_ies::specs::Values::erab_id, s1ap_ies::specs::Values::qos, s1ap_ies::specs::Values::arp, s1ap_ies::specs::Values::address))]
 pub fn erabs_to_setup(alloc: Global, octets: &[u8]) -> Option<ErabsToSetup>
-    ensures octets { IfSome result (λ list. octets.now ≡ erabs_octets 52 0 setup_octets list) }
+    ensures octets { IfSome result (λ list. octets.now ≡ erabs_octets named.erab_to_setup_item named.reject setup_octets list) }
     ensures right { IfSome result (λ list. CanBeWritten types.erabs_to_setup list) }
 {
-    let erab = setup(alloc, item(octets, 52, 0)?)?;
+    let erab = setup(
+        alloc,
+        item(octets, names::ERAB_TO_SETUP_ITEM, Criticality::Reject)?,
+    )?;
     let list = list_of(alloc, erab)?;
     Some(list)
 }

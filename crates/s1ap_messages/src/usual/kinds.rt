@@ -12,15 +12,31 @@ use crate::usual::octets::ie;
 use crate::usual::values::{
     caps, cause, cgi, enb, ids, key, last_stmsi, mme, nas, own, rates, rrc, tai, text,
 };
+use s1ap_ies::{Criticality, names};
 use std::alloc::Global;
+
+/// The first octet of an initiating message (3GPP TS 36.413, 9.3.2).
+const INITIATING: u8 = 0;
+
+/// The first octet of a successful outcome.
+const SUCCESSFUL: u8 = 32;
+
+/// The first octet of an unsuccessful outcome.
+const UNSUCCESSFUL: u8 = 64;
+
+/// The third octet of a message with the criticality reject (9.3.3).
+const REJECT: u8 = 0;
+
+/// The third octet of a message with the criticality ignore.
+const IGNORE: u8 = 64;
 
 /// The IEs of an INITIAL UE MESSAGE.
 fn initial_ue_message(alloc: Global, octets: &[u8], count: u8) -> Option<Pdu>
     ensures { IfSome result (AreFieldsOf kind.InitialUeMessage octets.now count) }
 {
-    let (enb, octets) = enb(octets, 0)?;
+    let (enb, octets) = enb(octets, Criticality::Reject)?;
     let (nas, octets) = nas(octets)?;
-    let (tai, octets) = tai(octets, 0)?;
+    let (tai, octets) = tai(octets, Criticality::Reject)?;
     let (cgi, octets) = cgi(octets)?;
     let (rrc, octets) = rrc(octets)?;
     let stmsi = last_stmsi(octets, count)?;
@@ -39,11 +55,11 @@ fn initial_ue_message(alloc: Global, octets: &[u8], count: u8) -> Option<Pdu>
 fn uplink_nas_transport(alloc: Global, octets: &[u8], count: u8) -> Option<Pdu>
     ensures { IfSome result (AreFieldsOf kind.UplinkNasTransport octets.now count) }
 {
-    let (mme, octets) = mme(octets, 0)?;
-    let (enb, octets) = enb(octets, 0)?;
+    let (mme, octets) = mme(octets, Criticality::Reject)?;
+    let (enb, octets) = enb(octets, Criticality::Reject)?;
     let (nas, octets) = nas(octets)?;
     let (cgi, octets) = cgi(octets)?;
-    let (tai, octets) = tai(octets, 1)?;
+    let (tai, octets) = tai(octets, Criticality::Ignore)?;
     if count != 5 || !octets.is_empty() {
         return None;
     }
@@ -61,8 +77,8 @@ fn uplink_nas_transport(alloc: Global, octets: &[u8], count: u8) -> Option<Pdu>
 fn downlink_nas_transport(alloc: Global, octets: &[u8], count: u8) -> Option<Pdu>
     ensures { IfSome result (AreFieldsOf kind.DownlinkNasTransport octets.now count) }
 {
-    let (mme, octets) = mme(octets, 0)?;
-    let (enb, octets) = enb(octets, 0)?;
+    let (mme, octets) = mme(octets, Criticality::Reject)?;
+    let (enb, octets) = enb(octets, Criticality::Reject)?;
     let (nas, octets) = nas(octets)?;
     if count != 3 || !octets.is_empty() {
         return None;
@@ -75,10 +91,10 @@ fn downlink_nas_transport(alloc: Global, octets: &[u8], count: u8) -> Option<Pdu
 fn initial_context_setup_request(alloc: Global, octets: &[u8], count: u8) -> Option<Pdu>
     ensures { IfSome result (AreFieldsOf kind.InitialContextSetupRequest octets.now count) }
 {
-    let (mme, octets) = mme(octets, 0)?;
-    let (enb, octets) = enb(octets, 0)?;
+    let (mme, octets) = mme(octets, Criticality::Reject)?;
+    let (enb, octets) = enb(octets, Criticality::Reject)?;
     let (rates, octets) = rates(octets)?;
-    let (bearers, octets) = ie(octets, 24, 0)?;
+    let (bearers, octets) = ie(octets, names::ERABS_TO_SETUP, Criticality::Reject)?;
     let (caps, octets) = caps(octets)?;
     let (key, octets) = key(octets)?;
     if count != 6 || !octets.is_empty() {
@@ -100,9 +116,9 @@ fn initial_context_setup_request(alloc: Global, octets: &[u8], count: u8) -> Opt
 fn initial_context_setup_response(alloc: Global, octets: &[u8], count: u8) -> Option<Pdu>
     ensures { IfSome result (AreFieldsOf kind.InitialContextSetupResponse octets.now count) }
 {
-    let (mme, octets) = mme(octets, 1)?;
-    let (enb, octets) = enb(octets, 1)?;
-    let (done, octets) = ie(octets, 51, 1)?;
+    let (mme, octets) = mme(octets, Criticality::Ignore)?;
+    let (enb, octets) = enb(octets, Criticality::Ignore)?;
+    let (done, octets) = ie(octets, names::ERABS_DONE, Criticality::Ignore)?;
     if count != 3 || !octets.is_empty() {
         return None;
     }
@@ -114,8 +130,8 @@ fn initial_context_setup_response(alloc: Global, octets: &[u8], count: u8) -> Op
 fn initial_context_setup_failure(octets: &[u8], count: u8) -> Option<Pdu>
     ensures { IfSome result (AreFieldsOf kind.InitialContextSetupFailure octets.now count) }
 {
-    let (mme, octets) = mme(octets, 1)?;
-    let (enb, octets) = enb(octets, 1)?;
+    let (mme, octets) = mme(octets, Criticality::Ignore)?;
+    let (enb, octets) = enb(octets, Criticality::Ignore)?;
     let (cause, octets) = cause(octets)?;
     if count != 3 || !octets.is_empty() {
         return None;
@@ -127,8 +143,8 @@ fn initial_context_setup_failure(octets: &[u8], count: u8) -> Option<Pdu>
 fn ue_context_release_request(octets: &[u8], count: u8) -> Option<Pdu>
     ensures { IfSome result (AreFieldsOf kind.UeContextReleaseRequest octets.now count) }
 {
-    let (mme, octets) = mme(octets, 0)?;
-    let (enb, octets) = enb(octets, 0)?;
+    let (mme, octets) = mme(octets, Criticality::Reject)?;
+    let (enb, octets) = enb(octets, Criticality::Reject)?;
     let (cause, octets) = cause(octets)?;
     if count != 3 || !octets.is_empty() {
         return None;
@@ -152,8 +168,8 @@ fn ue_context_release_command(octets: &[u8], count: u8) -> Option<Pdu>
 fn ue_context_release_complete(octets: &[u8], count: u8) -> Option<Pdu>
     ensures { IfSome result (AreFieldsOf kind.UeContextReleaseComplete octets.now count) }
 {
-    let (mme, octets) = mme(octets, 1)?;
-    let (enb, octets) = enb(octets, 1)?;
+    let (mme, octets) = mme(octets, Criticality::Ignore)?;
+    let (enb, octets) = enb(octets, Criticality::Ignore)?;
     if count != 2 || !octets.is_empty() {
         return None;
     }
@@ -164,9 +180,9 @@ fn ue_context_release_complete(octets: &[u8], count: u8) -> Option<Pdu>
 fn ue_capability_info_indication(alloc: Global, octets: &[u8], count: u8) -> Option<Pdu>
     ensures { IfSome result (AreFieldsOf kind.UeCapabilityInfoIndication octets.now count) }
 {
-    let (mme, octets) = mme(octets, 0)?;
-    let (enb, octets) = enb(octets, 0)?;
-    let (radio, octets) = text(octets, 74, 1)?;
+    let (mme, octets) = mme(octets, Criticality::Reject)?;
+    let (enb, octets) = enb(octets, Criticality::Reject)?;
+    let (radio, octets) = text(octets, names::RADIO_CAPABILITY, Criticality::Ignore)?;
     if count != 3 || !octets.is_empty() {
         return None;
     }
@@ -218,20 +234,21 @@ pub fn fields(alloc: Global, kind: MessageKind, octets: &[u8], count: u8) -> Opt
 }
 
 /// The kind of message whose header has these octets, as it is written.
+#[rattlefmt::skip]
 pub fn kind_of_header(outcome: u8, code: u8, criticality: u8) -> Option<MessageKind>
     ensures { IfSome result (λ kind. BeginsAs kind outcome code criticality) }
 {
     match (outcome, code, criticality) {
-        (0, 9, 0) => Some(MessageKind::InitialContextSetupRequest),
-        (0, 11, 64) => Some(MessageKind::DownlinkNasTransport),
-        (0, 12, 64) => Some(MessageKind::InitialUeMessage),
-        (0, 13, 64) => Some(MessageKind::UplinkNasTransport),
-        (0, 18, 64) => Some(MessageKind::UeContextReleaseRequest),
-        (0, 22, 64) => Some(MessageKind::UeCapabilityInfoIndication),
-        (0, 23, 0) => Some(MessageKind::UeContextReleaseCommand),
-        (32, 9, 0) => Some(MessageKind::InitialContextSetupResponse),
-        (32, 23, 0) => Some(MessageKind::UeContextReleaseComplete),
-        (64, 9, 0) => Some(MessageKind::InitialContextSetupFailure),
+        (INITIATING, names::INITIAL_CONTEXT_SETUP, REJECT) => Some(MessageKind::InitialContextSetupRequest),
+        (INITIATING, names::DOWNLINK_NAS_TRANSPORT, IGNORE) => Some(MessageKind::DownlinkNasTransport),
+        (INITIATING, names::INITIAL_UE_MESSAGE, IGNORE) => Some(MessageKind::InitialUeMessage),
+        (INITIATING, names::UPLINK_NAS_TRANSPORT, IGNORE) => Some(MessageKind::UplinkNasTransport),
+        (INITIATING, names::UE_CONTEXT_RELEASE_REQUEST, IGNORE) => Some(MessageKind::UeContextReleaseRequest),
+        (INITIATING, names::UE_CAPABILITY_INFO_INDICATION, IGNORE) => Some(MessageKind::UeCapabilityInfoIndication),
+        (INITIATING, names::UE_CONTEXT_RELEASE, REJECT) => Some(MessageKind::UeContextReleaseCommand),
+        (SUCCESSFUL, names::INITIAL_CONTEXT_SETUP, REJECT) => Some(MessageKind::InitialContextSetupResponse),
+        (SUCCESSFUL, names::UE_CONTEXT_RELEASE, REJECT) => Some(MessageKind::UeContextReleaseComplete),
+        (UNSUCCESSFUL, names::INITIAL_CONTEXT_SETUP, REJECT) => Some(MessageKind::InitialContextSetupFailure),
         _ => None,
     }
 }

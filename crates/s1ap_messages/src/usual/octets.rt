@@ -1,7 +1,10 @@
 //! Octets, read from left to right.
 
 ghost use Rattle.std.specs.Prelude.{◌≡◌, ◌+◌, ◌*◌, ◌<◌, ◌≤◌, ◌∷◌, [], ◌++◌, IfSome, length};
+ghost use Rattle.s1ap_ies.specs.Names as named;
 ghost use Rattle.s1ap_messages.specs.Usual.{count_octets, counted, least_octets, number_octets, ie_octets};
+
+use s1ap_ies::Criticality;
 
 /// The first octet, and what stands behind it.
 #[inline(always)]
@@ -71,12 +74,13 @@ pub fn counted(octets: &[u8]) -> Option<(&[u8], &[u8])>
 /// What an IE contains, and what stands behind it. An item of a list has the same form.
 #[inline(always)]
 #[tactic(auto, unfolding(crate::specs::Usual::ie_octets))]
-pub fn ie(octets: &[u8], id: u8, criticality: u8) -> Option<(&[u8], &[u8])>
-    requires { criticality ≤ 2 }
-    ensures { IfSome result (λ x. octets.now ≡ ie_octets id criticality x.0.now ++ x.1.now) }
+pub fn ie(octets: &[u8], id: u16, criticality: Criticality) -> Option<(&[u8], &[u8])>
+    requires { id < 256 }
+    ensures { IfSome result (λ x. octets.now ≡ ie_octets id (named.criticality_number criticality) x.0.now ++ x.1.now) }
 {
     let (high, low, third, rest) = three(octets)?;
-    if high != 0 || low != id || third != 64 * criticality {
+    let wanted = 64 * criticality.number();
+    if high != 0 || low != id as u8 || third != wanted {
         return None;
     }
     let (content, rest) = counted(rest)?;

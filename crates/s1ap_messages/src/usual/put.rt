@@ -1,25 +1,31 @@
 //! Octets that are written one behind another.
 
 ghost use Rattle.std.specs.Prelude.{◌≡◌, ◌+◌, ◌-◌, ◌*◌, ◌^◌, ◌<◌, ◌≤◌, ◌∷◌, [], ◌++◌, IfOk, IfSome, OnOk, length, take, drop};
+ghost use Rattle.s1ap_ies.specs.Names as named;
+ghost use Rattle.s1ap_messages.specs.Messages.{outcome_index, header_of};
 ghost use Rattle.s1ap_messages.specs.Usual.{count_octets, counted, least_octets, number_octets};
 
+use crate::header::header_of;
+use crate::tables::MessageKind;
 use device_types::Octets;
+use s1ap_ies::Criticality;
 use std::alloc::{AllocError, Global};
 
-/// The octets of a message before its IEs, with an octet of zeros in place of its length.
+/// The octets of a message of that kind before its IEs, with an octet of zeros in place of its length.
 #[inline(always)]
 pub fn begin(
     alloc: Global,
-    outcome: u8,
-    code: u8,
-    criticality: u8,
+    kind: MessageKind,
     count: u8,
     room: usize,
 ) -> Result<Vec<u8>, AllocError>
-    ensures { IfOk result (λ out. out.items ≡ outcome ∷ code ∷ criticality ∷ 0 ∷ 0 ∷ 0 ∷ count ∷ []) }
+    ensures { IfOk result (λ out. out.items ≡ 32 * outcome_index (header_of kind).outcome ∷ (header_of kind).code ∷ 64 * named.criticality_number (header_of kind).criticality ∷ 0 ∷ 0 ∷ 0 ∷ count ∷ []) }
 {
+    let header = header_of(kind);
+    let outcome = 32 * header.outcome.index();
+    let criticality = 64 * header.criticality.number();
     let mut out = Vec::with_capacity(alloc, room)?;
-    out.extend_from_slice(&[outcome, code, criticality, 0, 0, 0, count])?;
+    out.extend_from_slice(&[outcome, header.code, criticality, 0, 0, 0, count])?;
     Ok(out)
 }
 
@@ -70,12 +76,17 @@ pub fn put_counted(out: &mut Vec<u8>, octets: &[u8]) -> Result<(), AllocError>
 
 /// Puts what stands before the content of an IE, or of an item of a list.
 #[inline(always)]
-pub fn put_ie(out: &mut Vec<u8>, id: u8, criticality: u8, len: usize) -> Result<(), AllocError>
-    requires criticality { criticality ≤ 2 }
+pub fn put_ie(
+    out: &mut Vec<u8>,
+    id: u16,
+    criticality: Criticality,
+    len: usize,
+) -> Result<(), AllocError>
+    requires id { id < 256 }
     requires len { len < 16384 }
-    ensures { OnOk result (out.new.items ≡ out.old.items ++ 0 ∷ id ∷ 64 * criticality ∷ count_octets len) }
+    ensures { OnOk result (out.new.items ≡ out.old.items ++ 0 ∷ id ∷ 64 * named.criticality_number criticality ∷ count_octets len) }
 {
-    out.extend_from_slice(&[0, id, 64 * criticality])?;
+    out.extend_from_slice(&[0, id as u8, 64 * criticality.number()])?;
     put_count(out, len)
 }
 

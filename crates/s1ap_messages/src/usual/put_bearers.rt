@@ -2,12 +2,13 @@
 
 ghost use Rattle.std.specs.Prelude.{◌≡◌, ◌+◌, ◌<◌, ◌≤◌, ◌∷◌, [], ◌++◌, OnOk, IfSome, is_some, if◌then◌else◌, length};
 ghost use Rattle.s1ap_ies.specs.Run.{IsErabDone, IsErabToSetup, IsNas};
+ghost use Rattle.s1ap_ies.specs.Names as named;
 ghost use Rattle.s1ap_messages.specs.Usual.{done_octets, nas_octets, setup_octets, erabs_octets, ie_octets};
 
 use crate::usual::put::{count_len, counted_len, put_counted, put_ie};
 use crate::usual::put_values::four;
 use device_types::Octets;
-use s1ap_ies::{ErabDone, ErabToSetup};
+use s1ap_ies::{Criticality, ErabDone, ErabToSetup, names};
 use std::alloc::AllocError;
 
 /// Puts a list of one E-RAB that was set up.
@@ -15,11 +16,14 @@ use std::alloc::AllocError;
 #[rattlefmt::skip]
 pub fn put_done(out: &mut Vec<u8>, erab: &ErabDone) -> Result<(), AllocError>
     requires { IsErabDone erab.now }
-    ensures { OnOk result (out.new.items ≡ out.old.items ++ ie_octets 51 1 (erabs_octets 50 1 done_octets (erab.now ∷ []))) }
+    ensures { OnOk result (out.new.items ≡ out.old.items ++ ie_octets named.erabs_done named.ignore (erabs_octets named.erab_setup_item named.ignore done_octets (erab.now ∷ []))) }
 {
     let [a, b, c, d] = four(erab.address);
     let [t, u, v, w] = four(erab.teid);
-    out.extend_from_slice(&[0, 51, 64, 15, 0, 0, 50, 64, 10, 2 * erab.id, 31, a, b, c, d, t, u, v, w])
+    let list = names::ERABS_DONE as u8;
+    let item = names::ERAB_SETUP_ITEM as u8;
+    let ignore = 64 * Criticality::Ignore.number();
+    out.extend_from_slice(&[0, list, ignore, 15, 0, 0, item, ignore, 10, 2 * erab.id, 31, a, b, c, d, t, u, v, w])
 }
 
 /// How many octets the NAS-PDU of an E-RAB is.
@@ -78,11 +82,16 @@ fn put_fields(out: &mut Vec<u8>, erab: &ErabToSetup) -> Result<(), AllocError>
 #[tactic(auto, using(crate::proofs::UsualWrite::setups_put))]
 pub fn put_setup(out: &mut Vec<u8>, erab: &ErabToSetup) -> Result<(), AllocError>
     requires { IsErabToSetup erab.now }
-    ensures { OnOk result (out.new.items ≡ out.old.items ++ ie_octets 24 0 (erabs_octets 52 0 setup_octets (erab.now ∷ []))) }
+    ensures { OnOk result (out.new.items ≡ out.old.items ++ ie_octets named.erabs_to_setup named.reject (erabs_octets named.erab_to_setup_item named.reject setup_octets (erab.now ∷ []))) }
 {
     let len = nas_len(&erab.nas) + 14;
-    put_ie(out, 24, 0, count_len(len) + len + 4)?;
+    put_ie(
+        out,
+        names::ERABS_TO_SETUP,
+        Criticality::Reject,
+        count_len(len) + len + 4,
+    )?;
     out.extend_from_slice(&[0])?;
-    put_ie(out, 52, 0, len)?;
+    put_ie(out, names::ERAB_TO_SETUP_ITEM, Criticality::Reject, len)?;
     put_fields(out, erab)
 }

@@ -8,6 +8,7 @@ ghost use Rattle.s1ap_messages.specs.Run.{IsRight};
 ghost use Rattle.s1ap_messages.specs.Usual.{unfinished_octets};
 
 use crate::pdu::Pdu;
+use crate::tables::MessageKind;
 use crate::usual::put::begin;
 use crate::usual::put_bearers::{nas_len, put_done, put_setup};
 use crate::usual::put_values::{
@@ -15,7 +16,9 @@ use crate::usual::put_values::{
     put_rates, put_rrc, put_tai, put_text,
 };
 use aper_fields::EnumValue;
-use s1ap_ies::{BitRates, Cause, Cgi, ErabDone, ErabToSetup, SecCaps, Stmsi, Tai, UeIds};
+use s1ap_ies::{
+    BitRates, Cause, Cgi, Criticality, ErabDone, ErabToSetup, SecCaps, Stmsi, Tai, UeIds, names,
+};
 use std::alloc::{AllocError, Global};
 
 /// The octets of an INITIAL UE MESSAGE, without the length of its body.
@@ -35,10 +38,15 @@ fn initial_ue_message(
     requires rrc { IsEnumValue 5 true rrc.now }
     ensures { IfOk result (λ out. out.items ≡ unfinished_octets (InitialUeMessage enb nas.now tai.now cgi.now rrc.now stmsi.now)) }
 {
-    let mut out = begin(alloc, 0, 12, 64, initial_count(stmsi), 80 + nas.len())?;
-    put_id(&mut out, 8, 0, enb)?;
-    put_text(&mut out, 26, 0, nas)?;
-    put_tai(&mut out, 0, tai)?;
+    let mut out = begin(
+        alloc,
+        MessageKind::InitialUeMessage,
+        initial_count(stmsi),
+        80 + nas.len(),
+    )?;
+    put_id(&mut out, names::ENB_UE_S1AP_ID, Criticality::Reject, enb)?;
+    put_text(&mut out, names::NAS_PDU, Criticality::Reject, nas)?;
+    put_tai(&mut out, Criticality::Reject, tai)?;
     put_cgi(&mut out, cgi)?;
     put_rrc(&mut out, rrc)?;
     put_last_stmsi(&mut out, stmsi)?;
@@ -60,12 +68,12 @@ fn uplink_nas_transport(
     requires tai { IsTai tai.now }
     ensures { IfOk result (λ out. out.items ≡ unfinished_octets (UplinkNasTransport mme enb nas.now cgi.now tai.now)) }
 {
-    let mut out = begin(alloc, 0, 13, 64, 5, 80 + nas.len())?;
-    put_id(&mut out, 0, 0, mme)?;
-    put_id(&mut out, 8, 0, enb)?;
-    put_text(&mut out, 26, 0, nas)?;
+    let mut out = begin(alloc, MessageKind::UplinkNasTransport, 5, 80 + nas.len())?;
+    put_id(&mut out, names::MME_UE_S1AP_ID, Criticality::Reject, mme)?;
+    put_id(&mut out, names::ENB_UE_S1AP_ID, Criticality::Reject, enb)?;
+    put_text(&mut out, names::NAS_PDU, Criticality::Reject, nas)?;
     put_cgi(&mut out, cgi)?;
-    put_tai(&mut out, 1, tai)?;
+    put_tai(&mut out, Criticality::Ignore, tai)?;
     Ok(out)
 }
 
@@ -80,10 +88,10 @@ fn downlink_nas_transport(
     requires { length nas.now ≤ 2048 }
     ensures { IfOk result (λ out. out.items ≡ unfinished_octets (DownlinkNasTransport mme enb nas.now)) }
 {
-    let mut out = begin(alloc, 0, 11, 64, 3, 48 + nas.len())?;
-    put_id(&mut out, 0, 0, mme)?;
-    put_id(&mut out, 8, 0, enb)?;
-    put_text(&mut out, 26, 0, nas)?;
+    let mut out = begin(alloc, MessageKind::DownlinkNasTransport, 3, 48 + nas.len())?;
+    put_id(&mut out, names::MME_UE_S1AP_ID, Criticality::Reject, mme)?;
+    put_id(&mut out, names::ENB_UE_S1AP_ID, Criticality::Reject, enb)?;
+    put_text(&mut out, names::NAS_PDU, Criticality::Reject, nas)?;
     Ok(out)
 }
 
@@ -103,9 +111,14 @@ fn initial_context_setup_request(
     requires key { length key.now ≡ 32 }
     ensures { IfOk result (λ out. out.items ≡ unfinished_octets (InitialContextSetupRequest mme enb rates.now (erab.now ∷ []) caps.now key.now)) }
 {
-    let mut out = begin(alloc, 0, 9, 0, 6, 128 + nas_len(&erab.nas))?;
-    put_id(&mut out, 0, 0, mme)?;
-    put_id(&mut out, 8, 0, enb)?;
+    let mut out = begin(
+        alloc,
+        MessageKind::InitialContextSetupRequest,
+        6,
+        128 + nas_len(&erab.nas),
+    )?;
+    put_id(&mut out, names::MME_UE_S1AP_ID, Criticality::Reject, mme)?;
+    put_id(&mut out, names::ENB_UE_S1AP_ID, Criticality::Reject, enb)?;
     put_rates(&mut out, rates)?;
     put_setup(&mut out, erab)?;
     put_caps(&mut out, caps)?;
@@ -124,9 +137,9 @@ fn initial_context_setup_response(
     requires { IsErabDone erab.now }
     ensures { IfOk result (λ out. out.items ≡ unfinished_octets (InitialContextSetupResponse mme enb (erab.now ∷ []))) }
 {
-    let mut out = begin(alloc, 32, 9, 0, 3, 48)?;
-    put_id(&mut out, 0, 1, mme)?;
-    put_id(&mut out, 8, 1, enb)?;
+    let mut out = begin(alloc, MessageKind::InitialContextSetupResponse, 3, 48)?;
+    put_id(&mut out, names::MME_UE_S1AP_ID, Criticality::Ignore, mme)?;
+    put_id(&mut out, names::ENB_UE_S1AP_ID, Criticality::Ignore, enb)?;
     put_done(&mut out, erab)?;
     Ok(out)
 }
@@ -142,9 +155,9 @@ fn initial_context_setup_failure(
     requires { IsCause cause.now }
     ensures { IfOk result (λ out. out.items ≡ unfinished_octets (InitialContextSetupFailure mme enb cause.now)) }
 {
-    let mut out = begin(alloc, 64, 9, 0, 3, 32)?;
-    put_id(&mut out, 0, 1, mme)?;
-    put_id(&mut out, 8, 1, enb)?;
+    let mut out = begin(alloc, MessageKind::InitialContextSetupFailure, 3, 32)?;
+    put_id(&mut out, names::MME_UE_S1AP_ID, Criticality::Ignore, mme)?;
+    put_id(&mut out, names::ENB_UE_S1AP_ID, Criticality::Ignore, enb)?;
     put_cause(&mut out, cause)?;
     Ok(out)
 }
@@ -160,9 +173,9 @@ fn ue_context_release_request(
     requires { IsCause cause.now }
     ensures { IfOk result (λ out. out.items ≡ unfinished_octets (UeContextReleaseRequest mme enb cause.now)) }
 {
-    let mut out = begin(alloc, 0, 18, 64, 3, 32)?;
-    put_id(&mut out, 0, 0, mme)?;
-    put_id(&mut out, 8, 0, enb)?;
+    let mut out = begin(alloc, MessageKind::UeContextReleaseRequest, 3, 32)?;
+    put_id(&mut out, names::MME_UE_S1AP_ID, Criticality::Reject, mme)?;
+    put_id(&mut out, names::ENB_UE_S1AP_ID, Criticality::Reject, enb)?;
     put_cause(&mut out, cause)?;
     Ok(out)
 }
@@ -177,7 +190,7 @@ fn ue_context_release_command(
     requires { IsCause cause.now }
     ensures { IfOk result (λ out. out.items ≡ unfinished_octets (UeContextReleaseCommand ids.now cause.now)) }
 {
-    let mut out = begin(alloc, 0, 23, 0, 2, 32)?;
+    let mut out = begin(alloc, MessageKind::UeContextReleaseCommand, 2, 32)?;
     put_ids(&mut out, ids)?;
     put_cause(&mut out, cause)?;
     Ok(out)
@@ -188,9 +201,9 @@ fn ue_context_release_command(
 fn ue_context_release_complete(alloc: Global, mme: u32, enb: u32) -> Result<Vec<u8>, AllocError>
     ensures { IfOk result (λ out. out.items ≡ unfinished_octets (UeContextReleaseComplete mme enb)) }
 {
-    let mut out = begin(alloc, 32, 23, 0, 2, 32)?;
-    put_id(&mut out, 0, 1, mme)?;
-    put_id(&mut out, 8, 1, enb)?;
+    let mut out = begin(alloc, MessageKind::UeContextReleaseComplete, 2, 32)?;
+    put_id(&mut out, names::MME_UE_S1AP_ID, Criticality::Ignore, mme)?;
+    put_id(&mut out, names::ENB_UE_S1AP_ID, Criticality::Ignore, enb)?;
     Ok(out)
 }
 
@@ -205,10 +218,20 @@ fn ue_capability_info_indication(
     requires { length radio.now ≤ 16000 }
     ensures { IfOk result (λ out. out.items ≡ unfinished_octets (UeCapabilityInfoIndication mme enb radio.now)) }
 {
-    let mut out = begin(alloc, 0, 22, 64, 3, 48 + radio.len())?;
-    put_id(&mut out, 0, 0, mme)?;
-    put_id(&mut out, 8, 0, enb)?;
-    put_text(&mut out, 74, 1, radio)?;
+    let mut out = begin(
+        alloc,
+        MessageKind::UeCapabilityInfoIndication,
+        3,
+        48 + radio.len(),
+    )?;
+    put_id(&mut out, names::MME_UE_S1AP_ID, Criticality::Reject, mme)?;
+    put_id(&mut out, names::ENB_UE_S1AP_ID, Criticality::Reject, enb)?;
+    put_text(
+        &mut out,
+        names::RADIO_CAPABILITY,
+        Criticality::Ignore,
+        radio,
+    )?;
     Ok(out)
 }
 

@@ -4,6 +4,7 @@ ghost use Rattle.std.specs.Prelude.{◌≡◌, ◌+◌, ◌^◌, ◌<◌, ◌≤
 ghost use Rattle.aper_fields.specs.Spelling.{IsEnumValue};
 ghost use Rattle.s1ap_ies.specs.declared.ue_ids.UeIds.TheVariants.{Pair, Mme};
 ghost use Rattle.s1ap_ies.specs.Run.{IsTai, IsCgi, IsBitRates, IsCause};
+ghost use Rattle.s1ap_ies.specs.Names as named;
 ghost use Rattle.s1ap_messages.specs.Tables.{optional};
 ghost use Rattle.s1ap_messages.specs.declared.value.IeValue.TheVariants as value;
 ghost use Rattle.s1ap_messages.specs.Run.{count_of};
@@ -11,15 +12,20 @@ ghost use Rattle.s1ap_messages.specs.Usual.{counted, four_octets, number_octets,
 
 use crate::usual::put::{counted_len, octets_in, put_counted, put_ie, put_number};
 use aper_fields::EnumValue;
-use s1ap_ies::{BitRates, Cause, Cgi, SecCaps, Stmsi, Tai, UeIds};
+use s1ap_ies::{BitRates, Cause, Cgi, Criticality, SecCaps, Stmsi, Tai, UeIds, names};
 use std::alloc::AllocError;
 
 /// Puts an IE that is an identity, given in 64 bits.
 #[inline(always)]
-fn put_wide_id(out: &mut Vec<u8>, id: u8, criticality: u8, n: u64) -> Result<(), AllocError>
-    requires criticality { criticality ≤ 2 }
+fn put_wide_id(
+    out: &mut Vec<u8>,
+    id: u16,
+    criticality: Criticality,
+    n: u64,
+) -> Result<(), AllocError>
+    requires id { id < 256 }
     requires fits { n < 2 ^ 32 }
-    ensures { OnOk result (out.new.items ≡ out.old.items ++ ie_octets id criticality (number_octets 0 64 n)) }
+    ensures { OnOk result (out.new.items ≡ out.old.items ++ ie_octets id (named.criticality_number criticality) (number_octets 0 64 n)) }
 {
     put_ie(out, id, criticality, octets_in(n) + 1)?;
     put_number(out, 0, 64, n)?;
@@ -28,19 +34,29 @@ fn put_wide_id(out: &mut Vec<u8>, id: u8, criticality: u8, n: u64) -> Result<(),
 
 /// Puts an IE that is an identity.
 #[inline(always)]
-pub fn put_id(out: &mut Vec<u8>, id: u8, criticality: u8, n: u32) -> Result<(), AllocError>
-    requires { criticality ≤ 2 }
-    ensures { OnOk result (out.new.items ≡ out.old.items ++ ie_octets id criticality (number_octets 0 64 n)) }
+pub fn put_id(
+    out: &mut Vec<u8>,
+    id: u16,
+    criticality: Criticality,
+    n: u32,
+) -> Result<(), AllocError>
+    requires { id < 256 }
+    ensures { OnOk result (out.new.items ≡ out.old.items ++ ie_octets id (named.criticality_number criticality) (number_octets 0 64 n)) }
 {
     put_wide_id(out, id, criticality, u64::from(n))
 }
 
 /// Puts an IE that is an octet string.
 #[inline(always)]
-pub fn put_text(out: &mut Vec<u8>, id: u8, criticality: u8, text: &[u8]) -> Result<(), AllocError>
-    requires criticality { criticality ≤ 2 }
+pub fn put_text(
+    out: &mut Vec<u8>,
+    id: u16,
+    criticality: Criticality,
+    text: &[u8],
+) -> Result<(), AllocError>
+    requires id { id < 256 }
     requires few { length text.now ≤ 16000 }
-    ensures { OnOk result (out.new.items ≡ out.old.items ++ ie_octets id criticality (counted text.now)) }
+    ensures { OnOk result (out.new.items ≡ out.old.items ++ ie_octets id (named.criticality_number criticality) (counted text.now)) }
 {
     put_ie(out, id, criticality, counted_len(text))?;
     put_counted(out, text)?;
@@ -50,15 +66,14 @@ pub fn put_text(out: &mut Vec<u8>, id: u8, criticality: u8, text: &[u8]) -> Resu
 /// Puts a TAI.
 #[inline(always)]
 #[tactic(auto, unfolding(crate::specs::Usual::ie_octets, crate::specs::Usual::counted, crate::specs::Usual::count_octets, crate::specs::Usual::tai_octets))]
-pub fn put_tai(out: &mut Vec<u8>, criticality: u8, tai: &Tai) -> Result<(), AllocError>
-    requires criticality { criticality ≤ 2 }
+pub fn put_tai(out: &mut Vec<u8>, criticality: Criticality, tai: &Tai) -> Result<(), AllocError>
     requires right { IsTai tai.now }
-    ensures { OnOk result (out.new.items ≡ out.old.items ++ ie_octets 67 criticality (tai_octets tai.now)) }
+    ensures { OnOk result (out.new.items ≡ out.old.items ++ ie_octets named.tai (named.criticality_number criticality) (tai_octets tai.now)) }
 {
     out.extend_from_slice(&[
         0,
-        67,
-        64 * criticality,
+        names::TAI as u8,
+        64 * criticality.number(),
         6,
         0,
         (tai.plmn / 65536) as u8,
@@ -74,12 +89,12 @@ pub fn put_tai(out: &mut Vec<u8>, criticality: u8, tai: &Tai) -> Result<(), Allo
 #[tactic(auto, unfolding(crate::specs::Usual::ie_octets, crate::specs::Usual::counted, crate::specs::Usual::count_octets, crate::specs::Usual::cgi_octets))]
 pub fn put_cgi(out: &mut Vec<u8>, cgi: &Cgi) -> Result<(), AllocError>
     requires { IsCgi cgi.now }
-    ensures { OnOk result (out.new.items ≡ out.old.items ++ ie_octets 100 1 (cgi_octets cgi.now)) }
+    ensures { OnOk result (out.new.items ≡ out.old.items ++ ie_octets named.cgi named.ignore (cgi_octets cgi.now)) }
 {
     out.extend_from_slice(&[
         0,
-        100,
-        64,
+        names::CGI as u8,
+        64 * Criticality::Ignore.number(),
         8,
         0,
         (cgi.plmn / 65536) as u8,
@@ -97,12 +112,14 @@ pub fn put_cgi(out: &mut Vec<u8>, cgi: &Cgi) -> Result<(), AllocError>
 #[tactic(auto, unfolding(crate::specs::Usual::ie_octets, crate::specs::Usual::counted, crate::specs::Usual::count_octets, crate::specs::Usual::rrc_octets))]
 pub fn put_rrc(out: &mut Vec<u8>, rrc: &EnumValue) -> Result<(), AllocError>
     requires { IsEnumValue 5 true rrc.now }
-    ensures { OnOk result (out.new.items ≡ out.old.items ++ ie_octets 134 1 (rrc_octets rrc.now)) }
+    ensures { OnOk result (out.new.items ≡ out.old.items ++ ie_octets named.rrc_cause named.ignore (rrc_octets rrc.now)) }
 {
+    let id = names::RRC_CAUSE as u8;
+    let criticality = 64 * Criticality::Ignore.number();
     if rrc.extended {
-        return out.extend_from_slice(&[0, 134, 64, 1, 128 + rrc.index]);
+        return out.extend_from_slice(&[0, id, criticality, 1, 128 + rrc.index]);
     }
-    out.extend_from_slice(&[0, 134, 64, 1, 16 * rrc.index])
+    out.extend_from_slice(&[0, id, criticality, 1, 16 * rrc.index])
 }
 
 /// A number as four octets.
@@ -123,17 +140,19 @@ pub fn four(n: u32) -> [u8; 4]
 #[inline(always)]
 #[tactic(auto, unfolding(crate::specs::Usual::ie_octets, crate::specs::Usual::counted, crate::specs::Usual::count_octets, crate::specs::Usual::stmsi_octets, crate::specs::Usual::four_octets))]
 fn put_stmsi(out: &mut Vec<u8>, stmsi: &Stmsi) -> Result<(), AllocError>
-    ensures { OnOk result (out.new.items ≡ out.old.items ++ ie_octets 96 0 (stmsi_octets stmsi.now)) }
+    ensures { OnOk result (out.new.items ≡ out.old.items ++ ie_octets named.stmsi named.reject (stmsi_octets stmsi.now)) }
 {
     let [a, b, c, d] = four(stmsi.tmsi);
     let code = stmsi.mmec;
-    out.extend_from_slice(&[0, 96, 0, 6, code / 4, code % 4 * 64, a, b, c, d])
+    let id = names::STMSI as u8;
+    let criticality = 64 * Criticality::Reject.number();
+    out.extend_from_slice(&[0, id, criticality, 6, code / 4, code % 4 * 64, a, b, c, d])
 }
 
 /// Puts the S-TMSI of an INITIAL UE MESSAGE, where it has one.
 #[inline(always)]
 pub fn put_last_stmsi(out: &mut Vec<u8>, stmsi: &Option<Stmsi>) -> Result<(), AllocError>
-    ensures { OnOk result (out.new.items ≡ out.old.items ++ fields_octets (optional 96 ∷ []) (option_map value.Stmsi stmsi.now ∷ [])) }
+    ensures { OnOk result (out.new.items ≡ out.old.items ++ fields_octets (optional named.stmsi ∷ []) (option_map value.Stmsi stmsi.now ∷ [])) }
 {
     match stmsi {
         Some(stmsi) => put_stmsi(out, stmsi),
@@ -153,9 +172,14 @@ pub fn initial_count(stmsi: &Option<Stmsi>) -> u8
 #[inline(always)]
 pub fn put_rates(out: &mut Vec<u8>, rates: &BitRates) -> Result<(), AllocError>
     requires { IsBitRates rates.now }
-    ensures { OnOk result (out.new.items ≡ out.old.items ++ ie_octets 66 0 (rates_octets rates.now)) }
+    ensures { OnOk result (out.new.items ≡ out.old.items ++ ie_octets named.bit_rates named.reject (rates_octets rates.now)) }
 {
-    put_ie(out, 66, 0, octets_in(rates.dl) + octets_in(rates.ul) + 2)?;
+    put_ie(
+        out,
+        names::BIT_RATES,
+        Criticality::Reject,
+        octets_in(rates.dl) + octets_in(rates.ul) + 2,
+    )?;
     put_number(out, 0, 8, rates.dl)?;
     put_number(out, 0, 32, rates.ul)?;
     Ok(())
@@ -165,12 +189,12 @@ pub fn put_rates(out: &mut Vec<u8>, rates: &BitRates) -> Result<(), AllocError>
 #[inline(always)]
 #[tactic(auto, unfolding(crate::specs::Usual::ie_octets, crate::specs::Usual::counted, crate::specs::Usual::count_octets, crate::specs::Usual::caps_octets))]
 pub fn put_caps(out: &mut Vec<u8>, caps: &SecCaps) -> Result<(), AllocError>
-    ensures { OnOk result (out.new.items ≡ out.old.items ++ ie_octets 107 0 (caps_octets caps.now)) }
+    ensures { OnOk result (out.new.items ≡ out.old.items ++ ie_octets named.sec_caps named.reject (caps_octets caps.now)) }
 {
     out.extend_from_slice(&[
         0,
-        107,
-        0,
+        names::SEC_CAPS as u8,
+        64 * Criticality::Reject.number(),
         5,
         (caps.eea / 2048) as u8,
         (caps.eea / 8 % 256) as u8,
@@ -185,9 +209,9 @@ pub fn put_caps(out: &mut Vec<u8>, caps: &SecCaps) -> Result<(), AllocError>
 #[tactic(auto, unfolding(crate::specs::Usual::ie_octets, crate::specs::Usual::counted))]
 pub fn put_key(out: &mut Vec<u8>, key: &[u8]) -> Result<(), AllocError>
     requires { length key.now ≡ 32 }
-    ensures { OnOk result (out.new.items ≡ out.old.items ++ ie_octets 73 0 key.now) }
+    ensures { OnOk result (out.new.items ≡ out.old.items ++ ie_octets named.security_key named.reject key.now) }
 {
-    put_ie(out, 73, 0, key.len())?;
+    put_ie(out, names::SECURITY_KEY, Criticality::Reject, key.len())?;
     out.extend_from_slice(key)
 }
 
@@ -195,31 +219,45 @@ pub fn put_key(out: &mut Vec<u8>, key: &[u8]) -> Result<(), AllocError>
 #[tactic(auto, unfolding(crate::specs::Usual::ie_octets, crate::specs::Usual::counted, crate::specs::Usual::count_octets, crate::specs::Usual::cause_octets, device_types::specs::Cause::cause_roots))]
 pub fn put_cause(out: &mut Vec<u8>, cause: &Cause) -> Result<(), AllocError>
     requires { IsCause cause.now }
-    ensures { OnOk result (out.new.items ≡ out.old.items ++ ie_octets 2 1 (cause_octets cause.now)) }
+    ensures { OnOk result (out.new.items ≡ out.old.items ++ ie_octets named.cause named.ignore (cause_octets cause.now)) }
 {
+    let id = names::CAUSE as u8;
+    let ignore = 64 * Criticality::Ignore.number();
     let i = cause.index;
     if cause.extended {
-        return out.extend_from_slice(&[0, 2, 64, 2, 16 * cause.group + 8 + i / 16, i % 16 * 16]);
+        return out.extend_from_slice(&[
+            0,
+            id,
+            ignore,
+            2,
+            16 * cause.group + 8 + i / 16,
+            i % 16 * 16,
+        ]);
     }
     if cause.group == 0 {
-        return out.extend_from_slice(&[0, 2, 64, 2, i / 8, i % 8 * 32]);
+        return out.extend_from_slice(&[0, id, ignore, 2, i / 8, i % 8 * 32]);
     }
     if cause.group == 1 {
-        return out.extend_from_slice(&[0, 2, 64, 1, 16 + 4 * i]);
+        return out.extend_from_slice(&[0, id, ignore, 1, 16 + 4 * i]);
     }
     if cause.group == 2 {
-        return out.extend_from_slice(&[0, 2, 64, 1, 32 + 2 * i]);
+        return out.extend_from_slice(&[0, id, ignore, 1, 32 + 2 * i]);
     }
-    out.extend_from_slice(&[0, 2, 64, 1, 16 * cause.group + i])
+    out.extend_from_slice(&[0, id, ignore, 1, 16 * cause.group + i])
 }
 
 /// Puts both identities of a device.
 fn put_pair(out: &mut Vec<u8>, mme: u64, enb: u64) -> Result<(), AllocError>
     requires mme { mme < 2 ^ 32 }
     requires enb { enb < 2 ^ 32 }
-    ensures { OnOk result (out.new.items ≡ out.old.items ++ ie_octets 99 0 (ids_octets (Pair mme enb))) }
+    ensures { OnOk result (out.new.items ≡ out.old.items ++ ie_octets named.ue_ids named.reject (ids_octets (Pair mme enb))) }
 {
-    put_ie(out, 99, 0, octets_in(mme) + octets_in(enb) + 2)?;
+    put_ie(
+        out,
+        names::UE_IDS,
+        Criticality::Reject,
+        octets_in(mme) + octets_in(enb) + 2,
+    )?;
     put_number(out, 0, 4, mme)?;
     put_number(out, 0, 64, enb)?;
     Ok(())
@@ -228,16 +266,16 @@ fn put_pair(out: &mut Vec<u8>, mme: u64, enb: u64) -> Result<(), AllocError>
 /// Puts the MME UE S1AP ID of a device alone.
 fn put_single(out: &mut Vec<u8>, mme: u64) -> Result<(), AllocError>
     requires { mme < 2 ^ 32 }
-    ensures { OnOk result (out.new.items ≡ out.old.items ++ ie_octets 99 0 (ids_octets (Mme mme))) }
+    ensures { OnOk result (out.new.items ≡ out.old.items ++ ie_octets named.ue_ids named.reject (ids_octets (Mme mme))) }
 {
-    put_ie(out, 99, 0, octets_in(mme) + 1)?;
+    put_ie(out, names::UE_IDS, Criticality::Reject, octets_in(mme) + 1)?;
     put_number(out, 64, 16, mme)?;
     Ok(())
 }
 
 /// Puts UE S1AP IDs.
 pub fn put_ids(out: &mut Vec<u8>, ids: &UeIds) -> Result<(), AllocError>
-    ensures { OnOk result (out.new.items ≡ out.old.items ++ ie_octets 99 0 (ids_octets ids.now)) }
+    ensures { OnOk result (out.new.items ≡ out.old.items ++ ie_octets named.ue_ids named.reject (ids_octets ids.now)) }
 {
     match ids {
         UeIds::Pair { mme, enb } => put_pair(out, u64::from(*mme), u64::from(*enb)),

@@ -3,6 +3,7 @@
 ghost use Rattle.std.specs.Prelude.{◌≡◌, ◌+◌, ◌%◌, ◌^◌, ◌<◌, ◌≤◌, true, false, ◌∷◌, [], ◌++◌, IfSome, length, option_map};
 ghost use Rattle.aper_fields.specs.Spelling.{IsEnumValue};
 ghost use Rattle.s1ap_ies.specs.Run.{IsTai, IsCgi, IsStmsi, IsBitRates, IsSecCaps, IsCause, IsUeIds};
+ghost use Rattle.s1ap_ies.specs.Names as named;
 ghost use Rattle.s1ap_messages.specs.Tables.{optional};
 ghost use Rattle.s1ap_messages.specs.declared.value.IeValue.TheVariants as value;
 ghost use Rattle.s1ap_messages.specs.Run.{count_of, IsRightValue};
@@ -11,16 +12,15 @@ ghost use Rattle.s1ap_messages.specs.Usual.{counted, four_octets, number_octets,
 use crate::usual::octets::{counted, id, ie, number, one};
 use aper_fields::EnumValue;
 use device_types::Octets;
-use s1ap_ies::{BitRates, Cause, Cgi, SecCaps, Stmsi, Tai, UeIds};
+use s1ap_ies::{BitRates, Cause, Cgi, Criticality, SecCaps, Stmsi, Tai, UeIds, names};
 use std::alloc::Global;
 
 /// An MME UE S1AP ID, and what stands behind it.
 #[inline(always)]
-pub fn mme(octets: &[u8], criticality: u8) -> Option<(u32, &[u8])>
-    requires { criticality ≤ 2 }
-    ensures { IfSome result (λ x. octets.now ≡ ie_octets 0 criticality (number_octets 0 64 x.0) ++ x.1.now) }
+pub fn mme(octets: &[u8], criticality: Criticality) -> Option<(u32, &[u8])>
+    ensures { IfSome result (λ x. octets.now ≡ ie_octets named.mme_ue_s1ap_id (named.criticality_number criticality) (number_octets 0 64 x.0) ++ x.1.now) }
 {
-    let (content, rest) = ie(octets, 0, criticality)?;
+    let (content, rest) = ie(octets, names::MME_UE_S1AP_ID, criticality)?;
     let (mme, more) = id(content, 0, 64)?;
     if !more.is_empty() {
         return None;
@@ -30,14 +30,13 @@ pub fn mme(octets: &[u8], criticality: u8) -> Option<(u32, &[u8])>
 
 /// An eNB UE S1AP ID, and what stands behind it.
 #[inline(always)]
-pub fn enb(octets: &[u8], criticality: u8) -> Option<(u32, &[u8])>
-    requires { criticality ≤ 2 }
-    ensures octets { IfSome result (λ x. octets.now ≡ ie_octets 8 criticality (number_octets 0 64 x.0) ++ x.1.now) }
+pub fn enb(octets: &[u8], criticality: Criticality) -> Option<(u32, &[u8])>
+    ensures octets { IfSome result (λ x. octets.now ≡ ie_octets named.enb_ue_s1ap_id (named.criticality_number criticality) (number_octets 0 64 x.0) ++ x.1.now) }
     ensures right { IfSome result (λ x. x.0 < 2 ^ 24) }
 {
-    let (content, rest) = ie(octets, 8, criticality)?;
+    let (content, rest) = ie(octets, names::ENB_UE_S1AP_ID, criticality)?;
     let (enb, more) = id(content, 0, 64)?;
-    if !more.is_empty() || enb >= 16777216 {
+    if !more.is_empty() || u64::from(enb) > names::MOST_ENB_UE_S1AP_ID {
         return None;
     }
     Some((enb, rest))
@@ -45,9 +44,9 @@ pub fn enb(octets: &[u8], criticality: u8) -> Option<(u32, &[u8])>
 
 /// An octet string, and what stands behind it.
 #[inline(always)]
-pub fn text(octets: &[u8], id: u8, criticality: u8) -> Option<(&[u8], &[u8])>
-    requires { criticality ≤ 2 }
-    ensures octets { IfSome result (λ x. octets.now ≡ ie_octets id criticality (counted x.0.now) ++ x.1.now) }
+pub fn text(octets: &[u8], id: u16, criticality: Criticality) -> Option<(&[u8], &[u8])>
+    requires { id < 256 }
+    ensures octets { IfSome result (λ x. octets.now ≡ ie_octets id (named.criticality_number criticality) (counted x.0.now) ++ x.1.now) }
     ensures right { IfSome result (λ x. length x.0.now < 16384) }
 {
     let (content, rest) = ie(octets, id, criticality)?;
@@ -61,11 +60,11 @@ pub fn text(octets: &[u8], id: u8, criticality: u8) -> Option<(&[u8], &[u8])>
 /// A NAS-PDU, and what stands behind it.
 #[inline(always)]
 pub fn nas(octets: &[u8]) -> Option<(&[u8], &[u8])>
-    ensures octets { IfSome result (λ x. octets.now ≡ ie_octets 26 0 (counted x.0.now) ++ x.1.now) }
+    ensures octets { IfSome result (λ x. octets.now ≡ ie_octets named.nas_pdu named.reject (counted x.0.now) ++ x.1.now) }
     ensures right { IfSome result (λ x. length x.0.now ≤ 2048) }
 {
-    let (nas, rest) = text(octets, 26, 0)?;
-    if nas.len() > 2048 {
+    let (nas, rest) = text(octets, names::NAS_PDU, Criticality::Reject)?;
+    if nas.len() > names::MOST_OCTETS_OF_NAS {
         return None;
     }
     Some((nas, rest))
@@ -85,12 +84,11 @@ fn tai_of(a: u8, b: u8, c: u8, d: u8, e: u8) -> Tai
 
 /// A TAI, and what stands behind it.
 #[inline(always)]
-pub fn tai(octets: &[u8], criticality: u8) -> Option<(Tai, &[u8])>
-    requires { criticality ≤ 2 }
-    ensures octets { IfSome result (λ x. octets.now ≡ ie_octets 67 criticality (tai_octets x.0) ++ x.1.now) }
+pub fn tai(octets: &[u8], criticality: Criticality) -> Option<(Tai, &[u8])>
+    ensures octets { IfSome result (λ x. octets.now ≡ ie_octets named.tai (named.criticality_number criticality) (tai_octets x.0) ++ x.1.now) }
     ensures right { IfSome result (λ x. IsTai x.0) }
 {
-    let (content, rest) = ie(octets, 67, criticality)?;
+    let (content, rest) = ie(octets, names::TAI, criticality)?;
     let [0, a, b, c, d, e] = content else {
         return None;
     };
@@ -113,10 +111,10 @@ fn cgi_of(a: u8, b: u8, c: u8, d: u8, e: u8, f: u8, g: u8) -> Cgi
 /// A CGI, and what stands behind it.
 #[inline(always)]
 pub fn cgi(octets: &[u8]) -> Option<(Cgi, &[u8])>
-    ensures octets { IfSome result (λ x. octets.now ≡ ie_octets 100 1 (cgi_octets x.0) ++ x.1.now) }
+    ensures octets { IfSome result (λ x. octets.now ≡ ie_octets named.cgi named.ignore (cgi_octets x.0) ++ x.1.now) }
     ensures right { IfSome result (λ x. IsCgi x.0) }
 {
-    let (content, rest) = ie(octets, 100, 1)?;
+    let (content, rest) = ie(octets, names::CGI, Criticality::Ignore)?;
     let [0, a, b, c, d, e, f, g] = content else {
         return None;
     };
@@ -130,14 +128,14 @@ pub fn cgi(octets: &[u8]) -> Option<(Cgi, &[u8])>
 #[inline(always)]
 #[tactic(auto, unfolding(crate::specs::Usual::rrc_octets))]
 pub fn rrc(octets: &[u8]) -> Option<(EnumValue, &[u8])>
-    ensures octets { IfSome result (λ x. octets.now ≡ ie_octets 134 1 (rrc_octets x.0) ++ x.1.now) }
+    ensures octets { IfSome result (λ x. octets.now ≡ ie_octets named.rrc_cause named.ignore (rrc_octets x.0) ++ x.1.now) }
     ensures right { IfSome result (λ x. IsEnumValue 5 true x.0) }
 {
-    let (content, rest) = ie(octets, 134, 1)?;
+    let (content, rest) = ie(octets, names::RRC_CAUSE, Criticality::Ignore)?;
     let [a] = content else {
         return None;
     };
-    if *a % 16 != 0 || *a / 16 >= 5 {
+    if *a % 16 != 0 || u32::from(*a / 16) >= names::RRC_CAUSE_ROOTS {
         return None;
     }
     let rrc = EnumValue {
@@ -174,10 +172,10 @@ fn stmsi_of(h: u8, m: u8, tmsi: u32) -> Stmsi
 /// An S-TMSI, and what stands behind it.
 #[inline(always)]
 fn stmsi(octets: &[u8]) -> Option<(Stmsi, &[u8])>
-    ensures octets { IfSome result (λ x. octets.now ≡ ie_octets 96 0 (stmsi_octets x.0) ++ x.1.now) }
+    ensures octets { IfSome result (λ x. octets.now ≡ ie_octets named.stmsi named.reject (stmsi_octets x.0) ++ x.1.now) }
     ensures right { IfSome result (λ x. IsStmsi x.0) }
 {
-    let (content, rest) = ie(octets, 96, 0)?;
+    let (content, rest) = ie(octets, names::STMSI, Criticality::Reject)?;
     let [h, m, a, b, c, d] = content else {
         return None;
     };
@@ -189,7 +187,7 @@ fn stmsi(octets: &[u8]) -> Option<(Stmsi, &[u8])>
 
 /// The S-TMSI of an INITIAL UE MESSAGE, which is its last IE, where it has one.
 pub fn last_stmsi(octets: &[u8], count: u8) -> Option<Option<Stmsi>>
-    ensures octets { IfSome result (λ s. octets.now ≡ fields_octets (optional 96 ∷ []) (option_map value.Stmsi s ∷ [])) }
+    ensures octets { IfSome result (λ s. octets.now ≡ fields_octets (optional named.stmsi ∷ []) (option_map value.Stmsi s ∷ [])) }
     ensures count { IfSome result (λ s. count ≡ 5 + count_of (option_map value.Stmsi s ∷ [])) }
     ensures right { IfSome result (λ s. IfSome (option_map value.Stmsi s) IsRightValue) }
 {
@@ -207,13 +205,13 @@ pub fn last_stmsi(octets: &[u8], count: u8) -> Option<Option<Stmsi>>
 #[inline(always)]
 #[tactic(auto, unfolding(crate::specs::Usual::rates_octets))]
 pub fn rates(octets: &[u8]) -> Option<(BitRates, &[u8])>
-    ensures octets { IfSome result (λ x. octets.now ≡ ie_octets 66 0 (rates_octets x.0) ++ x.1.now) }
+    ensures octets { IfSome result (λ x. octets.now ≡ ie_octets named.bit_rates named.reject (rates_octets x.0) ++ x.1.now) }
     ensures right { IfSome result (λ x. IsBitRates x.0) }
 {
-    let (content, rest) = ie(octets, 66, 0)?;
+    let (content, rest) = ie(octets, names::BIT_RATES, Criticality::Reject)?;
     let (dl, up) = number(content, 0, 8)?;
     let (ul, more) = number(up, 0, 32)?;
-    if dl > 10000000000 || ul > 10000000000 || !more.is_empty() {
+    if dl > names::MOST_BIT_RATE || ul > names::MOST_BIT_RATE || !more.is_empty() {
         return None;
     }
     Some((BitRates { dl, ul }, rest))
@@ -238,10 +236,10 @@ fn caps_of(a: u8, b: u8, c: u8, d: u8, e: u8) -> SecCaps
 /// Security capabilities, and what stands behind them.
 #[inline(always)]
 pub fn caps(octets: &[u8]) -> Option<(SecCaps, &[u8])>
-    ensures octets { IfSome result (λ x. octets.now ≡ ie_octets 107 0 (caps_octets x.0) ++ x.1.now) }
+    ensures octets { IfSome result (λ x. octets.now ≡ ie_octets named.sec_caps named.reject (caps_octets x.0) ++ x.1.now) }
     ensures right { IfSome result (λ x. IsSecCaps x.0) }
 {
-    let (content, rest) = ie(octets, 107, 0)?;
+    let (content, rest) = ie(octets, names::SEC_CAPS, Criticality::Reject)?;
     let [a, b, c, d, e] = content else {
         return None;
     };
@@ -254,11 +252,11 @@ pub fn caps(octets: &[u8]) -> Option<(SecCaps, &[u8])>
 /// A security key, and what stands behind it.
 #[inline(always)]
 pub fn key(octets: &[u8]) -> Option<(&[u8], &[u8])>
-    ensures octets { IfSome result (λ x. octets.now ≡ ie_octets 73 0 x.0.now ++ x.1.now) }
+    ensures octets { IfSome result (λ x. octets.now ≡ ie_octets named.security_key named.reject x.0.now ++ x.1.now) }
     ensures right { IfSome result (λ x. length x.0.now ≡ 32) }
 {
-    let (content, rest) = ie(octets, 73, 0)?;
-    if content.len() != 32 {
+    let (content, rest) = ie(octets, names::SECURITY_KEY, Criticality::Reject)?;
+    if content.len() != names::SECURITY_KEY_OCTETS {
         return None;
     }
     Some((content, rest))
@@ -318,10 +316,10 @@ fn radio_cause(a: u8, b: u8) -> Option<Cause>
 /// A cause that is a root of its group, and what stands behind it.
 #[inline(always)]
 pub fn cause(octets: &[u8]) -> Option<(Cause, &[u8])>
-    ensures octets { IfSome result (λ x. octets.now ≡ ie_octets 2 1 (cause_octets x.0) ++ x.1.now) }
+    ensures octets { IfSome result (λ x. octets.now ≡ ie_octets named.cause named.ignore (cause_octets x.0) ++ x.1.now) }
     ensures right { IfSome result (λ x. IsCause x.0) }
 {
-    let (content, rest) = ie(octets, 2, 1)?;
+    let (content, rest) = ie(octets, names::CAUSE, Criticality::Ignore)?;
     let (a, more) = one(content)?;
     if more.is_empty() {
         return Some((short_cause(a)?, rest));
@@ -340,7 +338,7 @@ fn pair(octets: &[u8]) -> Option<UeIds>
 {
     let (mme, rest) = id(octets, 0, 4)?;
     let (enb, more) = id(rest, 0, 64)?;
-    if enb >= 16777216 || !more.is_empty() {
+    if u64::from(enb) > names::MOST_ENB_UE_S1AP_ID || !more.is_empty() {
         return None;
     }
     Some(UeIds::Pair { mme, enb })
@@ -361,10 +359,10 @@ fn single(octets: &[u8]) -> Option<UeIds>
 
 /// UE S1AP IDs, and what stands behind them.
 pub fn ids(octets: &[u8]) -> Option<(UeIds, &[u8])>
-    ensures octets { IfSome result (λ x. octets.now ≡ ie_octets 99 0 (ids_octets x.0) ++ x.1.now) }
+    ensures octets { IfSome result (λ x. octets.now ≡ ie_octets named.ue_ids named.reject (ids_octets x.0) ++ x.1.now) }
     ensures right { IfSome result (λ x. IsUeIds x.0) }
 {
-    let (content, rest) = ie(octets, 99, 0)?;
+    let (content, rest) = ie(octets, names::UE_IDS, Criticality::Reject)?;
     if let Some(ids) = pair(content) {
         return Some((ids, rest));
     }
