@@ -2,7 +2,8 @@
 use Rattle.std.proofs.Common.{◌≡◌, ℕ, suc, List, [], ◌∷◌, Option, Some, None, option_map, Result, Ok, Err, refl, sym, ap}
 use Rattle.s1ap_messages.specs.declared.pdu.Pdu.{Pdu}
 use Rattle.s1ap_messages.specs.Values.{FieldValue, IeType}
-use Rattle.s1ap_messages.specs.Rows.{Row, Rows, last, ◌▸◌, must, may, taken, Slots, table, value_of, values, part_of, slot, field_from, fields_from, ◌>>=◌}
+use Rattle.s1ap_messages.specs.Rows.{Row, Rows, last, ◌▸◌, must, may, taken, Slots, table, value_of, values, part_of, slot, field_from, fields_from}
+use Rattle.echo_base.specs.Answer.{◌>>=◌}
 use Rattle.s1ap_messages.specs.Messages.{Message, values_or_none, made_from}
 use Rattle.s1ap_messages.specs.Reading.{lacking}
 

@@ -1,6 +1,7 @@
 -- Rows: the IEs of a message in order. What follows from them: the table, the values of a message's fields, and the fields out of slots.
 use Rattle.std.specs.Prelude.{ℕ, suc, true, false, List, [], ◌∷◌, Option, Some, None, option_map, Result, Ok, Err, slice_index_or}
 use Rattle.s1ap_messages.specs.declared.tables.IeRow.{IeRow}
+use Rattle.echo_base.specs.Answer.{◌>>=◌}
 use Rattle.s1ap_ies.specs.declared.criticality.Criticality.{Criticality}
 use Rattle.s1ap_messages.specs.Values.{FieldValue, IeType}
 
@@ -69,11 +70,6 @@ needed id (Some v) = Ok v
 abbrev pub field_from : {A : Type 0} → Row A → Option FieldValue → Result A ℕ
 field_from (must e criticality) v = needed e.id (part_of e v)
 field_from (may e criticality) v = Ok (part_of e v)
-
-infixl 10 ◌>>=◌
-abbrev pub ◌>>=◌ : {A B : Type 0} → Result A ℕ → (A → Result B ℕ) → Result B ℕ
-(Ok x) >>= f = f x
-(Err e) >>= f = Err e
 
 abbrev pub slot : Slots → ℕ → Option FieldValue
 slot slots place = slice_index_or slots place None
