@@ -3,6 +3,7 @@
 
 mod case;
 mod event;
+mod lane_word;
 mod laws;
 #[cfg(test)]
 mod line_tests;
@@ -15,5 +16,6 @@ mod trace;
 mod words;
 
 pub use case::{Case, CaseBad, TraceLine};
+pub use lane_word::LaneWord;
 pub use laws::{events_are_exact, trace_lines_are_exact};
 pub use reading::read_case;

@@ -1,32 +1,17 @@
 //! The reply to a message, made before its step is committed.
 ghost use Rattle.std.specs.Prelude.{◌≡◌, IfOk};
-ghost use Rattle.device_types.specs.declared.event.Lane.TheVariants as lane;
-ghost use Rattle.device_types.specs.Journal.{effects_on};
 ghost use Rattle.replica_worker.specs.Replies.{told_of, told_in, reply_when};
 
 use crate::hand::Hand;
-use device_types::{Effect, Effects, Entry, Input, Reply, TryCopy};
-use session_row::Commit;
-use std::alloc::{AllocError, Global};
+use device_types::{Effects, Entry, Input, Reply};
+use session_row::{Commit, downs_of};
+use std::alloc::AllocError;
 
 /// What a device is told of a message, but for the version: the message's number, and the messages to the device.
 #[derive(Debug, Drop)]
 pub(crate) struct Told {
     number: u64,
     downs: Effects,
-}
-
-/// The messages to the device among the effects.
-fn downs_of(alloc: Global, effects: &[Effect]) -> Result<Effects, AllocError>
-    ensures { IfOk result (λ downs. downs ≡ effects_on lane.Down effects.now) }
-{
-    let mut downs = Effects::new(alloc);
-    for effect in effects {
-        if let Effect::Down(_) = effect {
-            downs.push(effect.copy()?)?;
-        }
-    }
-    Ok(downs)
 }
 
 /// What the device is told of the entry, if it is one of a message.

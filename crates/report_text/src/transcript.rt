@@ -1,29 +1,13 @@
 //! The lines of a transcript.
 
 ghost use Rattle.std.specs.Prelude.{◌≡◌, ◌++◌, Some, IfOk, OnOk, string_bytes};
-ghost use Rattle.case_form.specs.Event.{lane_word};
 ghost use Rattle.report_text.specs.Transcript.{answer_text, transcript_line};
 
-use device_types::{EventAnswer, Lane, Octets};
+use case_form::LaneWord;
+use device_types::{EventAnswer, Octets};
 use echo_base::OutOfMemory;
 use std::alloc::Global;
 use std::fmt;
-
-/// The name of a lane.
-#[derive(Clone, Copy)]
-struct LaneName(Lane);
-
-impl fmt::Display for LaneName {
-    ghost output = { λ lane. Some (lane_word lane.0) };
-
-    fn fmt<W: fmt::Write>(&self, f: &mut fmt::Formatter<W>) -> fmt::Result {
-        match self.0 {
-            Lane::Down => write!(f, "down"),
-            Lane::Gateway => write!(f, "gateway"),
-            Lane::Subscriber => write!(f, "subscriber"),
-        }
-    }
-}
 
 /// What an event comes to.
 #[derive(Clone, Copy)]
@@ -45,14 +29,14 @@ impl fmt::Display for AnswerText {
             EventAnswer::VoidOutbox => write!(f, "void outbox"),
             EventAnswer::Ready(version) => write!(f, "ready {version}"),
             EventAnswer::Waiting(lane, k) => {
-                let lane = LaneName(lane);
+                let lane = LaneWord(lane);
                 write!(f, "waiting {lane} {k}")
             }
             EventAnswer::Repeat(n) => write!(f, "repeat {n}"),
             EventAnswer::Settled(n) => write!(f, "settled {n}"),
             EventAnswer::Ahead(n) => write!(f, "ahead {n}"),
             EventAnswer::OldCall(lane, k) => {
-                let lane = LaneName(lane);
+                let lane = LaneWord(lane);
                 write!(f, "old {lane} {k}")
             }
             EventAnswer::Committed(version) => write!(f, "committed {version}"),

@@ -9,4 +9,5 @@ mod row;
 mod tests;
 
 pub use commit::Commit;
+pub use prepared::downs_of;
 pub use row::Row;

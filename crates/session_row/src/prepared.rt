@@ -15,8 +15,8 @@ pub(crate) struct Prepared {
     pub(crate) reply: Option<Reply>,
 }
 
-/// The messages to the device among the effects.
-fn downs_of(alloc: Global, effects: &[Effect]) -> Result<Effects, AllocError>
+/// The messages to the device among the effects, in their order: what a device is told of its message.
+pub fn downs_of(alloc: Global, effects: &[Effect]) -> Result<Effects, AllocError>
     ensures { IfOk result (λ downs. downs ≡ effects_on lane.Down effects.now) }
 {
     let mut downs = Effects::new(alloc);

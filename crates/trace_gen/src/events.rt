@@ -1,12 +1,12 @@
 //! Events.
 
 ghost use Rattle.std.specs.Prelude.{◌≡◌, ◌++◌, ◌≤◌, Some, OnOk, string_bytes};
-ghost use Rattle.case_form.specs.Event.{lane_word};
 ghost use Rattle.trace_gen.specs.Events.{message_events, answered_events, notice_events, call_events, event_line};
 ghost use Rattle.trace_gen.specs.Made.{ended, events_text};
 ghost use Rattle.trace_gen.specs.Scripts.{lane_of};
 
 use crate::script::Call;
+use case_form::LaneWord;
 use device_types::{DeviceId, Event, Lane};
 use echo_base::OutOfMemory;
 use std::fmt;
@@ -18,22 +18,6 @@ pub fn lane_of(call: Call) -> Lane
     match call {
         Call::Gateway => Lane::Gateway,
         Call::Subscriber | Call::Notice => Lane::Subscriber,
-    }
-}
-
-/// A lane, by its word.
-#[derive(Clone, Copy)]
-struct LaneWord(Lane);
-
-impl fmt::Display for LaneWord {
-    ghost output = { λ lane. Some (lane_word lane.0) };
-
-    fn fmt<W: fmt::Write>(&self, f: &mut fmt::Formatter<W>) -> fmt::Result {
-        match self.0 {
-            Lane::Down => write!(f, "down"),
-            Lane::Gateway => write!(f, "gateway"),
-            Lane::Subscriber => write!(f, "subscriber"),
-        }
     }
 }
 
