@@ -20,3 +20,15 @@ pub mod NotEmpty
 pub mod Ends
 pub mod Opens
 pub mod Room
+pub mod SequenceExact
+pub mod Inside
+pub mod Manys
+pub mod Types
+pub mod Sizes
+pub mod Spelled
+pub mod Least
+pub mod Skipped
+pub mod LookUps
+pub mod Maps
+pub mod ItemSize
+pub mod InPlace

@@ -4,3 +4,9 @@ pub mod Run
 pub mod Spelling
 pub mod Format
 pub mod Buffer
+pub mod Sequence
+pub mod SequenceReading
+pub mod Many
+pub mod Memory
+pub mod Kept
+pub mod Asn1

@@ -1,16 +1,30 @@
 //! Writing pieces: numbers, lengths, octets, bit strings, enumerations and open types.
 
 ghost use Rattle.std.specs.Prelude.{◌≡◌, ◌-◌, ◌*◌, ◌%◌, ◌^◌, ◌<◌, ◌≤◌, length, take, drop, OnOk, OnErr, IfOk};
+ghost use Rattle.aper_fields.specs.Kept.{Keeps};
 ghost use Rattle.aper_fields.specs.Run.{then_written, number_run, counted_run, length_run, fixed_octets_run, octet_string_run, fixed_bits_run, enumerated_run, content_of, open_run};
 ghost use Rattle.aper_fields.specs.Spelling.{IsEnumValue};
 
 use crate::enumerated::EnumValue;
+use crate::whole::all_or_nothing;
 use crate::width::{octet_count, width};
 use crate::writer::{BitWriter, Mark};
 use std::alloc::AllocError;
 
 #[cfg(test)]
 mod tests;
+
+/// Puts a number of at most `top` as the count of its octets less one, padding, and the least number of octets.
+fn put_counted(w: &mut BitWriter, top: u64, n: u64) -> Result<(), AllocError>
+    requires { n ≤ top }
+    ensures ok { OnOk result (w.new ≡ then_written w.old (counted_run top n)) }
+    ensures kept { OnErr result (Keeps w.old w.new) }
+{
+    let count = octet_count(n);
+    let count_width = width(u64::from(octet_count(top) - 1));
+    w.write_bits(u64::from(count - 1), count_width)?;
+    w.write_padded_bits(n, 8 * count)
+}
 
 /// Writes a number of at most `top` as the count of its octets less one, padding, and the least number of octets
 /// (ITU-T X.691, Encoding of a constrained whole number, the indefinite length case).
@@ -19,15 +33,7 @@ fn write_counted(w: &mut BitWriter, top: u64, n: u64) -> Result<(), AllocError>
     ensures ok { OnOk result (w.new ≡ then_written w.old (counted_run top n)) }
     ensures err { OnErr result (w.new ≡ w.old) }
 {
-    let mark = w.mark();
-    let count = octet_count(n);
-    let count_width = width(u64::from(octet_count(top) - 1));
-    w.write_bits(u64::from(count - 1), count_width)?;
-    if let Err(error) = w.write_padded_bits(n, 8 * count) {
-        w.back_to(mark);
-        return Err(error);
-    }
-    Ok(())
+    all_or_nothing(w, |w| put_counted(w, top, n))
 }
 
 /// Writes a whole number from `low` to `high`.
@@ -76,6 +82,17 @@ pub fn write_octets_fixed(w: &mut BitWriter, octets: &[u8]) -> Result<(), AllocE
     w.write_padded_octets(octets)
 }
 
+/// Puts the length of an octet string, and the octets.
+fn put_octet_string(w: &mut BitWriter, octets: &[u8]) -> Result<(), AllocError>
+    requires { length octets.now < 2 ^ 14 }
+    ensures ok { OnOk result (w.new ≡ then_written w.old (octet_string_run octets.now)) }
+    ensures kept { OnErr result (Keeps w.old w.new) }
+{
+    write_len(w, octets.len())?;
+    w.write_padded_octets(octets)?;
+    Ok(())
+}
+
 /// Writes an octet string of free size: its length and the octets (ITU-T X.691, Encoding the octetstring type).
 /// Where memory runs out, nothing is written.
 pub fn write_octet_string(w: &mut BitWriter, octets: &[u8]) -> Result<(), AllocError>
@@ -83,13 +100,7 @@ pub fn write_octet_string(w: &mut BitWriter, octets: &[u8]) -> Result<(), AllocE
     ensures ok { OnOk result (w.new ≡ then_written w.old (octet_string_run octets.now)) }
     ensures err { OnErr result (w.new ≡ w.old) }
 {
-    let mark = w.mark();
-    write_len(w, octets.len())?;
-    if let Err(error) = w.write_padded_octets(octets) {
-        w.back_to(mark);
-        return Err(error);
-    }
-    Ok(())
+    all_or_nothing(w, |w| put_octet_string(w, octets))
 }
 
 /// Writes a bit string of a fixed size of `n` bits, the number `v`: aligned above 16 bits (ITU-T X.691, Encoding the

@@ -10,7 +10,7 @@ use Rattle.aper_fields.specs.Run.{Run, ◌▸◌, fixed_bits_run, number_run, op
 use Rattle.aper_fields.proofs.BitLaws.{length-bits}
 use Rattle.aper_fields.proofs.Packed.{length-packed}
 use Rattle.s1ap_ies.specs.Names.{criticality_number}
-use Rattle.s1ap_ies.specs.Run.{choice_run}
+use Rattle.aper_fields.specs.Asn1.{index_run}
 use Rattle.s1ap_messages.specs.Messages.{outcome_index, header_of, kind_of, values_of}
 use Rattle.s1ap_messages.specs.Run.{header_run, ies_run, pdu_run, written}
 use Rattle.echo_base.specs.Answer.{IsAnswer}
@@ -39,6 +39,6 @@ unfolding written pdu_run header_run
 written_some p =
     let header = header_of (kind_of p) in
     let choice = first_some (fixed_bits_run 1 0) (fixed_bits_run 2 (outcome_index header.outcome)) 0 bit_some in
-    let first = first_some (choice_run 2 (outcome_index header.outcome)) (fixed_bits_run 5 0 ▸ number_run 0 255 header.code ▸ fixed_bits_run 2 (criticality_number header.criticality)) 0 choice in
+    let first = first_some (index_run 2 (outcome_index header.outcome)) (fixed_bits_run 5 0 ▸ number_run 0 255 header.code ▸ fixed_bits_run 2 (criticality_number header.criticality)) 0 choice in
     let whole = first_some (header_run header) (open_run (ies_run (kind_of p) (values_of p) 0)) 0 first in
     omega (arith, whole, length-packed (pdu_run (kind_of p) (values_of p) 0))

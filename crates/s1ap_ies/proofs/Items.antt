@@ -3,10 +3,11 @@ use Rattle.std.proofs.Common.{ℕ, ◌*◌, ◌≤◌, List, [], ◌∷◌, leng
 use Rattle.s1ap_ies.specs.declared.erab_to_setup.ErabToSetup.{ErabToSetup}
 use Rattle.s1ap_ies.specs.declared.erab_done.ErabDone.{ErabDone}
 use Rattle.std.specs.List.{AllByRecursion}
-use Rattle.s1ap_ies.specs.Asn1.{AsnType, Fits, CanBeWritten, IsItem, IsSound, most_bits}
+use Rattle.aper_fields.specs.Asn1.{AsnType, Fits, CanBeWritten, IsItem, IsSound, most_bits}
 use Rattle.s1ap_ies.specs.Values.{erab_id, address, arp, qos, erab_done, erab_to_setup, erabs_done, erabs_to_setup}
 use Rattle.s1ap_ies.specs.Run.{IsNas, IsErabDone, IsErabToSetup}
-use Rattle.s1ap_ies.proofs.Sizes.{takes}
+use Rattle.aper_fields.proofs.Types.{each_of}
+use Rattle.aper_fields.proofs.Sizes.{takes}
 
 -- ---- one item
 
@@ -60,21 +61,9 @@ pub setups_sound : IsSound erabs_to_setup
 unfolding erabs_to_setup erab_to_setup erab_id address qos arp
 setups_sound = (refl, few_setup, setup_sound)
 
-each_done_fits : (S : List ℕ → Type 0) (xs : List ErabDone) → AllByRecursion IsErabDone xs → AllByRecursion (λ a. Fits S erab_done a) xs
-each_done_fits S [] all = tt
-each_done_fits S (x ∷ xs) all = (done_fits S x all.0, each_done_fits S xs all.1)
-
 each_setup_fits : (S : List ℕ → Type 0) (xs : List ErabToSetup) → AllByRecursion IsErabToSetup xs → AllByRecursion (λ (b : ErabToSetup). IfSome b.nas S) xs → AllByRecursion (λ a. Fits S erab_to_setup a) xs
 each_setup_fits S [] all strings = tt
 each_setup_fits S (x ∷ xs) all strings = (setup_fits S x all.0 strings.0, each_setup_fits S xs all.1 strings.1)
-
-each_done_right : (S : List ℕ → Type 0) (xs : List ErabDone) → AllByRecursion (λ a. Fits S erab_done a) xs → AllByRecursion IsErabDone xs
-each_done_right S [] all = tt
-each_done_right S (x ∷ xs) all = (done_right S x all.0, each_done_right S xs all.1)
-
-each_setup_right : (S : List ℕ → Type 0) (xs : List ErabToSetup) → AllByRecursion (λ a. Fits S erab_to_setup a) xs → AllByRecursion IsErabToSetup xs
-each_setup_right S [] all = tt
-each_setup_right S (x ∷ xs) all = (setup_right S x all.0, each_setup_right S xs all.1)
 
 -- 1 to 256 of them, each in its range
 abbrev AreMany : {A : Type 0} → (A → Type 0) → List A → Type 0
@@ -82,11 +71,11 @@ AreMany In xs = (1 ≤ length xs) × (length xs ≤ 256) × AllByRecursion In xs
 
 pub dones_fit : (S : List ℕ → Type 0) (xs : List ErabDone) → AreMany IsErabDone xs → Fits S erabs_done xs
 unfolding erabs_done
-dones_fit S xs right = (right.0, right.1, each_done_fits S xs right.2)
+dones_fit S xs right = (right.0, right.1, each_of IsErabDone (λ a. Fits S erab_done a) (done_fits S) xs right.2)
 
 pub dones_right : (S : List ℕ → Type 0) (xs : List ErabDone) → Fits S erabs_done xs → AreMany IsErabDone xs
 unfolding erabs_done
-dones_right S xs fits = (fits.0, fits.1, each_done_right S xs fits.2)
+dones_right S xs fits = (fits.0, fits.1, each_of (λ a. Fits S erab_done a) IsErabDone (done_right S) xs fits.2)
 
 pub setups_fit : (S : List ℕ → Type 0) (xs : List ErabToSetup) → AreMany IsErabToSetup xs → AllByRecursion (λ (b : ErabToSetup). IfSome b.nas S) xs → Fits S erabs_to_setup xs
 unfolding erabs_to_setup
@@ -94,13 +83,12 @@ setups_fit S xs right strings = (right.0, right.1, each_setup_fits S xs right.2 
 
 pub setups_right : (S : List ℕ → Type 0) (xs : List ErabToSetup) → Fits S erabs_to_setup xs → AreMany IsErabToSetup xs
 unfolding erabs_to_setup
-setups_right S xs fits = (fits.0, fits.1, each_setup_right S xs fits.2)
+setups_right S xs fits = (fits.0, fits.1, each_of (λ a. Fits S erab_to_setup a) IsErabToSetup (setup_right S) xs fits.2)
 
 -- ---- items that are written
 
 items : {A : Type 0} (s : AsnType A) → IsSound s → most_bits s ≤ 8 * 16383 → (xs : List A) → AllByRecursion (λ a. CanBeWritten s a) xs → AllByRecursion (λ a. IsItem s a) xs
-items s sound few [] right = tt
-items s sound few (x ∷ xs) right = ((right.0, omega (arith, takes (λ octets. Unit {0}) s sound x right.0 0, few)), items s sound few xs right.1)
+items s sound few = each_of (λ a. CanBeWritten s a) (λ a. IsItem s a) (λ a right. (right, omega (arith, takes (λ octets. Unit {0}) s sound a right 0, few)))
 
 pub done_items : (xs : List ErabDone) → AllByRecursion (λ a. CanBeWritten erab_done a) xs → AllByRecursion (λ a. IsItem erab_done a) xs
 done_items xs right = items erab_done done_sound few_done xs right

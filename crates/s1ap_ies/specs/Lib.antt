@@ -1,10 +1,4 @@
 pub mod Names
-pub mod Reading
-pub mod Grammar
-pub mod Many
-pub mod Asn1
 pub mod Values
 pub mod Run
-pub mod Memory
 pub mod Lent
-pub mod Kept

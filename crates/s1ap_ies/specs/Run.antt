@@ -1,6 +1,5 @@
--- What a value has to be where it is written, and the run of a CHOICE.
+-- What a value has to be where it is written.
 use Rattle.std.specs.Prelude.{ℕ, ◌^◌, ◌<◌, ◌≤◌, List, length, IfSome}
-use Rattle.aper_fields.specs.Run.{Run}
 use Rattle.s1ap_ies.specs.declared.tai.Tai.{Tai}
 use Rattle.s1ap_ies.specs.declared.cgi.Cgi.{Cgi}
 use Rattle.s1ap_ies.specs.declared.stmsi.Stmsi.{Stmsi}
@@ -10,7 +9,7 @@ use Rattle.s1ap_ies.specs.declared.cause.Cause.{Cause}
 use Rattle.s1ap_ies.specs.declared.ue_ids.UeIds.{UeIds}
 use Rattle.s1ap_ies.specs.declared.erab_done.ErabDone.{ErabDone}
 use Rattle.s1ap_ies.specs.declared.erab_to_setup.ErabToSetup.{ErabToSetup}
-use Rattle.s1ap_ies.specs.Asn1.{CanBeWritten, index_run}
+use Rattle.aper_fields.specs.Asn1.{CanBeWritten}
 use Rattle.s1ap_ies.specs.Names.{most_octets_of_nas}
 use Rattle.s1ap_ies.specs.Values.{tai, cgi, stmsi, bit_rates, sec_caps, cause, ue_ids}
 
@@ -45,7 +44,3 @@ IsErabDone v = (v.id < 16) × (v.address < 2 ^ 32) × (v.teid < 2 ^ 32)
 
 abbrev pub IsErabToSetup : ErabToSetup → Type 0
 IsErabToSetup v = (v.id < 16) × (v.qci < 2 ^ 8) × (v.arp < 2 ^ 6) × (v.address < 2 ^ 32) × (v.teid < 2 ^ 32) × IfSome v.nas IsNas
-
--- the root index of a CHOICE behind its extension bit, in n bits
-abbrev pub choice_run : ℕ → ℕ → Run
-choice_run n index = index_run n index

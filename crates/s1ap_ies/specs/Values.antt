@@ -3,7 +3,7 @@ use Rattle.std.specs.Prelude.{◌≡◌, ℕ, ◌==◌, nat_le, nat_lt, ◌^◌,
 use Rattle.std.proofs.Common.{inl, inr}
 use Rattle.echo_base.specs.declared.reason.Reason.TheVariants as reasons
 use Rattle.device_types.specs.Cause.{cause_roots}
-use Rattle.s1ap_ies.specs.Asn1.{AsnType, bit_string, integer, only, octet_string, enumerated, choice_index, extensible, on, choice, sequence, needed, optional, absent, also, named, container, sequence_of}
+use Rattle.aper_fields.specs.Asn1.{AsnType, bit_string, integer, only, octet_string, enumerated, choice_index, extensible, on, choice, sequence, needed, optional, absent, also, named, container, sequence_of}
 use Rattle.s1ap_ies.specs.Names.{most_octets_of_nas, most_erabs, most_bit_rate, most_mme_ue_s1ap_id, most_enb_ue_s1ap_id, erab_to_setup_item, erab_setup_item, reject, ignore}
 use Rattle.s1ap_ies.specs.declared.tai.Tai.{Tai}
 use Rattle.s1ap_ies.specs.declared.cgi.Cgi.{Cgi}
@@ -17,20 +17,24 @@ use Rattle.s1ap_ies.specs.declared.bearer.Qos.{Qos}
 use Rattle.s1ap_ies.specs.declared.erab_done.ErabDone.{ErabDone}
 use Rattle.s1ap_ies.specs.declared.erab_to_setup.ErabToSetup.{ErabToSetup}
 
+-- a SEQUENCE of two BIT STRINGs of fixed sizes
+abbrev pub two_bit_strings : ℕ → ℕ → AsnType (ℕ × ℕ)
+two_bit_strings first second = sequence (also (needed (bit_string first)) (needed (bit_string second)))
+
 -- TAI (9.2.3.16): PLMN identity of 3 octets, TAC of 2
 abbrev pub tai : AsnType Tai
 tai = named (record { make = λ v. record { plmn = v.0; tac = v.1 }; parts = λ v. (v.plmn, v.tac); back = λ v. refl; again = λ v. refl })
-    (sequence (also (needed (bit_string 24)) (needed (bit_string 16))))
+    (two_bit_strings 24 16)
 
 -- E-UTRAN CGI (9.2.1.38): PLMN identity of 3 octets, cell identity of 28 bits
 abbrev pub cgi : AsnType Cgi
 cgi = named (record { make = λ v. record { plmn = v.0; cell = v.1 }; parts = λ v. (v.plmn, v.cell); back = λ v. refl; again = λ v. refl })
-    (sequence (also (needed (bit_string 24)) (needed (bit_string 28))))
+    (two_bit_strings 24 28)
 
 -- S-TMSI (9.2.3.6): MME code of 1 octet, M-TMSI of 4
 abbrev pub stmsi : AsnType Stmsi
 stmsi = named (record { make = λ v. record { mmec = v.0; tmsi = v.1 }; parts = λ v. (v.mmec, v.tmsi); back = λ v. refl; again = λ v. refl })
-    (sequence (also (needed (bit_string 8)) (needed (bit_string 32))))
+    (two_bit_strings 8 32)
 
 -- UE Aggregate Maximum Bit Rate (9.2.1.20): downlink, then uplink, in bit/s
 abbrev pub bit_rates : AsnType BitRates

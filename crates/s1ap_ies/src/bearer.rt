@@ -3,18 +3,18 @@
 ghost use Rattle.std.specs.Prelude.{◌≡◌, ◌<◌, ◌^◌, IfOk, OnOk, OnErr};
 ghost use Rattle.echo_base.specs.Reading.{Gives};
 ghost use Rattle.aper_fields.specs.Run.{then_written};
-ghost use Rattle.s1ap_ies.specs.Asn1.{reading, run};
-ghost use Rattle.s1ap_ies.specs.Kept.{Keeps};
+ghost use Rattle.aper_fields.specs.Asn1.{reading, run};
+ghost use Rattle.aper_fields.specs.Kept.{Keeps};
 ghost use Rattle.s1ap_ies.specs.Values.{erab_id, address, arp};
 
-use crate::pieces::read_zero_bit;
-use crate::sequence::{read_present, skip_extensions, write_preamble};
-use crate::value::PlainValue;
-use aper_fields::{BitReader, BitWriter, Ranged, read_bits_fixed, write_bits_fixed};
+use aper_fields::{
+    BitReader, BitWriter, PlainValue, Ranged, read_bits_fixed, read_present, read_zero_bit,
+    skip_extensions, write_bits_fixed, write_preamble,
+};
 use echo_base::{OutOfMemory, Reason, Refusal};
 
 /// Reads an E-RAB ID (TS 36.413, 9.2.1.2).
-#[tactic(auto, unfolding(crate::specs::Asn1::reading, crate::specs::Asn1::flags_at, crate::specs::Asn1::fields_at, crate::specs::Values::erab_id))]
+#[tactic(auto, unfolding(aper_fields::specs::Asn1::reading, aper_fields::specs::Asn1::flags_at, aper_fields::specs::Asn1::fields_at, crate::specs::Values::erab_id))]
 pub fn read_erab_id(r: &mut BitReader) -> Result<u64, Refusal>
     ensures read { Gives result r.old r.new (reading erab_id r.old) }
     ensures small { IfOk result (λ id. id < 16) }
@@ -27,7 +27,7 @@ pub fn read_erab_id(r: &mut BitReader) -> Result<u64, Refusal>
 }
 
 /// Writes an E-RAB ID.
-#[tactic(auto, unfolding(crate::specs::Asn1::run, crate::specs::Values::erab_id))]
+#[tactic(auto, unfolding(aper_fields::specs::Asn1::run, crate::specs::Values::erab_id))]
 pub fn write_erab_id(w: &mut BitWriter, id: u8) -> Result<(), OutOfMemory>
     requires { id < 16 }
     ensures ok { OnOk result (w.new ≡ then_written w.old (run erab_id id)) }
@@ -38,7 +38,7 @@ pub fn write_erab_id(w: &mut BitWriter, id: u8) -> Result<(), OutOfMemory>
 }
 
 /// Reads a transport layer address (TS 36.413, 9.2.2.1), which has to be an IPv4 address.
-#[tactic(auto, unfolding(crate::specs::Asn1::reading, crate::specs::Asn1::flags_at, crate::specs::Asn1::fields_at, crate::specs::Values::address))]
+#[tactic(auto, unfolding(aper_fields::specs::Asn1::reading, aper_fields::specs::Asn1::flags_at, aper_fields::specs::Asn1::fields_at, crate::specs::Values::address))]
 pub fn read_address(r: &mut BitReader) -> Result<u64, Refusal>
     ensures read { Gives result r.old r.new (reading address r.old) }
     ensures fits { IfOk result (λ address. address < 2 ^ 32) }
@@ -55,7 +55,7 @@ pub fn read_address(r: &mut BitReader) -> Result<u64, Refusal>
 }
 
 /// Writes an IPv4 address as a transport layer address.
-#[tactic(auto, unfolding(crate::specs::Asn1::run, crate::specs::Values::address))]
+#[tactic(auto, unfolding(aper_fields::specs::Asn1::run, crate::specs::Values::address))]
 pub fn write_address(w: &mut BitWriter, number: u32) -> Result<(), OutOfMemory>
     ensures ok { OnOk result (w.new ≡ then_written w.old (run address number)) }
     ensures kept { OnErr result (Keeps w.old w.new) }
@@ -75,7 +75,7 @@ pub struct Qos {
 }
 
 /// Reads an allocation and retention priority (TS 36.413, 9.2.1.60).
-#[tactic(auto, unfolding(crate::specs::Asn1::reading, crate::specs::Asn1::flags_at, crate::specs::Asn1::fields_at, crate::specs::Values::arp))]
+#[tactic(auto, unfolding(aper_fields::specs::Asn1::reading, aper_fields::specs::Asn1::flags_at, aper_fields::specs::Asn1::fields_at, crate::specs::Values::arp))]
 fn read_arp(r: &mut BitReader) -> Result<u64, Refusal>
     ensures read { Gives result r.old r.new (reading arp r.old) }
     ensures fits { IfOk result (λ arp. arp < 2 ^ 6) }
@@ -90,7 +90,7 @@ fn read_arp(r: &mut BitReader) -> Result<u64, Refusal>
 }
 
 /// Writes an allocation and retention priority.
-#[tactic(auto, unfolding(crate::specs::Asn1::run, crate::specs::Asn1::flags_run, crate::specs::Asn1::fields_run, crate::specs::Values::arp))]
+#[tactic(auto, unfolding(aper_fields::specs::Asn1::run, aper_fields::specs::Asn1::flags_run, aper_fields::specs::Asn1::fields_run, crate::specs::Values::arp))]
 fn write_arp(w: &mut BitWriter, value: u8) -> Result<(), OutOfMemory>
     requires { value < 2 ^ 6 }
     ensures ok { OnOk result (w.new ≡ then_written w.old (run arp value)) }
@@ -106,7 +106,7 @@ impl PlainValue for Qos {
 
     ghost asn1 = { qos };
 
-    #[tactic(auto, unfolding(crate::specs::Asn1::reading, crate::specs::Asn1::flags_at, crate::specs::Asn1::fields_at, crate::specs::Values::qos))]
+    #[tactic(auto, unfolding(aper_fields::specs::Asn1::reading, aper_fields::specs::Asn1::flags_at, aper_fields::specs::Asn1::fields_at, crate::specs::Values::qos))]
     fn read_pieces(r: &mut BitReader) -> Result<Qos, Refusal> {
         let mut ahead = r.ahead();
         read_zero_bit(&mut ahead, Reason::SequenceExtension)?;
@@ -122,7 +122,7 @@ impl PlainValue for Qos {
         })
     }
 
-    #[tactic(auto, unfolding(crate::specs::Asn1::run, crate::specs::Asn1::flags_run, crate::specs::Asn1::fields_run, crate::specs::Values::qos, crate::specs::Values::arp))]
+    #[tactic(auto, unfolding(aper_fields::specs::Asn1::run, aper_fields::specs::Asn1::flags_run, aper_fields::specs::Asn1::fields_run, crate::specs::Values::qos, crate::specs::Values::arp))]
     fn write_pieces(self, w: &mut BitWriter) -> Result<(), OutOfMemory> {
         write_bits_fixed(w, 0, 1)?;
         write_bits_fixed(w, 0, 1)?;

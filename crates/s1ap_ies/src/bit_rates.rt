@@ -3,10 +3,10 @@
 ghost use Rattle.std.specs.Prelude.{◌≡◌, OnOk, OnErr};
 
 use crate::names::MOST_BIT_RATE;
-use crate::pieces::read_zero_bit;
-use crate::sequence::{read_present, skip_extensions, write_preamble};
-use crate::value::PlainValue;
-use aper_fields::{BitReader, BitWriter, Ranged};
+use aper_fields::{
+    BitReader, BitWriter, PlainValue, Ranged, read_present, read_zero_bit, skip_extensions,
+    write_preamble,
+};
 use echo_base::{OutOfMemory, Reason, Refusal};
 
 /// The aggregate maximum bit rates of a UE (TS 36.413, 9.2.1.20), in bit/s.
@@ -26,7 +26,7 @@ impl PlainValue for BitRates {
     /// It is refused for the first piece that is wrong: Truncated, NonZeroPadding, SequenceExtension
     /// where its extension bit is 1, NotMinimal and OutOfRange at a rate; in its iE-Extensions LongLength, TooLong,
     /// BadCriticality too.
-    #[tactic(auto, unfolding(crate::specs::Asn1::reading, crate::specs::Asn1::flags_at, crate::specs::Asn1::fields_at))]
+    #[tactic(auto, unfolding(aper_fields::specs::Asn1::reading, aper_fields::specs::Asn1::flags_at, aper_fields::specs::Asn1::fields_at))]
     fn read_pieces(r: &mut BitReader) -> Result<BitRates, Refusal> {
         let mut ahead = r.ahead();
         read_zero_bit(&mut ahead, Reason::SequenceExtension)?;
@@ -38,7 +38,7 @@ impl PlainValue for BitRates {
         Ok(BitRates { dl, ul })
     }
 
-    #[tactic(auto, unfolding(crate::specs::Asn1::run, crate::specs::Asn1::flags_run, crate::specs::Asn1::fields_run))]
+    #[tactic(auto, unfolding(aper_fields::specs::Asn1::run, aper_fields::specs::Asn1::flags_run, aper_fields::specs::Asn1::fields_run))]
     fn write_pieces(self, w: &mut BitWriter) -> Result<(), OutOfMemory> {
         write_preamble(w)?;
         Ranged::<0, MOST_BIT_RATE>::write(w, self.dl)?;

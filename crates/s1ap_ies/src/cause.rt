@@ -3,9 +3,9 @@
 ghost use Rattle.std.specs.Prelude.{◌≡◌, ◌≤◌, OnOk, OnErr};
 ghost use Rattle.device_types.specs.Cause.{cause_roots};
 
-use crate::pieces::{read_choice, write_choice};
-use crate::value::PlainValue;
-use aper_fields::{BitReader, BitWriter, EnumValue, read_enum, write_enum};
+use aper_fields::{
+    BitReader, BitWriter, EnumValue, PlainValue, read_choice, read_enum, write_choice, write_enum,
+};
 use echo_base::{OutOfMemory, Refusal};
 
 /// Why something was done (TS 36.413, 9.2.1.3).
@@ -42,7 +42,7 @@ impl PlainValue for Cause {
 
     /// It is refused for the first piece that is wrong: Truncated, BadChoice where the extension bit
     /// of the choice is 1 or there is no such group, OutOfRange where the group has no such cause.
-    #[tactic(auto, unfolding(crate::specs::Asn1::reading))]
+    #[tactic(auto, unfolding(aper_fields::specs::Asn1::reading))]
     fn read_pieces(r: &mut BitReader) -> Result<Cause, Refusal> {
         let mut ahead = r.ahead();
         let group = read_choice(&mut ahead, 5, 3)?;
@@ -55,7 +55,7 @@ impl PlainValue for Cause {
         })
     }
 
-    #[tactic(auto, unfolding(crate::specs::Asn1::run))]
+    #[tactic(auto, unfolding(aper_fields::specs::Asn1::run))]
     fn write_pieces(self, w: &mut BitWriter) -> Result<(), OutOfMemory> {
         let group = u64::from(self.group);
         write_choice(w, 3, group)?;

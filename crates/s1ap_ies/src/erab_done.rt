@@ -3,10 +3,10 @@
 ghost use Rattle.std.specs.Prelude.{◌≡◌, OnOk, OnErr};
 
 use crate::bearer::{read_address, read_erab_id, write_address, write_erab_id};
-use crate::pieces::read_zero_bit;
-use crate::sequence::{read_present, skip_extensions, write_preamble};
-use crate::value::PlainValue;
-use aper_fields::{BitReader, BitWriter, read_bits_fixed, write_bits_fixed};
+use aper_fields::{
+    BitReader, BitWriter, PlainValue, read_bits_fixed, read_present, read_zero_bit,
+    skip_extensions, write_bits_fixed, write_preamble,
+};
 use echo_base::{OutOfMemory, Reason, Refusal};
 
 /// An E-RAB that was set up: the E-RAB Setup Item of a response (TS 36.413, 9.1.4.3).
@@ -28,7 +28,7 @@ impl PlainValue for ErabDone {
     /// It is refused for the first piece that is wrong: Truncated, NonZeroPadding, SequenceExtension
     /// where its extension bit is 1, OutOfRange where that of the E-RAB ID or of the address is 1 or the address has
     /// not 32 bits; in its iE-Extensions LongLength, TooLong, BadCriticality too.
-    #[tactic(auto, unfolding(crate::specs::Asn1::reading, crate::specs::Asn1::flags_at, crate::specs::Asn1::fields_at, crate::specs::Values::erab_done))]
+    #[tactic(auto, unfolding(aper_fields::specs::Asn1::reading, aper_fields::specs::Asn1::flags_at, aper_fields::specs::Asn1::fields_at, crate::specs::Values::erab_done))]
     fn read_pieces(r: &mut BitReader) -> Result<ErabDone, Refusal> {
         let mut ahead = r.ahead();
         read_zero_bit(&mut ahead, Reason::SequenceExtension)?;
@@ -45,7 +45,7 @@ impl PlainValue for ErabDone {
         })
     }
 
-    #[tactic(auto, unfolding(crate::specs::Asn1::run, crate::specs::Asn1::flags_run, crate::specs::Asn1::fields_run, crate::specs::Values::erab_done, crate::specs::Values::erab_id))]
+    #[tactic(auto, unfolding(aper_fields::specs::Asn1::run, aper_fields::specs::Asn1::flags_run, aper_fields::specs::Asn1::fields_run, crate::specs::Values::erab_done, crate::specs::Values::erab_id))]
     fn write_pieces(self, w: &mut BitWriter) -> Result<(), OutOfMemory> {
         write_preamble(w)?;
         write_erab_id(w, self.id)?;

@@ -3,18 +3,16 @@
 ghost use Rattle.std.specs.Prelude.{◌≡◌, IfOk, IfSome, OnOk, OnErr, option_map, length};
 ghost use Rattle.echo_base.specs.Reading.{GivesBy};
 ghost use Rattle.aper_fields.specs.Run.{then_written, ◌▸◌, fixed_bits_run};
-ghost use Rattle.s1ap_ies.specs.Kept.{Keeps};
-ghost use Rattle.s1ap_ies.specs.Asn1.{reading, run, fields_at, fields_run, FieldsFit, CanBeWritten, optional};
+ghost use Rattle.aper_fields.specs.Kept.{Keeps};
+ghost use Rattle.aper_fields.specs.Asn1.{reading, run, fields_at, fields_run, FieldsFit, CanBeWritten, optional};
 ghost use Rattle.s1ap_ies.specs.Values.{erab_to_setup, qos, address, nas_pdu};
 ghost use Rattle.s1ap_ies.specs.Lent.{item_of};
 
 use crate::bearer::{Qos, read_address, read_erab_id, write_address, write_erab_id};
 use crate::names::MOST_OCTETS_OF_NAS;
-use crate::pieces::read_zero_bit;
-use crate::sequence::{read_present, skip_extensions, write_present};
-use crate::value::{OwnedValue, PlainValue};
 use aper_fields::{
-    BitReader, BitWriter, read_bits_fixed, read_octet_string, write_bits_fixed, write_octet_string,
+    BitReader, BitWriter, OwnedValue, PlainValue, read_bits_fixed, read_octet_string, read_present,
+    read_zero_bit, skip_extensions, write_bits_fixed, write_octet_string, write_present,
 };
 use device_types::Octets;
 use echo_base::{Bad, OutOfMemory, Reason, Refusal};
@@ -48,7 +46,7 @@ struct Parts<'a> {
 }
 
 /// Reads a NAS-PDU, where it is present.
-#[tactic(auto, unfolding(crate::specs::Asn1::reading, crate::specs::Asn1::fields_at))]
+#[tactic(auto, unfolding(aper_fields::specs::Asn1::reading, aper_fields::specs::Asn1::fields_at))]
 fn read_nas<'a>(r: &mut BitReader<'a>, present: bool) -> Result<Option<&'a [u8]>, Refusal>
     ensures { GivesBy (λ nas. option_map (λ octets. octets.now) nas) result r.old r.new (fields_at (optional nas_pdu) present r.old) }
 {
@@ -62,7 +60,7 @@ fn read_nas<'a>(r: &mut BitReader<'a>, present: bool) -> Result<Option<&'a [u8]>
 }
 
 /// Reads the fields, and passes over the iE-Extensions.
-#[tactic(auto, unfolding(crate::specs::Asn1::reading, crate::specs::Asn1::flags_at, crate::specs::Asn1::fields_at, crate::specs::Values::erab_to_setup))]
+#[tactic(auto, unfolding(aper_fields::specs::Asn1::reading, aper_fields::specs::Asn1::flags_at, aper_fields::specs::Asn1::fields_at, crate::specs::Values::erab_to_setup))]
 fn read_parts<'a>(r: &mut BitReader<'a>) -> Result<Parts<'a>, Refusal>
     ensures { GivesBy item_of result r.old r.new (reading erab_to_setup r.old) }
 {
@@ -97,7 +95,7 @@ fn own(alloc: Global, octets: Option<&[u8]>) -> Result<Option<Octets>, AllocErro
 }
 
 /// Writes a NAS-PDU, where it is present.
-#[tactic(auto, unfolding(crate::specs::Asn1::run, crate::specs::Asn1::fields_run))]
+#[tactic(auto, unfolding(aper_fields::specs::Asn1::run, aper_fields::specs::Asn1::fields_run))]
 fn write_nas(w: &mut BitWriter, nas: &Option<Octets>) -> Result<(), OutOfMemory>
     requires { FieldsFit (λ octets. Unit {0}) (optional nas_pdu) nas.now }
     ensures ok { OnOk result (w.new ≡ then_written w.old (fields_run (optional nas_pdu) nas.now)) }
@@ -156,7 +154,7 @@ impl OwnedValue for ErabToSetup {
         Ok(())
     }
 
-    #[tactic(auto, unfolding(crate::specs::Asn1::run, crate::specs::Asn1::flags_run, crate::specs::Asn1::fields_run, crate::specs::Values::erab_to_setup, crate::specs::Values::erab_id))]
+    #[tactic(auto, unfolding(aper_fields::specs::Asn1::run, aper_fields::specs::Asn1::flags_run, aper_fields::specs::Asn1::fields_run, crate::specs::Values::erab_to_setup, crate::specs::Values::erab_id))]
     fn write_pieces(&self, w: &mut BitWriter) -> Result<(), OutOfMemory> {
         write_bits_fixed(w, 0, 1)?;
         write_present(w, self.nas.is_some())?;

@@ -4,20 +4,21 @@ ghost use Rattle.std.specs.Prelude.{◌≡◌, ◌≤◌, ◌%◌, length, OnOk,
 ghost use Rattle.echo_base.specs.Reading.{Gives};
 ghost use Rattle.aper_fields.specs.Format.{ReadsExactly};
 ghost use Rattle.aper_fields.specs.Run.{then_written};
-ghost use Rattle.s1ap_ies.specs.Reading.{item_at};
-ghost use Rattle.s1ap_ies.specs.Grammar.{item_in};
-ghost use Rattle.s1ap_ies.specs.Kept.{Keeps};
-ghost use Rattle.s1ap_ies.specs.Asn1.{item_start};
+ghost use Rattle.aper_fields.specs.SequenceReading.{item_at};
+ghost use Rattle.aper_fields.specs.Sequence.{item_in};
+ghost use Rattle.aper_fields.specs.Kept.{Keeps};
+ghost use Rattle.aper_fields.specs.Asn1.{item_start};
 ghost use Rattle.s1ap_ies.specs.Names.{criticality_number};
 
 use crate::criticality::Criticality;
-use crate::pieces::read_criticality;
-use crate::whole::all_or_nothing;
-use aper_fields::{BitReader, BitWriter, Mark, Ranged, begin_open, read_open, write_bits_fixed};
+use aper_fields::{
+    BitReader, BitWriter, Mark, Ranged, all_or_nothing, begin_open, read_criticality, read_open,
+    write_bits_fixed,
+};
 use echo_base::{OutOfMemory, Reason, Refusal};
 
 /// Reads the id of an item, its criticality, and up to what it contains.
-#[tactic(auto, unfolding(crate::specs::Reading::item_at))]
+#[tactic(auto, unfolding(aper_fields::specs::SequenceReading::item_at))]
 fn read_fields<'a>(r: &mut BitReader<'a>, id: u16) -> Result<BitReader<'a>, Refusal>
     ensures { Gives result r.old r.new (item_at id r.old) }
 {
@@ -63,7 +64,5 @@ pub fn begin_item(w: &mut BitWriter, id: u16, criticality: Criticality) -> Resul
     ensures room { IfOk result (λ start. 8 ≤ start) }
     ensures err { OnErr result (w.new ≡ w.old) }
 {
-    let mark = w.mark();
-    let begun = begin_fields(w, id, criticality);
-    all_or_nothing(w, mark, begun)
+    all_or_nothing(w, |w| begin_fields(w, id, criticality))
 }

@@ -3,25 +3,22 @@
 
 mod bearer;
 mod bit_rates;
+mod bit_strings;
 mod cause;
 mod cgi;
 mod criticality;
 mod erab_done;
 mod erab_to_setup;
 mod item;
-mod laws;
 pub mod names;
-mod pieces;
 mod sec_caps;
-mod sequence;
 mod stmsi;
 mod tai;
 #[cfg(test)]
 mod tests;
 mod ue_ids;
-mod value;
-mod whole;
 
+pub use aper_fields::{OwnedValue, PlainValue, spelled_is_right, written_is_spelled};
 pub use bit_rates::BitRates;
 pub use cause::Cause;
 pub use cgi::Cgi;
@@ -29,10 +26,7 @@ pub use criticality::Criticality;
 pub use erab_done::ErabDone;
 pub use erab_to_setup::ErabToSetup;
 pub use item::{begin_item, read_item};
-pub use laws::{spelled_is_right, written_is_spelled};
-pub use pieces::{read_choice, read_criticality, read_zero_bit, write_choice};
 pub use sec_caps::SecCaps;
 pub use stmsi::Stmsi;
 pub use tai::Tai;
 pub use ue_ids::UeIds;
-pub use value::{OwnedValue, PlainValue};

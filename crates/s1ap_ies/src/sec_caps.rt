@@ -3,14 +3,14 @@
 ghost use Rattle.std.specs.Prelude.{◌≡◌, IfOk, OnOk, OnErr, ◌^◌, ◌<◌};
 ghost use Rattle.echo_base.specs.Reading.{Gives};
 ghost use Rattle.aper_fields.specs.Run.{then_written};
-ghost use Rattle.s1ap_ies.specs.Asn1.{reading, run};
-ghost use Rattle.s1ap_ies.specs.Kept.{Keeps};
+ghost use Rattle.aper_fields.specs.Asn1.{reading, run};
+ghost use Rattle.aper_fields.specs.Kept.{Keeps};
 ghost use Rattle.s1ap_ies.specs.Values.{algorithms};
 
-use crate::pieces::read_zero_bit;
-use crate::sequence::{read_present, skip_extensions, write_preamble};
-use crate::value::PlainValue;
-use aper_fields::{BitReader, BitWriter, read_bits_fixed, write_bits_fixed};
+use aper_fields::{
+    BitReader, BitWriter, PlainValue, read_bits_fixed, read_present, read_zero_bit,
+    skip_extensions, write_bits_fixed, write_preamble,
+};
 use echo_base::{OutOfMemory, Reason, Refusal};
 
 /// The security capabilities of a UE (TS 36.413, 9.2.1.40): a bit for each algorithm, the first one highest.
@@ -23,7 +23,7 @@ pub struct SecCaps {
 }
 
 /// Reads a bit string of 16 algorithms, behind its extension bit.
-#[tactic(auto, unfolding(crate::specs::Asn1::reading))]
+#[tactic(auto, unfolding(aper_fields::specs::Asn1::reading))]
 fn read_algorithms(r: &mut BitReader) -> Result<u64, Refusal>
     ensures read { Gives result r.old r.new (reading algorithms r.old) }
     ensures fits { IfOk result (λ v. v < 2 ^ 16) }
@@ -36,7 +36,7 @@ fn read_algorithms(r: &mut BitReader) -> Result<u64, Refusal>
 }
 
 /// Writes a bit string of 16 algorithms, behind its extension bit.
-#[tactic(auto, unfolding(crate::specs::Asn1::run))]
+#[tactic(auto, unfolding(aper_fields::specs::Asn1::run))]
 fn write_algorithms(w: &mut BitWriter, bits: u16) -> Result<(), OutOfMemory>
     ensures ok { OnOk result (w.new ≡ then_written w.old (run algorithms bits)) }
     ensures kept { OnErr result (Keeps w.old w.new) }
@@ -53,7 +53,7 @@ impl PlainValue for SecCaps {
     /// It is refused for the first piece that is wrong: Truncated, NonZeroPadding, SequenceExtension
     /// where its extension bit is 1, OutOfRange where one of a bit string is 1; in its iE-Extensions LongLength,
     /// TooLong, BadCriticality too.
-    #[tactic(auto, unfolding(crate::specs::Asn1::reading, crate::specs::Asn1::flags_at, crate::specs::Asn1::fields_at))]
+    #[tactic(auto, unfolding(aper_fields::specs::Asn1::reading, aper_fields::specs::Asn1::flags_at, aper_fields::specs::Asn1::fields_at))]
     fn read_pieces(r: &mut BitReader) -> Result<SecCaps, Refusal> {
         let mut ahead = r.ahead();
         read_zero_bit(&mut ahead, Reason::SequenceExtension)?;
@@ -68,7 +68,7 @@ impl PlainValue for SecCaps {
         })
     }
 
-    #[tactic(auto, unfolding(crate::specs::Asn1::run, crate::specs::Asn1::flags_run, crate::specs::Asn1::fields_run))]
+    #[tactic(auto, unfolding(aper_fields::specs::Asn1::run, aper_fields::specs::Asn1::flags_run, aper_fields::specs::Asn1::fields_run))]
     fn write_pieces(self, w: &mut BitWriter) -> Result<(), OutOfMemory> {
         write_preamble(w)?;
         write_algorithms(w, self.eea)?;

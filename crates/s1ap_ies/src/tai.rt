@@ -2,11 +2,9 @@
 
 ghost use Rattle.std.specs.Prelude.{◌≡◌, OnOk, OnErr};
 
-use crate::pieces::read_zero_bit;
-use crate::sequence::{read_present, skip_extensions, write_preamble};
-use crate::value::PlainValue;
-use aper_fields::{BitReader, BitWriter, read_bits_fixed, write_bits_fixed};
-use echo_base::{OutOfMemory, Reason, Refusal};
+use crate::bit_strings::{read_two, write_two};
+use aper_fields::{BitReader, BitWriter, PlainValue};
+use echo_base::{OutOfMemory, Refusal};
 
 /// A tracking area identity (TS 36.413, 9.2.3.16).
 #[derive(Clone, Copy, Debug, PartialEq, Eq)]
@@ -24,25 +22,17 @@ impl PlainValue for Tai {
 
     /// It is refused for the first piece that is wrong: Truncated, NonZeroPadding, SequenceExtension
     /// where its extension bit is 1; in its iE-Extensions LongLength, TooLong, BadCriticality too.
-    #[tactic(auto, unfolding(crate::specs::Asn1::reading, crate::specs::Asn1::flags_at, crate::specs::Asn1::fields_at))]
+    #[tactic(auto, unfolding(aper_fields::specs::Asn1::reading))]
     fn read_pieces(r: &mut BitReader) -> Result<Tai, Refusal> {
-        let mut ahead = r.ahead();
-        read_zero_bit(&mut ahead, Reason::SequenceExtension)?;
-        let more = read_present(&mut ahead)?;
-        let plmn = read_bits_fixed(&mut ahead, 24)?;
-        let tac = read_bits_fixed(&mut ahead, 16)?;
-        skip_extensions(&mut ahead, more)?;
-        *r = ahead;
+        let (plmn, tac) = read_two(r, 24, 16)?;
         Ok(Tai {
             plmn: plmn as u32,
             tac: tac as u16,
         })
     }
 
-    #[tactic(auto, unfolding(crate::specs::Asn1::run, crate::specs::Asn1::flags_run, crate::specs::Asn1::fields_run))]
+    #[tactic(auto, unfolding(aper_fields::specs::Asn1::run))]
     fn write_pieces(self, w: &mut BitWriter) -> Result<(), OutOfMemory> {
-        write_preamble(w)?;
-        write_bits_fixed(w, u64::from(self.plmn), 24)?;
-        write_bits_fixed(w, u64::from(self.tac), 16)
+        write_two(w, (u64::from(self.plmn), 24), (u64::from(self.tac), 16))
     }
 }

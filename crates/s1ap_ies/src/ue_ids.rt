@@ -3,10 +3,10 @@
 ghost use Rattle.std.specs.Prelude.{◌≡◌, OnOk, OnErr};
 
 use crate::names::{MOST_ENB_UE_S1AP_ID, MOST_MME_UE_S1AP_ID};
-use crate::pieces::{read_choice, read_zero_bit, write_choice};
-use crate::sequence::{read_present, skip_extensions, write_preamble};
-use crate::value::PlainValue;
-use aper_fields::{BitReader, BitWriter, Ranged};
+use aper_fields::{
+    BitReader, BitWriter, PlainValue, Ranged, read_choice, read_present, read_zero_bit,
+    skip_extensions, write_choice, write_preamble,
+};
 use echo_base::{OutOfMemory, Reason, Refusal};
 
 /// The UE S1AP IDs (TS 36.413, 9.2.3.18).
@@ -31,7 +31,7 @@ impl PlainValue for UeIds {
     /// It is refused for the first piece that is wrong: Truncated, NonZeroPadding, BadChoice where the
     /// extension bit of the choice is 1, SequenceExtension where that of the pair is 1, NotMinimal and OutOfRange at an
     /// identity; in its iE-Extensions LongLength, TooLong, BadCriticality too.
-    #[tactic(auto, unfolding(crate::specs::Asn1::reading, crate::specs::Asn1::flags_at, crate::specs::Asn1::fields_at))]
+    #[tactic(auto, unfolding(aper_fields::specs::Asn1::reading, aper_fields::specs::Asn1::flags_at, aper_fields::specs::Asn1::fields_at))]
     fn read_pieces(r: &mut BitReader) -> Result<UeIds, Refusal> {
         let mut ahead = r.ahead();
         if read_choice(&mut ahead, 2, 1)? == 0 {
@@ -49,7 +49,7 @@ impl PlainValue for UeIds {
         }
     }
 
-    #[tactic(auto, unfolding(crate::specs::Asn1::run, crate::specs::Asn1::flags_run, crate::specs::Asn1::fields_run))]
+    #[tactic(auto, unfolding(aper_fields::specs::Asn1::run, aper_fields::specs::Asn1::flags_run, aper_fields::specs::Asn1::fields_run))]
     fn write_pieces(self, w: &mut BitWriter) -> Result<(), OutOfMemory> {
         match self {
             UeIds::Pair { mme, enb } => {

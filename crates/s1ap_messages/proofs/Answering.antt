@@ -4,8 +4,8 @@ use Rattle.std.proofs.lemmas.Bool.{ne_eqb}
 use Rattle.std.proofs.lemmas.List.{length-append}
 use Rattle.echo_base.specs.declared.reason.Reason.TheVariants as reasons
 use Rattle.echo_base.specs.declared.refusal.Refusal.{Refusal}
-use Rattle.aper_fields.specs.Bits.{bits, bits_of, zeros, gap}
-use Rattle.aper_fields.proofs.BitLaws.{length-bits_of}
+use Rattle.aper_fields.specs.Bits.{bits_of, zeros, gap}
+use Rattle.aper_fields.proofs.BitLaws.{length-bits_of, bits_of-append}
 use Rattle.aper_fields.proofs.Octet.{input}
 use Rattle.echo_base.proofs.Answers.{ok_of, ok_err, err_is}
 use Rattle.s1ap_messages.specs.declared.pdu.Pdu.{Pdu}
@@ -31,11 +31,6 @@ one_of octets (Err e) read = inr (e, wrong_message octets e read)
 
 pub either_one : (octets : List ℕ) → ((p : Pdu) × Spells octets p) ⊎ ((e : Refusal) × Refused octets e)
 either_one octets = one_of octets (message_at octets) refl
-
-bits_of-append : (a b : List ℕ) → bits_of (a ++ b) ≡ bits_of a ++ bits_of b
-unfolding bits_of
-bits_of-append [] b = refl
-bits_of-append (octet ∷ a) b = ap (λ (l : List Bool). bits 8 octet ++ l) (bits_of-append a b) ∙ sym (append_assoc (bits 8 octet) (bits_of a) (bits_of b))
 
 -- octets behind a message are refused at the first of them
 pub trailing : (octets more : List ℕ) (p : Pdu) → Spells octets p → 0 < length more → Refused (octets ++ more) (record { reason = reasons.TrailingBytes; place = length octets })

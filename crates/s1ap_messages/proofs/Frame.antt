@@ -11,19 +11,18 @@ use Rattle.aper_fields.proofs.ExactNumbers.{number_exactly}
 use Rattle.aper_fields.proofs.ExactPieces.{fixed_bits_exactly}
 use Rattle.aper_fields.proofs.Containers.{open_exactly, contained_exactly}
 use Rattle.s1ap_messages.specs.declared.tables.MessageKind.{MessageKind}
-use Rattle.s1ap_ies.specs.Grammar.{zero_bit_in, choice_in}
-use Rattle.s1ap_ies.specs.Reading.{Reader, ◌>>=◌, done, zero_bit_at, criticality_at}
-use Rattle.s1ap_ies.proofs.Exact.{zero_bit_exactly, criticality_exactly, choice_exactly}
-use Rattle.s1ap_messages.specs.Many.{looked_up_at}
-use Rattle.s1ap_ies.specs.Many.{many_at, inside_at}
+use Rattle.aper_fields.specs.Sequence.{zero_bit_in, choice_in}
+use Rattle.aper_fields.specs.SequenceReading.{Reader, ◌>>=◌, done, zero_bit_at, criticality_at}
+use Rattle.aper_fields.proofs.SequenceExact.{zero_bit_exactly, criticality_exactly, choice_exactly}
+use Rattle.aper_fields.specs.Many.{many_at, inside_at, looked_up_at}
 use Rattle.s1ap_messages.specs.Grammar.{Ie, Named, Other, header_in, or_other, kind_with, new_id, has_ie, ie_in, ies_in, pdu_in}
-use Rattle.s1ap_ies.specs.Asn1.{reading}
+use Rattle.aper_fields.specs.Asn1.{reading}
 use Rattle.s1ap_messages.specs.Values.{value_type}
 use Rattle.s1ap_messages.specs.Reading.{header_at}
-use Rattle.s1ap_ies.proofs.Manys.{many_exactly}
-use Rattle.s1ap_messages.proofs.Pieces.{looked_up_exactly}
-use Rattle.s1ap_ies.proofs.Exact.{behind}
-use Rattle.s1ap_ies.proofs.Inside.{inside_exactly}
+use Rattle.aper_fields.proofs.Manys.{many_exactly}
+use Rattle.aper_fields.proofs.LookUps.{looked_up_exactly}
+use Rattle.aper_fields.proofs.SequenceExact.{behind}
+use Rattle.aper_fields.proofs.Inside.{inside_exactly}
 use Rattle.s1ap_messages.proofs.Ies.{value_exactly}
 
 pub header_exactly : IsExactly header_in header_at

@@ -4,13 +4,13 @@ use Rattle.std.proofs.lemmas.Bool.{cases_Bool}
 use Rattle.aper_fields.specs.Spelling.{IsOctets}
 use Rattle.aper_fields.specs.Format.{IsExactly, IsSpelledBy}
 use Rattle.aper_fields.proofs.Periodic.{IsPeriodic}
-use Rattle.s1ap_ies.specs.Asn1.{format, reading, takes_some, IsSound}
+use Rattle.aper_fields.specs.Asn1.{format, reading, takes_some, IsSound}
 use Rattle.s1ap_ies.specs.Values as types
 use Rattle.s1ap_ies.proofs.Items.{dones_sound, setups_sound}
-use Rattle.s1ap_ies.proofs.Types.{exactly, periodic, fits_by}
-use Rattle.s1ap_ies.proofs.Sizes.{some}
-use Rattle.s1ap_ies.proofs.Spelled.{spelled}
-use Rattle.s1ap_ies.proofs.Least.{least}
+use Rattle.aper_fields.proofs.Types.{exactly, periodic, fits_by}
+use Rattle.aper_fields.proofs.Sizes.{some}
+use Rattle.aper_fields.proofs.Spelled.{spelled}
+use Rattle.aper_fields.proofs.Least.{least}
 use Rattle.aper_fields.proofs.Room.{IsLeast}
 use Rattle.s1ap_messages.specs.declared.value.IeValue.TheVariants as value
 use Rattle.s1ap_messages.specs.Values.{FieldValue, IeType, type_of, among, ies_before_last, rrc_cause, value_type, id_of, asn1_of}

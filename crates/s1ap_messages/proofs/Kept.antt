@@ -4,7 +4,7 @@ use Rattle.std.specs.List.{list_any}
 use Rattle.std.proofs.lemmas.Bool.{cases_Bool, eqb-true, eq-eqb}
 use Rattle.echo_base.specs.declared.reason.Reason.{Reason}
 use Rattle.echo_base.specs.declared.reason.Reason.TheVariants as reasons
-use Rattle.aper_fields.specs.Reading.{Input, Read, number_at, open_at, close_at, whole_at, contained_at}
+use Rattle.aper_fields.specs.Reading.{Input, Read, number_at, open_at, whole_at, contained_at}
 use Rattle.aper_fields.specs.Format as formats
 use Rattle.aper_fields.specs.Format.{either, just}
 use Rattle.echo_base.proofs.Answers.{bind, bind_same, bind_assoc, ok_of}
@@ -12,45 +12,17 @@ use Rattle.s1ap_messages.specs.declared.tables.IeRow.{IeRow}
 use Rattle.s1ap_messages.specs.declared.tables.MessageKind.{MessageKind}
 use Rattle.s1ap_messages.specs.declared.tables.MessageKind.TheVariants as kind
 use Rattle.s1ap_messages.specs.Messages.{rows_of}
-use Rattle.s1ap_ies.specs.Reading.{Reader, ◌>>=◌, done, zero_bit_at, criticality_at}
+use Rattle.aper_fields.specs.SequenceReading.{Reader, ◌>>=◌, done, zero_bit_at, criticality_at}
 use Rattle.s1ap_messages.proofs.Distinct.{ids_distinct}
-use Rattle.s1ap_messages.specs.Many.{looked_up_at, answer}
-use Rattle.s1ap_ies.specs.Many.{many_at, inside, inside_at}
+use Rattle.aper_fields.specs.Many.{many_at, inside, inside_at, looked_up_at, answer}
+use Rattle.aper_fields.proofs.Maps.{Maps, behind_maps, whole_maps, contained_maps}
 use Rattle.s1ap_messages.specs.Values.{FieldValue, value_type}
 use Rattle.s1ap_messages.specs.Grammar.{Ie, Named, Other, found, new_id, has_ie, ie_in}
 use Rattle.s1ap_messages.specs.Reading.{empty, place_of, is_filled, free_id, content_at, ie_at, noted, fields_at, header_at, ies_at, pdu_at}
 use Rattle.s1ap_messages.specs.Rows.{Slots}
-use Rattle.s1ap_ies.specs.Asn1.{format, reading}
+use Rattle.aper_fields.specs.Asn1.{format, reading}
 use Rattle.s1ap_messages.proofs.Places.{position-here, position-later, slot_is, slot_set}
 use Rattle.s1ap_messages.proofs.Frame.{ie_kept_at, ies_kept_at, pdu_kept_at, ie_exactly}
-
--- ---- one reading is another, with its value changed
-
-abbrev pub Maps : {A B : Type 0} → (A → B) → Reader A → Reader B → Type 0
-Maps h f g = (i : Input) → g i ≡ bind (f i) (λ x. Ok (h x.0, x.1))
-
--- behind the same piece
-behind_maps : {A B C : Type 0} (h : B → C) (f : Reader A) (g : A → Reader B) (k : A → Reader C) → ((a : A) → Maps h (g a) (k a)) → Maps h (f >>= g) (f >>= k)
-behind_maps h f g k same i =
-    bind_same (f i) (λ x. k x.0 x.1) _ (λ x. same x.0 x.1)
-    ∙ sym (bind_assoc (f i) (λ x. g x.0 x.1) (λ y. Ok (h y.0, y.1)))
-
-whole_maps : {A B : Type 0} (h : A → B) (f : Reader A) (g : Reader B) → Maps h f g → (c : Input) → whole_at g c ≡ bind (whole_at f c) (λ v. Ok (h v))
-unfolding whole_at
-whole_maps h f g same c =
-    ap (λ r. bind r (λ v. bind (close_at c v.1) (λ e. Ok v.0))) (same c)
-    ∙ bind_assoc (f c) (λ x. Ok (h x.0, x.1)) (λ v. bind (close_at c v.1) (λ e. Ok v.0))
-    ∙ bind_same (f c) _ _ (λ x. sym (bind_assoc (close_at c x.1) (λ e. Ok x.0) (λ v. Ok (h v))))
-    ∙ sym (bind_assoc (f c) (λ v. bind (close_at c v.1) (λ e. Ok v.0)) (λ v. Ok (h v)))
-
-contained_maps : {A B : Type 0} (h : A → B) (f : Reader A) (g : Reader B) → Maps h f g → Maps h (contained_at f) (contained_at g)
-unfolding contained_at
-contained_maps h f g same i =
-    bind_same (open_at i) _ _ (λ c.
-    ap (λ r. bind r (λ v. Ok (v, c.1))) (whole_maps h f g same c.0)
-    ∙ bind_assoc (whole_at f c.0) (λ v. Ok (h v)) (λ v. Ok (v, c.1))
-    ∙ sym (bind_assoc (whole_at f c.0) (λ v. Ok (v, c.1)) (λ x. Ok (h x.0, x.1))))
-    ∙ sym (bind_assoc (open_at i) (λ c. bind (whole_at f c.0) (λ v. Ok (v, c.1))) (λ x. Ok (h x.0, x.1)))
 
 -- ---- what stands under an id
 

@@ -1,6 +1,5 @@
 pub mod Distinct
 pub mod Writes
-pub mod Pieces
 pub mod Ies
 pub mod Frame
 pub mod Places
@@ -8,7 +7,6 @@ pub mod Kept
 pub mod RowLaws
 pub mod Makes
 pub mod Exact
-pub mod Skipped
 pub mod Found
 pub mod Whole
 pub mod Sizes

@@ -4,8 +4,8 @@ use Rattle.std.proofs.lemmas.Bool.{cases_Bool, eqb-true}
 use Rattle.aper_fields.specs.Reading.{Input}
 use Rattle.aper_fields.specs.Format as formats
 use Rattle.aper_fields.specs.Format.{either, just}
-use Rattle.s1ap_ies.specs.Asn1.{format}
-use Rattle.s1ap_ies.specs.Many.{InOrder, inside}
+use Rattle.aper_fields.specs.Asn1.{format}
+use Rattle.aper_fields.specs.Many.{InOrder, inside}
 use Rattle.s1ap_messages.specs.declared.tables.IeRow.{IeRow}
 use Rattle.s1ap_messages.specs.declared.tables.MessageKind.{MessageKind}
 use Rattle.s1ap_messages.specs.declared.tables.MessageKind.TheVariants as kind

@@ -17,11 +17,11 @@ use Rattle.aper_fields.proofs.BitLaws.{length-bits}
 use Rattle.s1ap_messages.specs.declared.tables.IeRow.{IeRow}
 use Rattle.s1ap_messages.specs.declared.tables.MessageKind.{MessageKind}
 use Rattle.s1ap_messages.specs.Messages.{rows_of}
-use Rattle.s1ap_ies.specs.Grammar.{zero_bit_in}
-use Rattle.s1ap_ies.specs.Asn1.{format, item_run}
+use Rattle.aper_fields.specs.Sequence.{zero_bit_in}
+use Rattle.aper_fields.specs.Asn1.{format, item_run}
 use Rattle.s1ap_messages.proofs.Distinct.{ids_distinct}
 use Rattle.s1ap_messages.specs.declared.pdu.Pdu.{Pdu}
-use Rattle.s1ap_ies.specs.Many.{InOrder, inside}
+use Rattle.aper_fields.specs.Many.{InOrder, inside}
 use Rattle.s1ap_messages.specs.Values.{FieldValue, value_type}
 use Rattle.s1ap_messages.specs.Messages.{kind_of}
 use Rattle.s1ap_messages.specs.Grammar.{Ie, Named, Other, found, has_ie, fields_of, ie_in, ies_in, pdu_in, Spells}
@@ -30,9 +30,10 @@ use Rattle.echo_base.specs.Answer.{Answers}
 use Rattle.aper_fields.proofs.Ends.{EndsBy, front_ends, open_ends}
 use Rattle.aper_fields.proofs.Opens.{open_offset}
 use Rattle.aper_fields.proofs.Room.{HasRoom, open_room}
-use Rattle.s1ap_ies.proofs.Room.{head_ends}
+use Rattle.aper_fields.proofs.Room.{head_ends}
 use Rattle.s1ap_messages.proofs.Ies.{right_value, value_octets, value_least}
-use Rattle.s1ap_messages.proofs.Sizes.{length-item_run, cost, ie_cost, length-fields_run, found_cost}
+use Rattle.aper_fields.proofs.ItemSize.{length-item_run}
+use Rattle.s1ap_messages.proofs.Sizes.{cost, ie_cost, length-fields_run, found_cost}
 
 -- ---- IEs
 

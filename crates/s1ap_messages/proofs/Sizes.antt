@@ -2,56 +2,19 @@
 use Rattle.std.proofs.Common.{◌≡◌, ℕ, ◌+◌, ◌-◌, ◌/◌, ◌%◌, ◌≤◌, Bool, false, eqb, List, [], ◌∷◌, ◌++◌, length, map, Option, Some, None, refl, ap, inl, inr, arith}
 use Rattle.std.specs.List.{AllByRecursion, IsDistinct, sum_by}
 use Rattle.std.proofs.lemmas.Bool.{cases_Bool, eqb-true}
-use Rattle.std.proofs.lemmas.List.{length-append, length-replicate}
+use Rattle.std.proofs.lemmas.List.{length-append}
 use Rattle.std.proofs.lemmas.List.Sums.{sum_by-cons}
-use Rattle.aper_fields.specs.Bits.{bits, gap}
-use Rattle.aper_fields.specs.Run.{number_run, fixed_bits_run, padding_run, length_octets, length_run, open_run, content_of}
-use Rattle.aper_fields.proofs.BitLaws.{length-bits}
-use Rattle.aper_fields.proofs.Packed.{length-filled}
 use Rattle.s1ap_messages.specs.declared.tables.IeRow.{IeRow}
-use Rattle.s1ap_ies.specs.Asn1.{item_run}
+use Rattle.aper_fields.specs.Asn1.{item_run}
 use Rattle.s1ap_ies.specs.Names.{criticality_number}
 use Rattle.s1ap_messages.specs.Values.{FieldValue}
 use Rattle.s1ap_messages.specs.Grammar.{Ie, Named, Other, found}
 use Rattle.s1ap_messages.specs.Run.{value_run, ie_run, fields_run}
-use Rattle.aper_fields.proofs.Opens.{length-length_octets}
+use Rattle.aper_fields.proofs.ItemSize.{size, size_whole, length-item_run}
 use Rattle.s1ap_messages.proofs.Whole.{named_behind}
 
 abbrev Slot : Type 0
 Slot = Option FieldValue
-
--- ---- one IE
-
--- the bits that an IE takes from an octet on: id, criticality, length and content
-abbrev pub size : List Bool → ℕ
-size body = 24 + length (length_octets (length (content_of body) / 8)) + length (content_of body)
-
-length-content : (body : List Bool) → length (content_of body) % 8 ≡ 0
-length-content body =
-    elim (cases_Bool (eqb (length body) 0)) [
-      | inl none ↦ rw none (omega arith)
-      | inr some ↦ rw some (omega (arith, length-filled body))
-    ]
-
-size_whole : (body : List Bool) → size body % 8 ≡ 0
-size_whole body = omega (arith, length-content body, length-length_octets (length (content_of body) / 8))
-
-pub length-item_run : (id criticality at : ℕ) (body : List Bool) → length (item_run id criticality body at) ≡ gap at + size body
-unfolding item_run number_run fixed_bits_run open_run length_run
-length-item_run id criticality at body =
-    let first = padding_run at ++ bits 16 (id - 0) in
-    let i = at + length first in
-    let second = bits 2 criticality in
-    let j = i + length second in
-    let counts = length_octets (length (content_of body) / 8) in
-    let lengths = padding_run j ++ counts in
-    let one : length first ≡ gap at + 16 = omega (arith, length-append (padding_run at) (bits 16 (id - 0)), length-replicate (gap at) false, length-bits 16 (id - 0)) in
-    let two : length second ≡ 2 = length-bits 2 criticality in
-    let aligned : gap j ≡ 6 = omega (arith, one, two) in
-    let three : length lengths ≡ 6 + length counts = omega (arith, aligned, length-append (padding_run j) counts, length-replicate (gap j) false) in
-    omega (arith, one, two, three, length-append first (second ++ (lengths ++ content_of body)), length-append second (lengths ++ content_of body), length-append lengths (content_of body))
-
--- ---- the IEs of a message
 
 abbrev pub cost : Slot → ℕ
 cost None = 0

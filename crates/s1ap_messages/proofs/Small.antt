@@ -5,10 +5,10 @@ use Rattle.aper_fields.specs.Run.{◌▸◌, number_run, fixed_bits_run}
 use Rattle.aper_fields.proofs.Lengths.{Takes, more_takes, then_takes, number_takes, fixed_bits_takes}
 use Rattle.s1ap_messages.specs.declared.tables.IeRow.{IeRow}
 use Rattle.s1ap_messages.specs.declared.tables.MessageKind.{MessageKind}
-use Rattle.s1ap_ies.specs.Asn1.{run}
+use Rattle.aper_fields.specs.Asn1.{run}
 use Rattle.s1ap_messages.specs.Messages.{rows_of}
 use Rattle.s1ap_ies.specs.Values as types
-use Rattle.s1ap_ies.proofs.Sizes.{item_takes, most_of, takes_of}
+use Rattle.aper_fields.proofs.Sizes.{item_takes, most_of, takes_of}
 use Rattle.s1ap_ies.specs.Names.{criticality_number}
 use Rattle.s1ap_messages.specs.declared.pdu.Pdu.{Pdu}
 use Rattle.s1ap_messages.specs.declared.value.IeValue.TheVariants as value

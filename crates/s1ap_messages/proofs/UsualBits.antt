@@ -7,9 +7,9 @@ use Rattle.aper_fields.specs.Bits.{bits, bits_of, zeros, gap, filled}
 use Rattle.aper_fields.specs.Run.{Run, ◌▸◌, length_run, length_octets, open_run, content_of, fixed_bits_run, number_run}
 use Rattle.aper_fields.proofs.BitLaws.{bits-add, bits-low, bits-zero, length-bits_of, bits_of-append}
 use Rattle.aper_fields.proofs.Periodic.{IsPeriodic}
-use Rattle.s1ap_ies.specs.Asn1.{item_run}
+use Rattle.aper_fields.specs.Asn1.{item_run}
 use Rattle.s1ap_messages.specs.Usual.{count_octets, counted, four_octets, ie_octets}
-use Rattle.s1ap_ies.proofs.Types.{item_periodic}
+use Rattle.aper_fields.proofs.Types.{item_periodic}
 
 -- ---- octets
 

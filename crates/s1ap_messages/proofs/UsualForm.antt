@@ -13,7 +13,7 @@ use Rattle.s1ap_messages.specs.declared.tables.IeRow.{IeRow}
 use Rattle.s1ap_messages.specs.declared.tables.MessageKind.{MessageKind}
 use Rattle.s1ap_messages.specs.declared.tables.MessageKind.TheVariants as kind
 use Rattle.s1ap_messages.specs.Messages.{rows_of}
-use Rattle.s1ap_ies.specs.Asn1.{run}
+use Rattle.aper_fields.specs.Asn1.{run}
 use Rattle.s1ap_ies.proofs.Items.{dones_fit, dones_right, setups_fit, setups_right}
 use Rattle.s1ap_ies.specs.Names.{criticality_number}
 use Rattle.s1ap_messages.specs.declared.value.IeValue.TheVariants as value

@@ -11,8 +11,8 @@ use Rattle.aper_fields.proofs.Periodic.{IsPeriodic, then_periodic, fixed_bits_pe
 use Rattle.s1ap_ies.specs.declared.bit_rates.BitRates.{BitRates}
 use Rattle.s1ap_ies.specs.declared.ue_ids.UeIds.{UeIds}
 use Rattle.s1ap_ies.specs.declared.ue_ids.UeIds.TheVariants.{Pair, Mme}
-use Rattle.s1ap_ies.specs.Run.{IsBitRates, IsUeIds, choice_run}
-use Rattle.s1ap_ies.specs.Asn1.{run, flags_run, fields_run}
+use Rattle.s1ap_ies.specs.Run.{IsBitRates, IsUeIds}
+use Rattle.aper_fields.specs.Asn1.{index_run, run, flags_run, fields_run}
 use Rattle.s1ap_ies.specs.Values as types
 use Rattle.s1ap_messages.specs.Usual.{least_octets, number_octets, rates_octets, ids_octets}
 use Rattle.s1ap_messages.proofs.UsualBits.{octets_then, octets_at_start, octet, two, three, four, five, framed, Contains, contains_octets}
@@ -159,11 +159,11 @@ rates_are v right =
 
 -- ---- identities
 
-pair_run : (n : ℕ) → ((choice_run 1 0 ▸ preamble_run) ▸ number_run 0 4294967295 n) 0 ≡ bits 4 0 ++ counted_run 4294967295 (n - 0) 4
+pair_run : (n : ℕ) → ((index_run 1 0 ▸ preamble_run) ▸ number_run 0 4294967295 n) 0 ≡ bits 4 0 ++ counted_run 4294967295 (n - 0) 4
 unfolding fixed_bits_run number_run bits
 pair_run n = refl
 
-pair_octets : (n : ℕ) → n < 2 ^ 32 → ((choice_run 1 0 ▸ preamble_run) ▸ number_run 0 4294967295 n) 0 ≡ bits_of (number_octets 0 4 n)
+pair_octets : (n : ℕ) → n < 2 ^ 32 → ((index_run 1 0 ▸ preamble_run) ▸ number_run 0 4294967295 n) 0 ≡ bits_of (number_octets 0 4 n)
 unfolding lib.Count.count_leading_zeros
 pair_octets n fits =
     let m : n - 0 ≡ n = omega arith in
@@ -172,11 +172,11 @@ pair_octets n fits =
     let same : 0 * 2 ^ 4 + (k * 2 ^ 2 + 0) ≡ 0 + 4 * k = omega arith in
     pair_run n ∙ rw m (counted_octets 4294967295 n 2 4 0 0 4 refl (omega (arith, fits)) (framed 4 2 2 0 k (omega (arith, few.0, few.1)) ∙ ap (bits 8) same))
 
-single_run : (n : ℕ) → (choice_run 1 1 ▸ number_run 0 4294967295 n) 0 ≡ bits 2 1 ++ counted_run 4294967295 (n - 0) 2
+single_run : (n : ℕ) → (index_run 1 1 ▸ number_run 0 4294967295 n) 0 ≡ bits 2 1 ++ counted_run 4294967295 (n - 0) 2
 unfolding fixed_bits_run number_run bits
 single_run n = refl
 
-single_octets : (n : ℕ) → n < 2 ^ 32 → (choice_run 1 1 ▸ number_run 0 4294967295 n) 0 ≡ bits_of (number_octets 64 16 n)
+single_octets : (n : ℕ) → n < 2 ^ 32 → (index_run 1 1 ▸ number_run 0 4294967295 n) 0 ≡ bits_of (number_octets 64 16 n)
 unfolding lib.Count.count_leading_zeros
 single_octets n fits =
     let m : n - 0 ≡ n = omega arith in
@@ -185,7 +185,7 @@ single_octets n fits =
     let same : 1 * 2 ^ 6 + (k * 2 ^ 4 + 0) ≡ 64 + 16 * k = omega arith in
     single_run n ∙ rw m (counted_octets 4294967295 n 2 2 1 64 16 refl (omega (arith, fits)) (framed 2 2 4 1 k (omega (arith, few.0, few.1)) ∙ ap (bits 8) same))
 
-choice_periodic : (n index : ℕ) → IsPeriodic (choice_run n index)
+choice_periodic : (n index : ℕ) → IsPeriodic (index_run n index)
 choice_periodic n index = then_periodic _ _ (fixed_bits_periodic 1 0) (fixed_bits_periodic n index)
 
 pub ids_are : (v : UeIds) → IsUeIds v → Contains (run types.ue_ids v 0) (ids_octets v)
@@ -194,5 +194,5 @@ ids_are (Pair mme enb) right =
     let first : Run = number_run 0 4294967295 mme in
     let second : Run = number_run 0 16777215 enb in
     contains_octets _ _ (omega (arith, length-append (number_octets 0 4 mme) (number_octets 0 64 enb), number_some 0 4 mme))
-    (ap (λ (l : List Bool). choice_run 1 0 0 ++ l) (grouped (fixed_bits_run 1 0) (fixed_bits_run 1 0) (first ▸ second) (0 + length (choice_run 1 0 0))) ∙ grouped (choice_run 1 0) preamble_run (first ▸ second) 0 ∙ two_numbers (choice_run 1 0 ▸ preamble_run) first second (number_octets 0 4 mme) (number_octets 0 64 enb) (then_periodic (choice_run 1 0 ▸ preamble_run) first (then_periodic (choice_run 1 0) preamble_run (choice_periodic 1 0) preamble_periodic) (number_periodic 0 4294967295 mme)) (number_periodic 0 16777215 enb) (pair_octets mme (omega (arith, right.0))) (enb_octets enb (omega (arith, right.1))))
+    (ap (λ (l : List Bool). index_run 1 0 0 ++ l) (grouped (fixed_bits_run 1 0) (fixed_bits_run 1 0) (first ▸ second) (0 + length (index_run 1 0 0))) ∙ grouped (index_run 1 0) preamble_run (first ▸ second) 0 ∙ two_numbers (index_run 1 0 ▸ preamble_run) first second (number_octets 0 4 mme) (number_octets 0 64 enb) (then_periodic (index_run 1 0 ▸ preamble_run) first (then_periodic (index_run 1 0) preamble_run (choice_periodic 1 0) preamble_periodic) (number_periodic 0 4294967295 mme)) (number_periodic 0 16777215 enb) (pair_octets mme (omega (arith, right.0))) (enb_octets enb (omega (arith, right.1))))
 ids_are (Mme mme) right = contains_octets _ _ (number_some 64 16 mme) (single_octets mme (omega (arith, right)))

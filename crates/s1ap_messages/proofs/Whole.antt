@@ -13,16 +13,15 @@ use Rattle.s1ap_messages.specs.declared.tables.IeRow.{IeRow}
 use Rattle.s1ap_messages.specs.declared.tables.MessageKind.{MessageKind}
 use Rattle.s1ap_messages.specs.declared.tables.MessageKind.TheVariants as kind
 use Rattle.s1ap_messages.specs.Messages.{rows_of}
-use Rattle.s1ap_ies.specs.Grammar.{zero_bit_in}
-use Rattle.s1ap_ies.specs.Run.{choice_run}
+use Rattle.aper_fields.specs.Sequence.{zero_bit_in}
+use Rattle.aper_fields.specs.Asn1.{index_run, format, item_run}
 use Rattle.aper_fields.specs.Format.{IsSpelledBy}
-use Rattle.s1ap_ies.specs.Asn1.{format, item_run}
 use Rattle.s1ap_messages.proofs.Distinct.{ids_distinct, few_rows}
-use Rattle.s1ap_ies.proofs.Spelled.{choice_spelled}
+use Rattle.aper_fields.proofs.Spelled.{choice_spelled}
 use Rattle.s1ap_ies.specs.Names.{criticality_number}
 use Rattle.s1ap_messages.specs.declared.pdu.Pdu.{Pdu}
 use Rattle.s1ap_messages.specs.declared.pdu.Pdu.TheVariants as pdus
-use Rattle.s1ap_ies.specs.Many.{InOrder}
+use Rattle.aper_fields.specs.Many.{InOrder}
 use Rattle.s1ap_messages.specs.Values.{FieldValue, value_type, id_of}
 use Rattle.s1ap_messages.specs.Messages.{outcome_index, header_of, kind_of, values_of}
 use Rattle.s1ap_messages.specs.Grammar.{Ie, Named, found, has_ie, or_other, kind_with, kind_among, header_in, ie_in, ies_in, pdu_in, Spells}
@@ -31,8 +30,8 @@ use Rattle.s1ap_messages.proofs.Kept.{found-append}
 use Rattle.s1ap_messages.proofs.Frame.{pdu_some}
 use Rattle.aper_fields.proofs.Opens.{open_holds, closing_some}
 use Rattle.s1ap_messages.proofs.Ies.{value_periodic, value_some, value_spelled}
-use Rattle.s1ap_ies.proofs.Types.{item_periodic}
-use Rattle.s1ap_ies.proofs.Spelled.{criticality_spelled}
+use Rattle.aper_fields.proofs.Types.{item_periodic}
+use Rattle.aper_fields.proofs.Spelled.{criticality_spelled}
 use Rattle.s1ap_messages.proofs.Writes.{values-length}
 
 abbrev Slot : Type 0
@@ -215,7 +214,7 @@ header_there kind = record {
       let b = and_parts (leb header.code 255) (leb (criticality_number header.criticality) 2) a.1 in
       let outcome : (outcome_index header.outcome) < 3 = ltb-true _ _ a.0 in
       let code : header.code ≤ 255 = leb-true _ _ b.0 in
-      let first = choice_run 2 (outcome_index header.outcome) at in
+      let first = index_run 2 (outcome_index header.outcome) at in
       let i = at + length first in
       let second = fixed_bits_run 5 0 i in
       let j = i + length second in

@@ -1,9 +1,7 @@
 -- What is written piece by piece is the run of the message.
 use Rattle.std.proofs.Common.{◌≡◌, ℕ, ◌*◌, ◌-◌, ◌^◌, ◌<◌, Bool, eqb, List, ◌++◌, length, take, replicate, Option, None, Result, OnOk, refl, sym, ap, ◌∙◌, subst, inl, inr, arith}
-use Rattle.std.proofs.lemmas.Bool.{cases_Bool}
 use Rattle.std.proofs.lemmas.List.{take_at, take-map}
-use Rattle.aper_fields.specs.Run.{content_of, then_written}
-use Rattle.aper_fields.proofs.Packed.{length-filled}
+use Rattle.aper_fields.specs.Run.{then_written}
 use Rattle.s1ap_messages.specs.declared.tables.MessageKind.{MessageKind}
 use Rattle.s1ap_messages.specs.Messages.{rows_of}
 use Rattle.s1ap_messages.specs.declared.pdu.Pdu.{Pdu}
@@ -11,20 +9,12 @@ use Rattle.s1ap_messages.specs.declared.pdu.Pdu.TheVariants as pdus
 use Rattle.s1ap_messages.specs.Values.{FieldValue}
 use Rattle.s1ap_messages.specs.Messages.{kind_of, values_of}
 use Rattle.s1ap_messages.specs.Lent.{LentValue, all_seen}
-use Rattle.s1ap_messages.specs.Run.{ies_run, IsShort}
+use Rattle.s1ap_messages.specs.Run.{ies_run}
 
 -- a message has a value, or none, for each row of its table
 pub values-length : (p : Pdu) → length (values_of p) ≡ length (rows_of (kind_of p))
 values-length (pdus.InitialUeMessage enb nas tai cgi rrc stmsi) = refl
 values-length _ = refl
-
--- what a short body contains fits in an open type
-pub short_content : (body : List Bool) → IsShort body → length (content_of body) < 8 * 2 ^ 14
-short_content body short =
-    elim (cases_Bool (eqb (length body) 0)) [
-      | inl none ↦ rw none (omega arith)
-      | inr some ↦ rw some (omega (arith, length-filled body))
-    ]
 
 -- the values of a message, without what stands behind them
 pub values_front : (p : Pdu) (kind : MessageKind) (values : List (Option LentValue)) (len : ℕ) → kind ≡ kind_of p → len ≡ length (rows_of kind) → all_seen values ≡ values_of p ++ replicate (6 - length (rows_of (kind_of p))) None → all_seen (take len values) ≡ values_of p

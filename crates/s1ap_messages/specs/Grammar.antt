@@ -11,11 +11,10 @@ use Rattle.aper_fields.specs.Format.{Format, ◌>>=◌, just, passing, either, f
 use Rattle.s1ap_messages.specs.declared.tables.IeRow.{IeRow}
 use Rattle.s1ap_messages.specs.declared.tables.MessageKind.{MessageKind}
 use Rattle.s1ap_messages.specs.Messages.{rows_of}
-use Rattle.s1ap_ies.specs.Grammar.{zero_bit_in, criticality_in, choice_in}
+use Rattle.aper_fields.specs.Sequence.{zero_bit_in, criticality_in, choice_in}
 use Rattle.s1ap_messages.specs.declared.pdu.Pdu.{Pdu}
-use Rattle.s1ap_messages.specs.Many.{looked_up}
-use Rattle.s1ap_ies.specs.Asn1.{format}
-use Rattle.s1ap_ies.specs.Many.{many_in, inside}
+use Rattle.aper_fields.specs.Asn1.{format}
+use Rattle.aper_fields.specs.Many.{many_in, inside, looked_up}
 use Rattle.s1ap_messages.specs.Values.{FieldValue, value_type}
 use Rattle.s1ap_messages.specs.Messages.{outcome_index, header_of, kinds, kind_of, values_of, is_downlink}
 

@@ -1,7 +1,6 @@
 pub mod Built
 pub mod Grammar
 pub mod Lent
-pub mod Many
 pub mod Memory
 pub mod Messages
 pub mod Names

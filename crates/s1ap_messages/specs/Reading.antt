@@ -2,32 +2,16 @@
 use Rattle.std.specs.Prelude.{ℕ, zero, suc, ◌==◌, ◌&&◌, Bool, false, List, [], ◌∷◌, position, slice_set, slice_index_or, Option, Some, None, is_some, is_none, Result, Ok, Err, if◌then◌else◌}
 use Rattle.echo_base.specs.declared.reason.Reason.{Reason}
 use Rattle.echo_base.specs.declared.reason.Reason.TheVariants as reasons
-use Rattle.aper_fields.specs.Reading.{Input, Read, fixed_bits_at, number_at, open_at, contained_at}
+use Rattle.aper_fields.specs.Reading.{Input, fixed_bits_at, number_at, open_at, contained_at}
 use Rattle.s1ap_messages.specs.declared.tables.IeRow.{IeRow}
 use Rattle.s1ap_messages.specs.declared.tables.MessageKind.{MessageKind}
 use Rattle.s1ap_messages.specs.Messages.{rows_of}
-use Rattle.s1ap_ies.specs.Reading.{Reader, ◌>>=◌, done, skipping, passing_at, zero_bit_at, criticality_at, choice_at}
-use Rattle.s1ap_ies.specs.Asn1.{reading, contained_item_at}
-use Rattle.s1ap_messages.specs.Many.{looked_up_at}
-use Rattle.s1ap_ies.specs.Many.{inside_at}
+use Rattle.aper_fields.specs.SequenceReading.{Reader, ◌>>=◌, done, passing_at, zero_bit_at, criticality_at, choice_at}
+use Rattle.aper_fields.specs.Asn1.{reading}
+use Rattle.aper_fields.specs.Many.{inside_at, looked_up_at}
 use Rattle.s1ap_messages.specs.Values.{FieldValue, value_type}
 use Rattle.s1ap_messages.specs.Rows.{Slots}
 use Rattle.s1ap_messages.specs.Grammar.{kind_with, or_other}
-
--- ---- lists that are passed over
-
--- a list whose items are passed over
-unfoldable pub skipped_at : Reader (Unit {0}) → ℕ → Reader (Unit {0})
-skipped_at f zero = done tt
-skipped_at f (suc n) = f >>= λ _. skipped_at f n
-
-unfoldable pub erabs_skipped_at : {A : Type 0} → ℕ → Reader A → Reader (Unit {0})
-erabs_skipped_at id read = number_at 1 255 >>= λ count. skipped_at (contained_item_at id (skipping read)) count
-
--- the items of a list that was read
-abbrev pub listed : {A : Type 0} → Read (List A) → List A
-listed (Ok x) = x.0
-listed (Err e) = []
 
 -- ---- the header
 

@@ -7,8 +7,7 @@ use Rattle.aper_fields.specs.Spelling.{IsOctets}
 use Rattle.s1ap_messages.specs.declared.tables.IeRow.{IeRow}
 use Rattle.s1ap_messages.specs.declared.tables.MessageKind.{MessageKind}
 use Rattle.s1ap_messages.specs.Messages.{rows_of}
-use Rattle.s1ap_ies.specs.Run.{choice_run}
-use Rattle.s1ap_ies.specs.Asn1.{run, item_run, CanBeWritten, Fits}
+use Rattle.aper_fields.specs.Asn1.{index_run, run, item_run, CanBeWritten, Fits}
 use Rattle.s1ap_ies.specs.Names as names
 use Rattle.s1ap_messages.specs.declared.header.Header.{Header}
 use Rattle.s1ap_messages.specs.declared.pdu.Pdu.{Pdu}
@@ -54,7 +53,7 @@ ies_run kind values = fixed_bits_run 1 0 ▸ number_run 0 65535 (count_of values
 
 -- outcome, in an octet of its own, procedure code, and criticality
 unfoldable pub header_run : Header → Run
-header_run header = choice_run 2 (outcome_index header.outcome) ▸ fixed_bits_run 5 0 ▸ number_run 0 255 header.code ▸ fixed_bits_run 2 (names.criticality_number header.criticality)
+header_run header = index_run 2 (outcome_index header.outcome) ▸ fixed_bits_run 5 0 ▸ number_run 0 255 header.code ▸ fixed_bits_run 2 (names.criticality_number header.criticality)
 
 unfoldable pub pdu_run : MessageKind → List (Option FieldValue) → Run
 pdu_run kind values = header_run (header_of kind) ▸ open_run (ies_run kind values 0)

@@ -2,7 +2,7 @@
 use Rattle.std.specs.Prelude.{◌≡◌, ℕ, ◌==◌, true, refl, List, [], ◌∷◌, Option, Some, None, IfSome}
 use Rattle.s1ap_ies.specs.declared.erab_to_setup.ErabToSetup.{ErabToSetup}
 use Rattle.s1ap_ies.specs.declared.erab_done.ErabDone.{ErabDone}
-use Rattle.s1ap_ies.specs.Asn1.{AsnType, Variant, integer, enumerated, octet_string, fixed_octets, by_test, variant}
+use Rattle.aper_fields.specs.Asn1.{AsnType, Variant, integer, enumerated, octet_string, fixed_octets, by_test, variant}
 use Rattle.s1ap_ies.specs.Names as names
 use Rattle.s1ap_ies.specs.Values as types
 use Rattle.s1ap_messages.specs.declared.value.IeValue as declared

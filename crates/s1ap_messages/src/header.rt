@@ -9,9 +9,12 @@ ghost use Rattle.s1ap_messages.specs.Reading.{header_at};
 ghost use Rattle.s1ap_messages.specs.Run.{header_run};
 
 use crate::tables::MessageKind;
-use aper_fields::{BitReader, BitWriter, Ranged, read_bits_fixed, write_bits_fixed};
+use aper_fields::{
+    BitReader, BitWriter, Ranged, read_bits_fixed, read_choice, read_criticality, write_bits_fixed,
+    write_choice,
+};
 use echo_base::{OutOfMemory, Reason, Refusal};
-use s1ap_ies::{Criticality, names, read_choice, read_criticality, write_choice};
+use s1ap_ies::{Criticality, names};
 
 /// The alternatives of S1AP-PDU (TS 36.413, 9.3.2).
 #[derive(Clone, Copy, Debug)]

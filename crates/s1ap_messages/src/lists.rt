@@ -5,11 +5,10 @@ ghost use Rattle.std.specs.List.{AllByRecursion};
 ghost use Rattle.echo_base.specs.Reading.{Gives, GivesIn};
 ghost use Rattle.aper_fields.specs.Run.{then_written};
 ghost use Rattle.s1ap_ies.specs.Names.{criticality_number};
-ghost use Rattle.s1ap_ies.specs.Asn1.{AsnType, reading, run, contained_item_at, list_at, each_run, list_run, item_run, CanBeWritten, IsItem};
-ghost use Rattle.s1ap_ies.specs.Many.{many_at};
-ghost use Rattle.s1ap_ies.specs.Reading.{skipping};
+ghost use Rattle.aper_fields.specs.Asn1.{AsnType, reading, run, contained_item_at, list_at, list_skipped_at, each_run, list_run, item_run, CanBeWritten, IsItem};
+ghost use Rattle.aper_fields.specs.Many.{many_at};
+ghost use Rattle.aper_fields.specs.SequenceReading.{skipping, skipped_at};
 ghost use Rattle.s1ap_ies.specs.Values.{erabs_to_setup, erabs_done};
-ghost use Rattle.s1ap_messages.specs.Reading.{skipped_at, erabs_skipped_at};
 
 use aper_fields::{BitReader, BitWriter, Ranged, close, end_open};
 use device_types::ListOf;
@@ -75,7 +74,7 @@ impl Erab for ErabDone {
 }
 
 /// Reads an item of a list, with all of its open type.
-#[tactic(auto, unfolding(s1ap_ies::specs::Asn1::contained_item_at, aper_fields::specs::Reading::whole_at))]
+#[tactic(auto, unfolding(aper_fields::specs::Asn1::contained_item_at, aper_fields::specs::Reading::whole_at))]
 fn read_one<T: Erab>(alloc: Global, r: &mut BitReader, id: u16) -> Result<T, Bad>
     ensures { GivesIn result r.old r.new (contained_item_at id (reading T.asn1) r.old) }
 {
@@ -89,7 +88,7 @@ fn read_one<T: Erab>(alloc: Global, r: &mut BitReader, id: u16) -> Result<T, Bad
 }
 
 /// Reads so many items of a list.
-#[tactic(auto, unfolding(s1ap_ies::specs::Many::many_at))]
+#[tactic(auto, unfolding(aper_fields::specs::Many::many_at))]
 fn read_many<T: Erab>(
     alloc: Global,
     r: &mut BitReader,
@@ -111,7 +110,7 @@ fn read_many<T: Erab>(
 }
 
 /// Reads a list whose items have that id: how many items there are, 1 to 256, and the items.
-#[tactic(auto, unfolding(s1ap_ies::specs::Asn1::list_at))]
+#[tactic(auto, unfolding(aper_fields::specs::Asn1::list_at))]
 fn read_erabs<T: Erab>(alloc: Global, r: &mut BitReader, id: u16) -> Result<ListOf<T>, Bad>
     ensures { GivesIn result r.old r.new (list_at 1 256 (contained_item_at id (reading T.asn1)) r.old) }
 {
@@ -123,7 +122,7 @@ fn read_erabs<T: Erab>(alloc: Global, r: &mut BitReader, id: u16) -> Result<List
 }
 
 /// Passes over an item of a list, with all of its open type.
-#[tactic(auto, unfolding(s1ap_ies::specs::Asn1::contained_item_at, aper_fields::specs::Reading::whole_at))]
+#[tactic(auto, unfolding(aper_fields::specs::Asn1::contained_item_at, aper_fields::specs::Reading::whole_at))]
 fn skip_one<T: Erab>(r: &mut BitReader, id: u16) -> Result<(), Refusal>
     ensures { Gives result r.old r.new (contained_item_at id (skipping (reading T.asn1)) r.old) }
 {
@@ -137,7 +136,7 @@ fn skip_one<T: Erab>(r: &mut BitReader, id: u16) -> Result<(), Refusal>
 }
 
 /// Passes over so many items of a list.
-#[tactic(auto, unfolding(crate::specs::Reading::skipped_at))]
+#[tactic(auto, unfolding(aper_fields::specs::SequenceReading::skipped_at))]
 fn skip_many<T: Erab>(r: &mut BitReader, id: u16, count: u64) -> Result<(), Refusal>
     ensures { Gives result r.old r.new (skipped_at (contained_item_at id (skipping (reading T.asn1))) count r.old) }
 {
@@ -152,9 +151,9 @@ fn skip_many<T: Erab>(r: &mut BitReader, id: u16, count: u64) -> Result<(), Refu
 }
 
 /// Passes over a list whose items have that id.
-#[tactic(auto, unfolding(crate::specs::Reading::erabs_skipped_at))]
+#[tactic(auto, unfolding(aper_fields::specs::Asn1::list_skipped_at))]
 fn skip_erabs<T: Erab>(r: &mut BitReader, id: u16) -> Result<(), Refusal>
-    ensures { Gives result r.old r.new (erabs_skipped_at id (reading T.asn1) r.old) }
+    ensures { Gives result r.old r.new (list_skipped_at 1 256 (contained_item_at id (skipping (reading T.asn1))) r.old) }
 {
     let mut ahead = r.ahead();
     let count = Ranged::<1, MOST_ERABS>::read(&mut ahead)?;
@@ -173,8 +172,8 @@ pub struct FoundErabs<'a, T: Erab> {
 
 impl<'a, T: Erab> Model for FoundErabs<'a, T> {
     ghost use Rattle.std.specs.Prelude.{List, IsOk};
-    ghost use Rattle.s1ap_ies.specs.Asn1.{reading, contained_item_at, list_at};
-    ghost use Rattle.s1ap_messages.specs.Reading.{listed};
+    ghost use Rattle.aper_fields.specs.Asn1.{reading, contained_item_at, list_at};
+    ghost use Rattle.aper_fields.specs.Many.{listed};
 
     ghost Value = { List T };
 
@@ -210,7 +209,7 @@ fn find_erabs<'a, T: Erab>(r: &mut BitReader<'a>, id: u16) -> Result<FoundErabs<
 }
 
 /// Finds the E-RAB to Be Setup List of a request (TS 36.413, 9.1.4.1), each item of which has to be right.
-#[tactic(auto, unfolding(s1ap_ies::specs::Asn1::reading, s1ap_ies::specs::Values::erabs_to_setup))]
+#[tactic(auto, unfolding(aper_fields::specs::Asn1::reading, s1ap_ies::specs::Values::erabs_to_setup))]
 pub fn find_erabs_to_setup<'a>(
     r: &mut BitReader<'a>,
 ) -> Result<FoundErabs<'a, ErabToSetup>, Refusal>
@@ -220,7 +219,7 @@ pub fn find_erabs_to_setup<'a>(
 }
 
 /// Finds the E-RAB Setup List of a response (TS 36.413, 9.1.4.3), each item of which has to be right.
-#[tactic(auto, unfolding(s1ap_ies::specs::Asn1::reading, s1ap_ies::specs::Values::erabs_done))]
+#[tactic(auto, unfolding(aper_fields::specs::Asn1::reading, s1ap_ies::specs::Values::erabs_done))]
 pub fn find_erabs_done<'a>(r: &mut BitReader<'a>) -> Result<FoundErabs<'a, ErabDone>, Refusal>
     ensures { Gives result r.old r.new (reading erabs_done r.old) }
 {
@@ -243,7 +242,7 @@ fn write_one<T: Erab>(
 }
 
 /// Writes the items of a list.
-#[tactic(auto, unfolding(s1ap_ies::specs::Asn1::each_run))]
+#[tactic(auto, unfolding(aper_fields::specs::Asn1::each_run))]
 fn write_items<T: Erab>(
     w: &mut BitWriter,
     id: u16,
@@ -262,7 +261,7 @@ fn write_items<T: Erab>(
 }
 
 /// Writes a list whose items have that id and criticality: how many items there are, 1 to 256, and the items.
-#[tactic(auto, unfolding(s1ap_ies::specs::Asn1::list_run))]
+#[tactic(auto, unfolding(aper_fields::specs::Asn1::list_run))]
 fn write_erabs<T: Erab>(
     w: &mut BitWriter,
     id: u16,
@@ -279,7 +278,7 @@ fn write_erabs<T: Erab>(
 }
 
 /// Writes an E-RAB to Be Setup List.
-#[tactic(auto, unfolding(s1ap_ies::specs::Asn1::run, s1ap_ies::specs::Values::erabs_to_setup), using(s1ap_ies::proofs::Items::setup_items))]
+#[tactic(auto, unfolding(aper_fields::specs::Asn1::run, s1ap_ies::specs::Values::erabs_to_setup), using(s1ap_ies::proofs::Items::setup_items))]
 pub fn write_erabs_to_setup(w: &mut BitWriter, erabs: &[ErabToSetup]) -> Result<(), OutOfMemory>
     requires { CanBeWritten erabs_to_setup erabs.now }
     ensures { OnOk result (w.new ≡ then_written w.old (run erabs_to_setup erabs.now)) }
@@ -288,7 +287,7 @@ pub fn write_erabs_to_setup(w: &mut BitWriter, erabs: &[ErabToSetup]) -> Result<
 }
 
 /// Writes an E-RAB Setup List.
-#[tactic(auto, unfolding(s1ap_ies::specs::Asn1::run, s1ap_ies::specs::Values::erabs_done), using(s1ap_ies::proofs::Items::done_items))]
+#[tactic(auto, unfolding(aper_fields::specs::Asn1::run, s1ap_ies::specs::Values::erabs_done), using(s1ap_ies::proofs::Items::done_items))]
 pub fn write_erabs_done(w: &mut BitWriter, erabs: &[ErabDone]) -> Result<(), OutOfMemory>
     requires { CanBeWritten erabs_done erabs.now }
     ensures { OnOk result (w.new ≡ then_written w.old (run erabs_done erabs.now)) }

@@ -21,9 +21,8 @@ use crate::slots::Slots;
 use crate::tables::{IeRow, IeTable, MessageKind, ies_of};
 use crate::usual::read_usual;
 use crate::value::{FoundValue, find_value};
-use aper_fields::{BitReader, Ranged, close, read_open};
+use aper_fields::{BitReader, Ranged, close, read_criticality, read_open, read_zero_bit};
 use echo_base::{Bad, Reason, Refusal};
-use s1ap_ies::{read_criticality, read_zero_bit};
 use std::alloc::Global;
 
 /// The place of the row with that id.

@@ -3,7 +3,7 @@
 ghost use Rattle.std.specs.Prelude.{◌≡◌, IfOk};
 ghost use Rattle.echo_base.specs.Reading.{Gives};
 ghost use Rattle.aper_fields.specs.Reading.{octet_string_at, fixed_octets_at};
-ghost use Rattle.s1ap_ies.specs.Asn1.{reading};
+ghost use Rattle.aper_fields.specs.Asn1.{reading};
 ghost use Rattle.s1ap_messages.specs.Values.{value_type};
 
 use crate::lists::{FoundErabs, find_erabs_done, find_erabs_to_setup};
@@ -103,7 +103,7 @@ fn find_key<'a>(r: &mut BitReader<'a>) -> Result<FoundOctets<'a>, Refusal>
 }
 
 /// Finds the value of the IE with that id; the last is an RRC Establishment Cause.
-#[tactic(auto, unfolding(s1ap_ies::specs::Asn1::reading, crate::specs::Values::value_type))]
+#[tactic(auto, unfolding(aper_fields::specs::Asn1::reading, crate::specs::Values::value_type))]
 pub fn find_value<'a>(r: &mut BitReader<'a>, id: u16) -> Result<FoundValue<'a>, Refusal>
     ensures { Gives result r.old r.new (reading (value_type id) r.old) }
 {

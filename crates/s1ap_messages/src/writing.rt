@@ -26,7 +26,7 @@ use s1ap_ies::{PlainValue, begin_item};
 use std::alloc::Global;
 
 /// Writes the value of an IE.
-#[tactic(auto, unfolding(crate::specs::Run::value_run, s1ap_ies::specs::Asn1::run))]
+#[tactic(auto, unfolding(crate::specs::Run::value_run, aper_fields::specs::Asn1::run))]
 fn write_value(w: &mut BitWriter, value: &LentValue) -> Result<(), OutOfMemory>
     requires { IsRightValue (seen value.now) }
     ensures { OnOk result (w.new ≡ then_written w.old (value_run (seen value.now))) }

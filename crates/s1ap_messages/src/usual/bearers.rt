@@ -2,7 +2,7 @@
 
 ghost use Rattle.std.specs.Prelude.{◌≡◌, ◌<◌, ◌∷◌, [], IfSome, is_some};
 ghost use Rattle.s1ap_ies.specs.Run.{IsErabDone, IsErabToSetup, IsNas};
-ghost use Rattle.s1ap_ies.specs.Asn1.{CanBeWritten};
+ghost use Rattle.aper_fields.specs.Asn1.{CanBeWritten};
 ghost use Rattle.s1ap_ies.specs.Names as named;
 ghost use Rattle.s1ap_ies.specs.Values as types;
 ghost use Rattle.s1ap_messages.specs.Usual.{nas_octets, done_octets, setup_octets, erabs_octets, ie_octets};

@@ -1,7 +1,7 @@
 use Rattle.aper_fields.proofs.Formats.{gives_exactly}
-use Rattle.s1ap_ies.specs.Reading.{item_at}
-use Rattle.s1ap_ies.specs.Grammar.{item_in}
-use Rattle.s1ap_ies.proofs.Exact.{item_exactly}
+use Rattle.aper_fields.specs.SequenceReading.{item_at}
+use Rattle.aper_fields.specs.Sequence.{item_in}
+use Rattle.aper_fields.proofs.SequenceExact.{item_exactly}
 use Rattle.s1ap_ies.proofs.item.read_item.Goals as goal
 
 pub returns-clause-exact : goal.returns-clause-exact

@@ -1,5 +1,5 @@
-use Rattle.s1ap_ies.specs.Asn1.{reading, contained_item_at}
-use Rattle.s1ap_ies.proofs.Manys.{many_next}
+use Rattle.aper_fields.specs.Asn1.{reading, contained_item_at}
+use Rattle.aper_fields.proofs.Manys.{many_next}
 use Rattle.s1ap_messages.proofs.lists.read_many.Goals as goal
 
 pub loop-left-preserved : goal.loop-left-preserved

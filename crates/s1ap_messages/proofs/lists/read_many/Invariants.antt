@@ -1,6 +1,6 @@
 use Rattle.std.proofs.Common.{◌≡◌, []}
-use Rattle.s1ap_ies.specs.Many.{many_at}
-use Rattle.s1ap_ies.specs.Asn1.{reading, contained_item_at}
+use Rattle.aper_fields.specs.Many.{many_at}
+use Rattle.aper_fields.specs.Asn1.{reading, contained_item_at}
 use Rattle.s1ap_messages.proofs.lists.read_many.Given as goal
 
 -- the items that are left, behind those that were read

@@ -1,7 +1,6 @@
 use Rattle.std.proofs.Common.{◌≡◌}
-use Rattle.s1ap_ies.specs.Reading.{skipping}
-use Rattle.s1ap_ies.specs.Asn1.{reading, contained_item_at}
-use Rattle.s1ap_messages.specs.Reading.{skipped_at}
+use Rattle.aper_fields.specs.SequenceReading.{skipping, skipped_at}
+use Rattle.aper_fields.specs.Asn1.{reading, contained_item_at}
 use Rattle.s1ap_messages.proofs.lists.skip_many.Given as goal
 
 -- the items that are left, behind those that were passed over

@@ -2,7 +2,7 @@ use Rattle.std.proofs.Common.{◌≡◌, length}
 use Rattle.std.specs.List.{AllByRecursion}
 use Rattle.aper_fields.specs.Run.{then_written}
 use Rattle.s1ap_ies.specs.Names.{criticality_number}
-use Rattle.s1ap_ies.specs.Asn1.{run, each_run, item_run, IsItem}
+use Rattle.aper_fields.specs.Asn1.{run, each_run, item_run, IsItem}
 use Rattle.s1ap_messages.proofs.lists.write_items.Given as goal
 
 -- the items that are left, behind those that were written

@@ -1,8 +1,8 @@
 use Rattle.std.proofs.lemmas.Result.{on_ok_weaker}
 use Rattle.s1ap_ies.specs.Names.{criticality_number}
-use Rattle.s1ap_ies.specs.Asn1.{run}
-use Rattle.s1ap_ies.proofs.Types.{periodic}
-use Rattle.s1ap_messages.proofs.InPlace.{content_short, item_in_place}
+use Rattle.aper_fields.specs.Asn1.{run}
+use Rattle.aper_fields.proofs.Types.{periodic}
+use Rattle.aper_fields.proofs.InPlace.{content_short, item_in_place}
 use Rattle.s1ap_messages.proofs.lists.write_one.Goals as goal
 
 pub end_open-requires-clause-few : goal.end_open-requires-clause-few

@@ -3,7 +3,7 @@ use Rattle.s1ap_ies.specs.Names.{criticality_number}
 use Rattle.s1ap_messages.specs.Lent.{seen}
 use Rattle.s1ap_messages.specs.Run.{ie_run, value_run, IsRightField}
 use Rattle.s1ap_messages.proofs.Ies.{value_periodic}
-use Rattle.s1ap_messages.proofs.InPlace.{content_short, item_in_place}
+use Rattle.aper_fields.proofs.InPlace.{content_short, item_in_place}
 use Rattle.s1ap_messages.proofs.writing.write_ie.Goals as goal
 
 pub end_open-requires-clause-few : goal.end_open-requires-clause-few

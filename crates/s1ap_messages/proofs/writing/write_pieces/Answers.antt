@@ -2,7 +2,8 @@ use Rattle.std.proofs.Common.{◌∙◌}
 use Rattle.s1ap_messages.specs.Messages.{kind_of, values_of}
 use Rattle.s1ap_messages.specs.Run.{ies_run}
 use Rattle.s1ap_messages.proofs.Whole.{ies_periodic}
-use Rattle.s1ap_messages.proofs.InPlace.{content_short, message_in_place}
+use Rattle.aper_fields.proofs.InPlace.{content_short}
+use Rattle.s1ap_messages.proofs.InPlace.{message_in_place}
 use Rattle.s1ap_messages.proofs.writing.write_pieces.Goals as goal
 
 pub end_open-requires-clause-few : goal.end_open-requires-clause-few

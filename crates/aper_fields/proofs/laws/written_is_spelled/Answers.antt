@@ -1,0 +1,5 @@
+use Rattle.aper_fields.proofs.Spelled.{spelled}
+use Rattle.aper_fields.proofs.laws.written_is_spelled.Goals as goal
+
+pub returns : goal.returns
+returns g c = λ sound v fits. record { everywhere = λ at. spelled g.T.OwnedValue.asn1 sound v fits at }

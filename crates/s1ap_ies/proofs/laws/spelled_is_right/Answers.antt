@@ -1,5 +1,0 @@
-use Rattle.s1ap_ies.proofs.Least.{least}
-use Rattle.s1ap_ies.proofs.laws.spelled_is_right.Goals as goal
-
-pub returns : goal.returns
-returns g c = λ sound v at bits s. (least g.T.OwnedValue.asn1 sound v at bits s).0

@@ -1,8 +1,0 @@
-use Rattle.aper_fields.proofs.Formats.{gives_exactly}
-use Rattle.s1ap_ies.specs.Reading.{choice_at}
-use Rattle.s1ap_ies.specs.Grammar.{choice_in}
-use Rattle.s1ap_ies.proofs.Exact.{choice_exactly}
-use Rattle.s1ap_ies.proofs.pieces.read_choice.Goals as goal
-
-pub returns-clause-exact : goal.returns-clause-exact
-returns-clause-exact c = gives_exactly (choice_in c.args.roots c.args.count) (choice_at c.args.roots c.args.count) c.choice.result c.args.r.now c.choice.new.r (choice_exactly c.args.roots c.args.count) c.choice.ensures.read

@@ -1,8 +1,0 @@
-use Rattle.aper_fields.proofs.Formats.{gives_exactly}
-use Rattle.s1ap_ies.specs.Reading.{zero_bit_at}
-use Rattle.s1ap_ies.specs.Grammar.{zero_bit_in}
-use Rattle.s1ap_ies.proofs.Exact.{zero_bit_exactly}
-use Rattle.s1ap_ies.proofs.pieces.read_zero_bit.Goals as goal
-
-pub returns-clause-exact : goal.returns-clause-exact
-returns-clause-exact c = gives_exactly (zero_bit_in c.args.reason) (zero_bit_at c.args.reason) c.zero_bit.result c.args.r.now c.zero_bit.new.r (zero_bit_exactly c.args.reason) c.zero_bit.ensures

@@ -1,7 +1,0 @@
-use Rattle.s1ap_ies.specs.Asn1.{format, reading}
-use Rattle.s1ap_ies.proofs.Exact.{reads_in}
-use Rattle.s1ap_ies.proofs.Types.{exactly}
-use Rattle.s1ap_ies.proofs.value.OwnedValue.read.Goals as goal
-
-pub returns-clause-exact : goal.returns-clause-exact
-returns-clause-exact g c = reads_in (format g.Self.OwnedValue.asn1) (reading g.Self.OwnedValue.asn1) c.read_pieces.result c.args.r.now c.read_pieces.new.r (exactly g.Self.OwnedValue.asn1) c.read_pieces.ensures
