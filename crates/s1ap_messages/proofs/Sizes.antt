@@ -1,5 +1,5 @@
 -- What is written for the IEs of a message takes no more bits than the IEs that were read.
-use Rattle.std.proofs.Common.{◌≡◌, ℕ, ◌+◌, ◌-◌, ◌/◌, ◌%◌, ◌≤◌, Bool, false, eqb, List, [], ◌∷◌, ◌++◌, length, map, Option, Some, None, refl, ap, inl, inr, arith}
+use Rattle.std.proofs.Common.{◌≡◌, ℕ, ◌+◌, ◌%◌, ◌≤◌, false, eqb, List, [], ◌∷◌, length, map, Option, Some, None, refl, ap, inl, inr, arith}
 use Rattle.std.specs.List.{AllByRecursion, IsDistinct, sum_by}
 use Rattle.std.proofs.lemmas.Bool.{cases_Bool, eqb-true}
 use Rattle.std.proofs.lemmas.List.{length-append}

@@ -1,5 +1,5 @@
 -- What is written piece by piece is the run of the message.
-use Rattle.std.proofs.Common.{◌≡◌, ℕ, ◌*◌, ◌-◌, ◌^◌, ◌<◌, Bool, eqb, List, ◌++◌, length, take, replicate, Option, None, Result, OnOk, refl, sym, ap, ◌∙◌, subst, inl, inr, arith}
+use Rattle.std.proofs.Common.{◌≡◌, ℕ, ◌-◌, Bool, List, ◌++◌, length, take, replicate, Option, None, Result, OnOk, refl, sym, ap, ◌∙◌, subst}
 use Rattle.std.proofs.lemmas.List.{take_at, take-map}
 use Rattle.aper_fields.specs.Run.{then_written}
 use Rattle.s1ap_messages.specs.declared.tables.MessageKind.{MessageKind}
