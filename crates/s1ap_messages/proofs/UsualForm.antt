@@ -1,5 +1,5 @@
 -- What is written for a message, octet by octet.
-use Rattle.std.proofs.Common.{◌≡◌, ℕ, zero, suc, ◌+◌, ◌-◌, ◌*◌, ◌<◌, ◌≤◌, Bool, true, ltb, eqb, List, [], ◌∷◌, ◌++◌, length, get_or, take, drop, Option, Some, None, IfSome, is_some, Ok, refl, sym, ap, ◌∙◌, subst, inl, inr, append_assoc, arith}
+use Rattle.std.proofs.Common.{◌≡◌, ℕ, zero, suc, ◌+◌, ◌-◌, ◌*◌, ◌<◌, ◌≤◌, Bool, true, ltb, eqb, ◌&&◌, List, [], ◌∷◌, ◌++◌, length, get_or, take, drop, Option, Some, None, IfSome, is_some, Ok, refl, sym, ap, ◌∙◌, subst, inl, inr, append_assoc, arith}
 use Rattle.std.specs.List.{All, AllByRecursion, list_all}
 use Rattle.std.proofs.lemmas.Bool.{cases_Bool, ltb-true, eqb-true, and_parts}
 use Rattle.std.proofs.lemmas.List.{length-append}
@@ -18,8 +18,8 @@ use Rattle.s1ap_ies.proofs.Items.{dones_fit, dones_right, setups_fit, setups_rig
 use Rattle.s1ap_ies.specs.Names.{criticality_number}
 use Rattle.s1ap_messages.specs.declared.value.IeValue.TheVariants as value
 use Rattle.s1ap_messages.specs.declared.pdu.Pdu.{Pdu}
-use Rattle.s1ap_messages.specs.Messages.{outcome_index, header_of, kind_of, values_of}
-use Rattle.s1ap_messages.specs.Grammar.{Spells}
+use Rattle.s1ap_messages.specs.Messages.{outcome_index, header_of, kinds, kind_of, values_of}
+use Rattle.s1ap_messages.specs.Grammar.{Spells, kind_among, kind_with}
 use Rattle.s1ap_messages.specs.Built.{message_at}
 use Rattle.s1ap_messages.specs.Run.{value_run, ie_run, fields_run, ies_run, header_run, pdu_run, written, count_of, IsShort, IsRightValue, IsRightField, IsRight, HasOctetsIn, HasOctets}
 use Rattle.s1ap_messages.specs.Usual.{counted, ie_octets, value_octets, fields_octets, body_octets, message_octets, usual_octets, unfinished_octets, HasRightValues, IsUsual, AreFieldsOf, BeginsAs}
@@ -190,6 +190,25 @@ fields_in_range (None ∷ values) right = (tt, fields_in_range values right.1)
 fields_in_range (Some v ∷ values) right = (right.0.0, fields_in_range values right.1)
 
 -- ---- messages as they are read
+
+-- a kind that is found by its outcome and its procedure code begins with these
+among_begins : (kinds : List MessageKind) (kind : MessageKind) (outcome code : ℕ) → kind_among kinds outcome code ≡ Some kind → (outcome_index (header_of kind).outcome ≡ outcome) × ((header_of kind).code ≡ code)
+unfolding kind_among
+among_begins [] kind outcome code e = absurd cc
+among_begins (k ∷ kinds) kind outcome code e =
+    let same = eqb (outcome_index (header_of k).outcome) outcome in
+    elim (cases_Bool (same && eqb (header_of k).code code)) [
+      | inl found ↦
+          let is : k ≡ kind = let h : Some k ≡ Some kind = rw found at e in cc in
+          let parts = and_parts same (eqb (header_of k).code code) found in
+          rw (← is) (eqb-true _ _ parts.0, eqb-true _ _ parts.1)
+      | inr other ↦ among_begins kinds kind outcome code (rw other at e)
+    ]
+
+pub kind_begins : (kind : MessageKind) (index outcome code criticality : ℕ) → kind_with index code ≡ Some kind → outcome ≡ 32 * index → criticality ≡ 64 * criticality_number (header_of kind).criticality → BeginsAs kind outcome code criticality
+kind_begins kind index outcome code criticality e o c =
+    let h = among_begins kinds kind index code e in
+    (o ∙ ap (λ (n : ℕ). 32 * n) (sym h.0), sym h.1, c)
 
 usual_from : (p : Pdu) (kind : MessageKind) (octets rest : List ℕ) (count : ℕ) → kind_of p ≡ kind → rest ≡ fields_octets (rows_of kind) (values_of p) → count ≡ count_of (values_of p) → HasRightValues p → octets ≡ message_octets (header_of kind) (0 ∷ 0 ∷ count ∷ rest) → length (0 ∷ 0 ∷ count ∷ rest) < 16384 → (octets ≡ usual_octets p) × IsUsual p
 unfolding usual_octets

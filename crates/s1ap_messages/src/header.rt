@@ -1,6 +1,6 @@
 //! How a message begins.
 
-ghost use Rattle.std.specs.Prelude.{◌≡◌, ◌≤◌, ◌<◌, OnOk};
+ghost use Rattle.std.specs.Prelude.{◌≡◌, ◌*◌, ◌≤◌, ◌<◌, IfSome, OnOk};
 ghost use Rattle.echo_base.specs.Reading.{Gives};
 ghost use Rattle.aper_fields.specs.Run.{then_written};
 ghost use Rattle.s1ap_messages.specs.Messages.{outcome_index, header_of};
@@ -47,6 +47,25 @@ impl Outcome {
             1 => Outcome::Successful,
             _ => Outcome::Unsuccessful,
         }
+    }
+
+    /// The octet that a message begins with: the index behind a bit 0, and five bits more.
+    #[inline(always)]
+    pub fn octet(self) -> u8
+        ensures { result ≡ 32 * outcome_index self }
+    {
+        32 * self.index()
+    }
+
+    /// The alternative with that octet.
+    #[inline(always)]
+    pub fn with_octet(octet: u8) -> Option<Outcome>
+        ensures { IfSome result (λ outcome. octet ≡ 32 * outcome_index outcome) }
+    {
+        if octet % 32 != 0 || octet >= 96 {
+            return None;
+        }
+        Some(Outcome::with_index(u64::from(octet / 32)))
     }
 }
 
@@ -96,7 +115,7 @@ pub fn header_of(kind: MessageKind) -> Header
 /// The kind of message that begins with that outcome and procedure code.
 #[tactic(auto, unfolding(crate::specs::Grammar::kind_among))]
 #[rattlefmt::skip]
-fn kind_with(outcome: Outcome, code: u8) -> Option<MessageKind>
+pub fn kind_with(outcome: Outcome, code: u8) -> Option<MessageKind>
     ensures { result ≡ kind_with (outcome_index outcome) code }
 {
     use Outcome::{Initiating, Successful, Unsuccessful};

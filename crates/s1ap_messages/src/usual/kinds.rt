@@ -5,6 +5,7 @@ ghost use Rattle.s1ap_messages.specs.Messages.{rows_of};
 ghost use Rattle.s1ap_messages.specs.declared.tables.MessageKind.TheVariants as kind;
 ghost use Rattle.s1ap_messages.specs.Usual.{AreFieldsOf, BeginsAs};
 
+use crate::header::{Outcome, header_of, kind_with};
 use crate::pdu::Pdu;
 use crate::tables::MessageKind;
 use crate::usual::bearers::{erabs_done, erabs_to_setup};
@@ -14,21 +15,6 @@ use crate::usual::values::{
 };
 use s1ap_ies::{Criticality, names};
 use std::alloc::Global;
-
-/// The first octet of an initiating message (3GPP TS 36.413, 9.3.2).
-const INITIATING: u8 = 0;
-
-/// The first octet of a successful outcome.
-const SUCCESSFUL: u8 = 32;
-
-/// The first octet of an unsuccessful outcome.
-const UNSUCCESSFUL: u8 = 64;
-
-/// The third octet of a message with the criticality reject (9.3.3).
-const REJECT: u8 = 0;
-
-/// The third octet of a message with the criticality ignore.
-const IGNORE: u8 = 64;
 
 /// The IEs of an INITIAL UE MESSAGE.
 fn initial_ue_message(alloc: Global, octets: &[u8], count: u8) -> Option<Pdu>
@@ -234,21 +220,13 @@ pub fn fields(alloc: Global, kind: MessageKind, octets: &[u8], count: u8) -> Opt
 }
 
 /// The kind of message whose header has these octets, as it is written.
-#[rattlefmt::skip]
+#[tactic(auto, using(crate::proofs::UsualForm::kind_begins))]
 pub fn kind_of_header(outcome: u8, code: u8, criticality: u8) -> Option<MessageKind>
     ensures { IfSome result (λ kind. BeginsAs kind outcome code criticality) }
 {
-    match (outcome, code, criticality) {
-        (INITIATING, names::INITIAL_CONTEXT_SETUP, REJECT) => Some(MessageKind::InitialContextSetupRequest),
-        (INITIATING, names::DOWNLINK_NAS_TRANSPORT, IGNORE) => Some(MessageKind::DownlinkNasTransport),
-        (INITIATING, names::INITIAL_UE_MESSAGE, IGNORE) => Some(MessageKind::InitialUeMessage),
-        (INITIATING, names::UPLINK_NAS_TRANSPORT, IGNORE) => Some(MessageKind::UplinkNasTransport),
-        (INITIATING, names::UE_CONTEXT_RELEASE_REQUEST, IGNORE) => Some(MessageKind::UeContextReleaseRequest),
-        (INITIATING, names::UE_CAPABILITY_INFO_INDICATION, IGNORE) => Some(MessageKind::UeCapabilityInfoIndication),
-        (INITIATING, names::UE_CONTEXT_RELEASE, REJECT) => Some(MessageKind::UeContextReleaseCommand),
-        (SUCCESSFUL, names::INITIAL_CONTEXT_SETUP, REJECT) => Some(MessageKind::InitialContextSetupResponse),
-        (SUCCESSFUL, names::UE_CONTEXT_RELEASE, REJECT) => Some(MessageKind::UeContextReleaseComplete),
-        (UNSUCCESSFUL, names::INITIAL_CONTEXT_SETUP, REJECT) => Some(MessageKind::InitialContextSetupFailure),
-        _ => None,
+    let kind = kind_with(Outcome::with_octet(outcome)?, code)?;
+    if criticality != 64 * header_of(kind).criticality.number() {
+        return None;
     }
+    Some(kind)
 }

@@ -22,7 +22,7 @@ pub fn begin(
     ensures { IfOk result (λ out. out.items ≡ 32 * outcome_index (header_of kind).outcome ∷ (header_of kind).code ∷ 64 * named.criticality_number (header_of kind).criticality ∷ 0 ∷ 0 ∷ 0 ∷ count ∷ []) }
 {
     let header = header_of(kind);
-    let outcome = 32 * header.outcome.index();
+    let outcome = header.outcome.octet();
     let criticality = 64 * header.criticality.number();
     let mut out = Vec::with_capacity(alloc, room)?;
     out.extend_from_slice(&[outcome, header.code, criticality, 0, 0, 0, count])?;
