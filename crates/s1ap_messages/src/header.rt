@@ -62,10 +62,11 @@ impl Outcome {
     pub fn with_octet(octet: u8) -> Option<Outcome>
         ensures { IfSome result (λ outcome. octet ≡ 32 * outcome_index outcome) }
     {
-        if octet % 32 != 0 || octet >= 96 {
+        let index = octet / 32;
+        if octet % 32 != 0 || index >= 3 {
             return None;
         }
-        Some(Outcome::with_index(u64::from(octet / 32)))
+        Some(Outcome::with_index(u64::from(index)))
     }
 }
 
