@@ -141,6 +141,10 @@ setup_behind v h =
     let a = octets_behind (four_octets v.address) (four_octets v.teid ++ nas_octets v.nas) h.1.1.1.1.1.1 in
     nas_behind v.nas (octets_behind (four_octets v.teid) (nas_octets v.nas) a.1).1
 
+pub id_behind : (id criticality : ℕ) (content rest : List ℕ) → IsOctets (ie_octets id criticality content ++ rest) → id < 256
+unfolding ie_octets
+id_behind id criticality content rest h = h.1.0
+
 pub item_behind : (id criticality : ℕ) (content rest : List ℕ) → IsOctets (ie_octets id criticality content ++ rest) → IsOctets content × IsOctets rest
 unfolding ie_octets
 item_behind id criticality content rest h =

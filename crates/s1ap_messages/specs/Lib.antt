@@ -3,7 +3,6 @@ pub mod Grammar
 pub mod Lent
 pub mod Memory
 pub mod Messages
-pub mod Names
 pub mod Reading
 pub mod Rows
 pub mod Run

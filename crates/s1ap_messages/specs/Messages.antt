@@ -1,5 +1,5 @@
 -- The messages (TS 36.413, 9.1): how each begins, who sends it, and its IEs in order.
-use Rattle.std.specs.Prelude.{ℕ, Bool, true, false, List, [], ◌∷◌, Option, Some, None, Result, Ok, Err}
+use Rattle.std.specs.Prelude.{ℕ, codes, Bool, true, false, List, [], ◌∷◌, Option, Some, None, Result, Ok, Err}
 use Rattle.s1ap_ies.specs.Names as names
 use Rattle.s1ap_ies.specs.declared.criticality.Criticality.{Criticality}
 use Rattle.s1ap_ies.specs.declared.criticality.Criticality.TheVariants.{Reject, Ignore}
@@ -25,6 +25,8 @@ outcome_index Unsuccessful = 2
 pub record Message : Type 1 where
   -- the values of its fields
   pub Fields : Type 0
+  -- its name, as the standard spells it (9.3.3)
+  pub name : List ℕ
   -- which alternative of S1AP-PDU it is
   pub outcome : Outcome
   -- its procedure code (9.3.6)
@@ -44,6 +46,7 @@ pub record Message : Type 1 where
 abbrev pub initial_ue_message : Message
 initial_ue_message = record {
   Fields = _;
+  name = codes "InitialUEMessage";
   outcome = Initiating;
   code = names.initial_ue_message;
   criticality = Ignore;
@@ -64,6 +67,7 @@ initial_ue_message = record {
 abbrev pub uplink_nas_transport : Message
 uplink_nas_transport = record {
   Fields = _;
+  name = codes "UplinkNASTransport";
   outcome = Initiating;
   code = names.uplink_nas_transport;
   criticality = Ignore;
@@ -83,6 +87,7 @@ uplink_nas_transport = record {
 abbrev pub downlink_nas_transport : Message
 downlink_nas_transport = record {
   Fields = _;
+  name = codes "DownlinkNASTransport";
   outcome = Initiating;
   code = names.downlink_nas_transport;
   criticality = Ignore;
@@ -100,6 +105,7 @@ downlink_nas_transport = record {
 abbrev pub initial_context_setup_request : Message
 initial_context_setup_request = record {
   Fields = _;
+  name = codes "InitialContextSetupRequest";
   outcome = Initiating;
   code = names.initial_context_setup;
   criticality = Reject;
@@ -120,6 +126,7 @@ initial_context_setup_request = record {
 abbrev pub initial_context_setup_response : Message
 initial_context_setup_response = record {
   Fields = _;
+  name = codes "InitialContextSetupResponse";
   outcome = Successful;
   code = names.initial_context_setup;
   criticality = Reject;
@@ -137,6 +144,7 @@ initial_context_setup_response = record {
 abbrev pub initial_context_setup_failure : Message
 initial_context_setup_failure = record {
   Fields = _;
+  name = codes "InitialContextSetupFailure";
   outcome = Unsuccessful;
   code = names.initial_context_setup;
   criticality = Reject;
@@ -154,6 +162,7 @@ initial_context_setup_failure = record {
 abbrev pub ue_context_release_request : Message
 ue_context_release_request = record {
   Fields = _;
+  name = codes "UEContextReleaseRequest";
   outcome = Initiating;
   code = names.ue_context_release_request;
   criticality = Ignore;
@@ -171,6 +180,7 @@ ue_context_release_request = record {
 abbrev pub ue_context_release_command : Message
 ue_context_release_command = record {
   Fields = _;
+  name = codes "UEContextReleaseCommand";
   outcome = Initiating;
   code = names.ue_context_release;
   criticality = Reject;
@@ -187,6 +197,7 @@ ue_context_release_command = record {
 abbrev pub ue_context_release_complete : Message
 ue_context_release_complete = record {
   Fields = _;
+  name = codes "UEContextReleaseComplete";
   outcome = Successful;
   code = names.ue_context_release;
   criticality = Reject;
@@ -203,6 +214,7 @@ ue_context_release_complete = record {
 abbrev pub ue_capability_info_indication : Message
 ue_capability_info_indication = record {
   Fields = _;
+  name = codes "UECapabilityInfoIndication";
   outcome = Initiating;
   code = names.ue_capability_info_indication;
   criticality = Ignore;
@@ -250,6 +262,9 @@ kind_of (pdus.UeCapabilityInfoIndication mme enb radio) = kind.UeCapabilityInfoI
 
 abbrev pub header_of : MessageKind → Header
 header_of kind = by_kind (λ m. record { outcome = m.outcome; code = m.code; criticality = m.criticality }) kind
+
+abbrev pub name_of : MessageKind → List ℕ
+name_of kind = by_kind (λ m. m.name) kind
 
 -- the messages that an MME sends, and does not receive
 abbrev pub is_downlink : MessageKind → Bool

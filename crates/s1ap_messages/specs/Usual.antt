@@ -1,5 +1,5 @@
 -- The octets of a message as it is written, octet by octet.
-use Rattle.std.specs.Prelude.{◌≡◌, ℕ, ◌+◌, ◌-◌, ◌*◌, ◌/◌, ◌%◌, ◌<◌, ◌==◌, nat_lt, List, [], ◌∷◌, ◌++◌, length, Option, Some, None, is_some, IfSome, if◌then◌else◌}
+use Rattle.std.specs.Prelude.{◌≡◌, ℕ, ◌+◌, ◌-◌, ◌*◌, ◌/◌, ◌%◌, ◌<◌, ◌==◌, nat_lt, List, [], ◌∷◌, ◌++◌, length, Option, Some, None, is_some, IfSome, unwrap_or, if◌then◌else◌}
 use Rattle.std.specs.List.{AllByRecursion}
 use Rattle.aper_fields.specs.declared.enumerated.EnumValue.{EnumValue}
 use Rattle.s1ap_ies.specs.declared.tai.Tai.{Tai}
@@ -107,22 +107,41 @@ items_octets id criticality octets (x ∷ xs) = ie_octets id criticality (octets
 unfoldable pub erabs_octets : {A : Type 0} → ℕ → ℕ → (A → List ℕ) → List A → List ℕ
 erabs_octets id criticality octets xs = (length xs - 1) ∷ items_octets id criticality octets xs
 
+-- The octets of a field. One that is absent has none, nor has a value that is always written piece by piece.
+abbrev pub octets_of : Option FieldValue → Option (List ℕ)
+octets_of (Some (value.Mme mme)) = Some (number_octets 0 64 mme)
+octets_of (Some (value.Cause cause)) = Some (cause_octets cause)
+octets_of (Some (value.Enb enb)) = Some (number_octets 0 64 enb)
+octets_of (Some (value.Bearers bearers)) = Some (erabs_octets names.erab_to_setup_item names.reject setup_octets bearers)
+octets_of (Some (value.Nas nas)) = Some (counted nas)
+octets_of (Some (value.Done done)) = Some (erabs_octets names.erab_setup_item names.ignore done_octets done)
+octets_of (Some (value.Rates rates)) = Some (rates_octets rates)
+octets_of (Some (value.Tai tai)) = Some (tai_octets tai)
+octets_of (Some (value.Key key)) = Some key
+octets_of (Some (value.Radio radio)) = Some (counted radio)
+octets_of (Some (value.Stmsi stmsi)) = Some (stmsi_octets stmsi)
+octets_of (Some (value.Ids ids)) = Some (ids_octets ids)
+octets_of (Some (value.Cgi cgi)) = Some (cgi_octets cgi)
+octets_of (Some (value.Caps caps)) = Some (caps_octets caps)
+octets_of (Some (value.Rrc rrc)) = Some (rrc_octets rrc)
+octets_of _ = None
+
+-- what the IE of a value contains
 abbrev pub value_octets : FieldValue → List ℕ
-value_octets (value.Mme mme) = number_octets 0 64 mme
-value_octets (value.Cause cause) = cause_octets cause
-value_octets (value.Enb enb) = number_octets 0 64 enb
-value_octets (value.Bearers bearers) = erabs_octets names.erab_to_setup_item names.reject setup_octets bearers
-value_octets (value.Nas nas) = counted nas
-value_octets (value.Done done) = erabs_octets names.erab_setup_item names.ignore done_octets done
-value_octets (value.Rates rates) = rates_octets rates
-value_octets (value.Tai tai) = tai_octets tai
-value_octets (value.Key key) = key
-value_octets (value.Radio radio) = counted radio
-value_octets (value.Stmsi stmsi) = stmsi_octets stmsi
-value_octets (value.Ids ids) = ids_octets ids
-value_octets (value.Cgi cgi) = cgi_octets cgi
-value_octets (value.Caps caps) = caps_octets caps
-value_octets (value.Rrc rrc) = rrc_octets rrc
+value_octets v = unwrap_or (octets_of (Some v)) []
+
+-- P, where there are octets
+abbrev pub Given : Option (List ℕ) → Type 0 → Type 0
+Given None P = ⊥
+Given (Some octets) P = P
+
+-- a value that has octets
+abbrev pub HasForm : FieldValue → Type 0
+HasForm v = Given (octets_of (Some v)) (Unit {0})
+
+-- such a value in its range
+abbrev pub IsUsualValue : FieldValue → Type 0
+IsUsualValue v = Given (octets_of (Some v)) (IsRightValue v)
 
 -- the IEs of a table, with their values
 abbrev pub fields_octets : List IeRow → List (Option FieldValue) → List ℕ
@@ -143,21 +162,33 @@ message_octets header body = 32 * outcome_index header.outcome ∷ header.code �
 unfoldable pub usual_octets : Pdu → List ℕ
 usual_octets p = message_octets (header_of (kind_of p)) (body_octets p)
 
--- the same with an octet of zeros in place of the length of the body
+-- what stands before the IEs of a message, with an octet of zeros in place of the length of its body
+abbrev pub beginning : MessageKind → ℕ → List ℕ
+beginning kind count = 32 * outcome_index (header_of kind).outcome ∷ (header_of kind).code ∷ 64 * names.criticality_number (header_of kind).criticality ∷ 0 ∷ 0 ∷ 0 ∷ count ∷ []
+
+-- a message with an octet of zeros in place of the length of its body
 unfoldable pub unfinished_octets : Pdu → List ℕ
-unfinished_octets p = 32 * outcome_index (header_of (kind_of p)).outcome ∷ (header_of (kind_of p)).code ∷ 64 * names.criticality_number (header_of (kind_of p)).criticality ∷ 0 ∷ body_octets p
+unfinished_octets p = beginning (kind_of p) (count_of (values_of p)) ++ fields_octets (rows_of (kind_of p)) (values_of p)
 
--- its fields are in their ranges
-abbrev pub HasRightValues : Pdu → Type 0
-HasRightValues p = AllByRecursion (λ v. IfSome v IsRightValue) (values_of p)
+-- its fields have octets
+abbrev pub HasForms : Pdu → Type 0
+HasForms p = AllByRecursion (λ v. IfSome v HasForm) (values_of p)
 
--- A message whose fields are in their ranges, and whose body has a length.
+-- and are in their ranges
+abbrev pub HasUsualValues : Pdu → Type 0
+HasUsualValues p = AllByRecursion (λ v. IfSome v IsUsualValue) (values_of p)
+
+-- A message whose fields have octets and are in their ranges, and whose body has a length.
 abbrev pub IsUsual : Pdu → Type 0
-IsUsual p = HasRightValues p × (length (body_octets p) < 16384)
+IsUsual p = HasUsualValues p × (length (body_octets p) < 16384)
 
 -- what the IEs of a kind of message are, and how many
 abbrev pub AreFieldsOf : MessageKind → List ℕ → ℕ → Pdu → Type 0
-AreFieldsOf kind octets count p = (kind_of p ≡ kind) × (octets ≡ fields_octets (rows_of kind) (values_of p)) × (count ≡ count_of (values_of p)) × HasRightValues p
+AreFieldsOf kind octets count p = (kind_of p ≡ kind) × (octets ≡ fields_octets (rows_of kind) (values_of p)) × (count ≡ count_of (values_of p)) × HasUsualValues p
+
+-- the same of a message that has each IE of its table
+abbrev pub AreAllFieldsOf : MessageKind → List ℕ → Pdu → Type 0
+AreAllFieldsOf kind octets p = AreFieldsOf kind octets (length (rows_of kind)) p
 
 -- the octets of the header of a kind of message
 abbrev pub BeginsAs : MessageKind → ℕ → ℕ → ℕ → Type 0

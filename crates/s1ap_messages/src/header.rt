@@ -1,20 +1,19 @@
 //! How a message begins.
 
-ghost use Rattle.std.specs.Prelude.{◌≡◌, ◌≤◌, ◌<◌, OnOk};
+ghost use Rattle.std.specs.Prelude.{◌≡◌, ◌*◌, ◌≤◌, ◌<◌, IfSome, OnOk};
 ghost use Rattle.echo_base.specs.Reading.{Gives};
 ghost use Rattle.aper_fields.specs.Run.{then_written};
-ghost use Rattle.s1ap_messages.specs.Messages.{outcome_index, header_of};
-ghost use Rattle.s1ap_messages.specs.Grammar.{kind_with};
+ghost use Rattle.s1ap_messages.specs.Messages.{outcome_index};
 ghost use Rattle.s1ap_messages.specs.Reading.{header_at};
 ghost use Rattle.s1ap_messages.specs.Run.{header_run};
 
-use crate::tables::MessageKind;
+use crate::tables::{MessageKind, kind_with};
 use aper_fields::{
     BitReader, BitWriter, Ranged, read_bits_fixed, read_choice, read_criticality, write_bits_fixed,
     write_choice,
 };
 use echo_base::{OutOfMemory, Reason, Refusal};
-use s1ap_ies::{Criticality, names};
+use s1ap_ies::Criticality;
 
 /// The alternatives of S1AP-PDU (TS 36.413, 9.3.2).
 #[derive(Clone, Copy, Debug)]
@@ -51,6 +50,26 @@ impl Outcome {
             _ => Outcome::Unsuccessful,
         }
     }
+
+    /// The octet that a message begins with: the index behind a bit 0, and five bits more.
+    #[inline(always)]
+    pub fn octet(self) -> u8
+        ensures { result ≡ 32 * outcome_index self }
+    {
+        32 * self.index()
+    }
+
+    /// The alternative with that octet.
+    #[inline(always)]
+    pub fn with_octet(octet: u8) -> Option<Outcome>
+        ensures { IfSome result (λ outcome. octet ≡ 32 * outcome_index outcome) }
+    {
+        let index = octet / 32;
+        if octet % 32 != 0 || index >= 3 {
+            return None;
+        }
+        Some(Outcome::with_index(u64::from(index)))
+    }
 }
 
 /// The beginning of a message (TS 36.413, 9.3.2).
@@ -62,60 +81,6 @@ pub struct Header {
     pub code: u8,
     /// What a receiver does that does not know the procedure.
     pub criticality: Criticality,
-}
-
-/// A header of these parts.
-const fn begins(outcome: Outcome, code: u8, criticality: Criticality) -> Header
-    ensures { result ≡ record { outcome = outcome; code = code; criticality = criticality } }
-{
-    Header {
-        outcome,
-        code,
-        criticality,
-    }
-}
-
-/// How a message of that kind begins.
-#[rattlefmt::skip]
-pub fn header_of(kind: MessageKind) -> Header
-    ensures { result ≡ header_of kind }
-{
-    use Criticality::{Ignore, Reject};
-    use Outcome::{Initiating, Successful, Unsuccessful};
-    match kind {
-        MessageKind::InitialUeMessage => begins(Initiating, names::INITIAL_UE_MESSAGE, Ignore),
-        MessageKind::UplinkNasTransport => begins(Initiating, names::UPLINK_NAS_TRANSPORT, Ignore),
-        MessageKind::DownlinkNasTransport => begins(Initiating, names::DOWNLINK_NAS_TRANSPORT, Ignore),
-        MessageKind::InitialContextSetupRequest => begins(Initiating, names::INITIAL_CONTEXT_SETUP, Reject),
-        MessageKind::InitialContextSetupResponse => begins(Successful, names::INITIAL_CONTEXT_SETUP, Reject),
-        MessageKind::InitialContextSetupFailure => begins(Unsuccessful, names::INITIAL_CONTEXT_SETUP, Reject),
-        MessageKind::UeContextReleaseRequest => begins(Initiating, names::UE_CONTEXT_RELEASE_REQUEST, Ignore),
-        MessageKind::UeContextReleaseCommand => begins(Initiating, names::UE_CONTEXT_RELEASE, Reject),
-        MessageKind::UeContextReleaseComplete => begins(Successful, names::UE_CONTEXT_RELEASE, Reject),
-        MessageKind::UeCapabilityInfoIndication => begins(Initiating, names::UE_CAPABILITY_INFO_INDICATION, Ignore),
-    }
-}
-
-/// The kind of message that begins with that outcome and procedure code.
-#[tactic(auto, unfolding(crate::specs::Grammar::kind_among))]
-#[rattlefmt::skip]
-fn kind_with(outcome: Outcome, code: u8) -> Option<MessageKind>
-    ensures { result ≡ kind_with (outcome_index outcome) code }
-{
-    use Outcome::{Initiating, Successful, Unsuccessful};
-    match (outcome, code) {
-        (Initiating, names::INITIAL_UE_MESSAGE) => Some(MessageKind::InitialUeMessage),
-        (Initiating, names::UPLINK_NAS_TRANSPORT) => Some(MessageKind::UplinkNasTransport),
-        (Initiating, names::DOWNLINK_NAS_TRANSPORT) => Some(MessageKind::DownlinkNasTransport),
-        (Initiating, names::INITIAL_CONTEXT_SETUP) => Some(MessageKind::InitialContextSetupRequest),
-        (Successful, names::INITIAL_CONTEXT_SETUP) => Some(MessageKind::InitialContextSetupResponse),
-        (Unsuccessful, names::INITIAL_CONTEXT_SETUP) => Some(MessageKind::InitialContextSetupFailure),
-        (Initiating, names::UE_CONTEXT_RELEASE_REQUEST) => Some(MessageKind::UeContextReleaseRequest),
-        (Initiating, names::UE_CONTEXT_RELEASE) => Some(MessageKind::UeContextReleaseCommand),
-        (Successful, names::UE_CONTEXT_RELEASE) => Some(MessageKind::UeContextReleaseComplete),
-        (Initiating, names::UE_CAPABILITY_INFO_INDICATION) => Some(MessageKind::UeCapabilityInfoIndication),
-        _ => None,
-    }
 }
 
 /// Reads the header of a message: its outcome in an octet of its own, its procedure code, and its criticality.

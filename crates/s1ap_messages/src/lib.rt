@@ -17,7 +17,7 @@ mod value;
 mod writing;
 
 pub use laws::{one_answer, small_is_right, spelled_is_right, written_is_spelled};
-pub use pdu::{ErabsDone, ErabsToSetup, Pdu, message_name};
+pub use pdu::{ErabsDone, ErabsToSetup, Pdu};
 pub use reading::{read_pdu, read_uplink};
-pub use tables::{IeRow, IeTable, MessageKind, ies_of};
+pub use tables::{IeRow, IeTable, MessageKind, ies_of, message_name};
 pub use writing::write_pdu;

@@ -1,8 +1,6 @@
 //! The messages.
 
 ghost use Rattle.std.specs.Prelude.{◌≡◌, ◌∷◌, [], Some, None};
-ghost use Rattle.s1ap_messages.specs.Messages.{is_downlink};
-ghost use Rattle.s1ap_messages.specs.Names.{name_of};
 
 use crate::tables::MessageKind;
 use crate::value::{IeValue, LentValue};
@@ -193,35 +191,5 @@ impl Pdu {
             Pdu::UeContextReleaseComplete { .. } => MessageKind::UeContextReleaseComplete,
             Pdu::UeCapabilityInfoIndication { .. } => MessageKind::UeCapabilityInfoIndication,
         }
-    }
-}
-
-/// Is it a message that an MME sends, and does not receive?
-pub fn is_downlink(kind: MessageKind) -> bool
-    ensures { result ≡ is_downlink kind }
-{
-    matches!(
-        kind,
-        MessageKind::DownlinkNasTransport
-            | MessageKind::InitialContextSetupRequest
-            | MessageKind::UeContextReleaseCommand
-    )
-}
-
-/// The name of a message, as 3GPP TS 36.413, 9.3.3 spells it.
-pub fn message_name(kind: MessageKind) -> &'static str
-    ensures { result.now ≡ name_of kind }
-{
-    match kind {
-        MessageKind::InitialUeMessage => "InitialUEMessage",
-        MessageKind::UplinkNasTransport => "UplinkNASTransport",
-        MessageKind::DownlinkNasTransport => "DownlinkNASTransport",
-        MessageKind::InitialContextSetupRequest => "InitialContextSetupRequest",
-        MessageKind::InitialContextSetupResponse => "InitialContextSetupResponse",
-        MessageKind::InitialContextSetupFailure => "InitialContextSetupFailure",
-        MessageKind::UeContextReleaseRequest => "UEContextReleaseRequest",
-        MessageKind::UeContextReleaseCommand => "UEContextReleaseCommand",
-        MessageKind::UeContextReleaseComplete => "UEContextReleaseComplete",
-        MessageKind::UeCapabilityInfoIndication => "UECapabilityInfoIndication",
     }
 }

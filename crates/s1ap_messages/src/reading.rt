@@ -16,9 +16,9 @@ ghost use Rattle.s1ap_messages.specs.Memory.{takes_memory, IsFound, IsRead};
 
 use crate::build::message;
 use crate::header::read_header;
-use crate::pdu::{Pdu, is_downlink};
+use crate::pdu::Pdu;
 use crate::slots::Slots;
-use crate::tables::{IeRow, IeTable, MessageKind, ies_of};
+use crate::tables::{IeRow, IeTable, MessageKind, ies_of, is_downlink};
 use crate::usual::read_usual;
 use crate::value::{FoundValue, find_value};
 use aper_fields::{BitReader, Ranged, close, read_criticality, read_open, read_zero_bit};

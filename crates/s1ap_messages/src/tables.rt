@@ -1,10 +1,13 @@
-//! The information elements of each kind of message, in order (3GPP TS 36.413, 9.1).
+//! What the program keeps of each kind of message (3GPP TS 36.413, 9.1): its information elements in order, how it begins, who
+//! sends it, and its name.
 
 ghost use Rattle.std.specs.Prelude.{◌≡◌, ◌≤◌, ◌-◌, ◌++◌, map, length, replicate, eqb};
 ghost use Rattle.std.specs.List.{IsDistinct};
 ghost use Rattle.s1ap_messages.specs.Tables.{reject, ignore, optional, no_row};
-ghost use Rattle.s1ap_messages.specs.Messages.{rows_of};
+ghost use Rattle.s1ap_messages.specs.Messages.{outcome_index, rows_of, header_of, is_downlink, name_of};
+ghost use Rattle.s1ap_messages.specs.Grammar.{kind_with};
 
+use crate::header::{Header, Outcome};
 use s1ap_ies::{Criticality, names};
 
 /// A kind of message (3GPP TS 36.413, 9.1).
@@ -128,5 +131,89 @@ pub fn ies_of(kind: MessageKind) -> IeTable
         UeContextReleaseCommand => table!(reject(names::UE_IDS), ignore(names::CAUSE)),
         UeContextReleaseComplete => table!(ignore(names::MME_UE_S1AP_ID), ignore(names::ENB_UE_S1AP_ID)),
         UeCapabilityInfoIndication => table!(reject(names::MME_UE_S1AP_ID), reject(names::ENB_UE_S1AP_ID), ignore(names::RADIO_CAPABILITY)),
+    }
+}
+
+/// A header of these parts.
+const fn begins(outcome: Outcome, code: u8, criticality: Criticality) -> Header
+    ensures { result ≡ record { outcome = outcome; code = code; criticality = criticality } }
+{
+    Header {
+        outcome,
+        code,
+        criticality,
+    }
+}
+
+/// How a message of that kind begins.
+#[rattlefmt::skip]
+pub fn header_of(kind: MessageKind) -> Header
+    ensures { result ≡ header_of kind }
+{
+    use Criticality::{Ignore, Reject};
+    use Outcome::{Initiating, Successful, Unsuccessful};
+    match kind {
+        MessageKind::InitialUeMessage => begins(Initiating, names::INITIAL_UE_MESSAGE, Ignore),
+        MessageKind::UplinkNasTransport => begins(Initiating, names::UPLINK_NAS_TRANSPORT, Ignore),
+        MessageKind::DownlinkNasTransport => begins(Initiating, names::DOWNLINK_NAS_TRANSPORT, Ignore),
+        MessageKind::InitialContextSetupRequest => begins(Initiating, names::INITIAL_CONTEXT_SETUP, Reject),
+        MessageKind::InitialContextSetupResponse => begins(Successful, names::INITIAL_CONTEXT_SETUP, Reject),
+        MessageKind::InitialContextSetupFailure => begins(Unsuccessful, names::INITIAL_CONTEXT_SETUP, Reject),
+        MessageKind::UeContextReleaseRequest => begins(Initiating, names::UE_CONTEXT_RELEASE_REQUEST, Ignore),
+        MessageKind::UeContextReleaseCommand => begins(Initiating, names::UE_CONTEXT_RELEASE, Reject),
+        MessageKind::UeContextReleaseComplete => begins(Successful, names::UE_CONTEXT_RELEASE, Reject),
+        MessageKind::UeCapabilityInfoIndication => begins(Initiating, names::UE_CAPABILITY_INFO_INDICATION, Ignore),
+    }
+}
+
+/// The kind of message that begins with that outcome and procedure code.
+#[tactic(auto, unfolding(crate::specs::Grammar::kind_among))]
+#[rattlefmt::skip]
+pub fn kind_with(outcome: Outcome, code: u8) -> Option<MessageKind>
+    ensures { result ≡ kind_with (outcome_index outcome) code }
+{
+    use Outcome::{Initiating, Successful, Unsuccessful};
+    match (outcome, code) {
+        (Initiating, names::INITIAL_UE_MESSAGE) => Some(MessageKind::InitialUeMessage),
+        (Initiating, names::UPLINK_NAS_TRANSPORT) => Some(MessageKind::UplinkNasTransport),
+        (Initiating, names::DOWNLINK_NAS_TRANSPORT) => Some(MessageKind::DownlinkNasTransport),
+        (Initiating, names::INITIAL_CONTEXT_SETUP) => Some(MessageKind::InitialContextSetupRequest),
+        (Successful, names::INITIAL_CONTEXT_SETUP) => Some(MessageKind::InitialContextSetupResponse),
+        (Unsuccessful, names::INITIAL_CONTEXT_SETUP) => Some(MessageKind::InitialContextSetupFailure),
+        (Initiating, names::UE_CONTEXT_RELEASE_REQUEST) => Some(MessageKind::UeContextReleaseRequest),
+        (Initiating, names::UE_CONTEXT_RELEASE) => Some(MessageKind::UeContextReleaseCommand),
+        (Successful, names::UE_CONTEXT_RELEASE) => Some(MessageKind::UeContextReleaseComplete),
+        (Initiating, names::UE_CAPABILITY_INFO_INDICATION) => Some(MessageKind::UeCapabilityInfoIndication),
+        _ => None,
+    }
+}
+
+/// Is it a message that an MME sends, and does not receive?
+pub fn is_downlink(kind: MessageKind) -> bool
+    ensures { result ≡ is_downlink kind }
+{
+    matches!(
+        kind,
+        MessageKind::DownlinkNasTransport
+            | MessageKind::InitialContextSetupRequest
+            | MessageKind::UeContextReleaseCommand
+    )
+}
+
+/// The name of a message, as 3GPP TS 36.413, 9.3.3 spells it.
+pub fn message_name(kind: MessageKind) -> &'static str
+    ensures { result.now ≡ name_of kind }
+{
+    match kind {
+        MessageKind::InitialUeMessage => "InitialUEMessage",
+        MessageKind::UplinkNasTransport => "UplinkNASTransport",
+        MessageKind::DownlinkNasTransport => "DownlinkNASTransport",
+        MessageKind::InitialContextSetupRequest => "InitialContextSetupRequest",
+        MessageKind::InitialContextSetupResponse => "InitialContextSetupResponse",
+        MessageKind::InitialContextSetupFailure => "InitialContextSetupFailure",
+        MessageKind::UeContextReleaseRequest => "UEContextReleaseRequest",
+        MessageKind::UeContextReleaseCommand => "UEContextReleaseCommand",
+        MessageKind::UeContextReleaseComplete => "UEContextReleaseComplete",
+        MessageKind::UeCapabilityInfoIndication => "UECapabilityInfoIndication",
     }
 }

@@ -6,6 +6,7 @@ ghost use Rattle.s1ap_messages.specs.Run.{written, IsRight};
 ghost use Rattle.s1ap_messages.specs.Usual.{counted, usual_octets, IsUsual};
 
 mod bearers;
+mod counts;
 mod kinds;
 mod octets;
 mod put;

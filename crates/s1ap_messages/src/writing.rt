@@ -8,11 +8,11 @@ ghost use Rattle.s1ap_messages.specs.Messages.{kind_of, values_of};
 ghost use Rattle.s1ap_messages.specs.Lent.{seen, all_seen};
 ghost use Rattle.s1ap_messages.specs.Run.{value_run, ie_run, fields_run, ies_run, written, IsRightValue, IsRightField, IsRight, count_of};
 
-use crate::header::{header_of, write_header};
+use crate::header::write_header;
 use crate::lists::{write_erabs_done, write_erabs_to_setup};
 use crate::pdu::Pdu;
 use crate::reading::rows;
-use crate::tables::{IeRow, MessageKind, ies_of};
+use crate::tables::{IeRow, MessageKind, header_of, ies_of};
 use crate::usual::write_usual;
 use crate::value::{IeValue, LentValue};
 use aper_fields::{

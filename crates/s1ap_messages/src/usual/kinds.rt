@@ -1,34 +1,20 @@
 //! The IEs of each kind of message, read from their octets.
 
-ghost use Rattle.std.specs.Prelude.{◌≡◌, IfSome, length};
-ghost use Rattle.s1ap_messages.specs.Messages.{rows_of};
+ghost use Rattle.std.specs.Prelude.{◌≡◌, IfSome};
 ghost use Rattle.s1ap_messages.specs.declared.tables.MessageKind.TheVariants as kind;
-ghost use Rattle.s1ap_messages.specs.Usual.{AreFieldsOf, BeginsAs};
+ghost use Rattle.s1ap_messages.specs.Usual.{AreAllFieldsOf, AreFieldsOf, BeginsAs};
 
+use crate::header::Outcome;
 use crate::pdu::Pdu;
-use crate::tables::MessageKind;
+use crate::tables::{MessageKind, header_of, kind_with};
 use crate::usual::bearers::{erabs_done, erabs_to_setup};
+use crate::usual::counts::{initial_count, rows_in};
 use crate::usual::octets::ie;
 use crate::usual::values::{
     caps, cause, cgi, enb, ids, key, last_stmsi, mme, nas, own, rates, rrc, tai, text,
 };
 use s1ap_ies::{Criticality, names};
 use std::alloc::Global;
-
-/// The first octet of an initiating message (3GPP TS 36.413, 9.3.2).
-const INITIATING: u8 = 0;
-
-/// The first octet of a successful outcome.
-const SUCCESSFUL: u8 = 32;
-
-/// The first octet of an unsuccessful outcome.
-const UNSUCCESSFUL: u8 = 64;
-
-/// The third octet of a message with the criticality reject (9.3.3).
-const REJECT: u8 = 0;
-
-/// The third octet of a message with the criticality ignore.
-const IGNORE: u8 = 64;
 
 /// The IEs of an INITIAL UE MESSAGE.
 fn initial_ue_message(alloc: Global, octets: &[u8], count: u8) -> Option<Pdu>
@@ -39,7 +25,10 @@ fn initial_ue_message(alloc: Global, octets: &[u8], count: u8) -> Option<Pdu>
     let (tai, octets) = tai(octets, Criticality::Reject)?;
     let (cgi, octets) = cgi(octets)?;
     let (rrc, octets) = rrc(octets)?;
-    let stmsi = last_stmsi(octets, count)?;
+    let stmsi = last_stmsi(octets)?;
+    if count != initial_count(&stmsi) {
+        return None;
+    }
     let nas = own(alloc, nas)?;
     Some(Pdu::InitialUeMessage {
         enb,
@@ -52,15 +41,15 @@ fn initial_ue_message(alloc: Global, octets: &[u8], count: u8) -> Option<Pdu>
 }
 
 /// The IEs of an UPLINK NAS TRANSPORT.
-fn uplink_nas_transport(alloc: Global, octets: &[u8], count: u8) -> Option<Pdu>
-    ensures { IfSome result (AreFieldsOf kind.UplinkNasTransport octets.now count) }
+fn uplink_nas_transport(alloc: Global, octets: &[u8]) -> Option<Pdu>
+    ensures { IfSome result (AreAllFieldsOf kind.UplinkNasTransport octets.now) }
 {
     let (mme, octets) = mme(octets, Criticality::Reject)?;
     let (enb, octets) = enb(octets, Criticality::Reject)?;
     let (nas, octets) = nas(octets)?;
     let (cgi, octets) = cgi(octets)?;
     let (tai, octets) = tai(octets, Criticality::Ignore)?;
-    if count != 5 || !octets.is_empty() {
+    if !octets.is_empty() {
         return None;
     }
     let nas = own(alloc, nas)?;
@@ -74,13 +63,13 @@ fn uplink_nas_transport(alloc: Global, octets: &[u8], count: u8) -> Option<Pdu>
 }
 
 /// The IEs of a DOWNLINK NAS TRANSPORT.
-fn downlink_nas_transport(alloc: Global, octets: &[u8], count: u8) -> Option<Pdu>
-    ensures { IfSome result (AreFieldsOf kind.DownlinkNasTransport octets.now count) }
+fn downlink_nas_transport(alloc: Global, octets: &[u8]) -> Option<Pdu>
+    ensures { IfSome result (AreAllFieldsOf kind.DownlinkNasTransport octets.now) }
 {
     let (mme, octets) = mme(octets, Criticality::Reject)?;
     let (enb, octets) = enb(octets, Criticality::Reject)?;
     let (nas, octets) = nas(octets)?;
-    if count != 3 || !octets.is_empty() {
+    if !octets.is_empty() {
         return None;
     }
     let nas = own(alloc, nas)?;
@@ -88,8 +77,8 @@ fn downlink_nas_transport(alloc: Global, octets: &[u8], count: u8) -> Option<Pdu
 }
 
 /// The IEs of an INITIAL CONTEXT SETUP REQUEST.
-fn initial_context_setup_request(alloc: Global, octets: &[u8], count: u8) -> Option<Pdu>
-    ensures { IfSome result (AreFieldsOf kind.InitialContextSetupRequest octets.now count) }
+fn initial_context_setup_request(alloc: Global, octets: &[u8]) -> Option<Pdu>
+    ensures { IfSome result (AreAllFieldsOf kind.InitialContextSetupRequest octets.now) }
 {
     let (mme, octets) = mme(octets, Criticality::Reject)?;
     let (enb, octets) = enb(octets, Criticality::Reject)?;
@@ -97,7 +86,7 @@ fn initial_context_setup_request(alloc: Global, octets: &[u8], count: u8) -> Opt
     let (bearers, octets) = ie(octets, names::ERABS_TO_SETUP, Criticality::Reject)?;
     let (caps, octets) = caps(octets)?;
     let (key, octets) = key(octets)?;
-    if count != 6 || !octets.is_empty() {
+    if !octets.is_empty() {
         return None;
     }
     let bearers = erabs_to_setup(alloc, bearers)?;
@@ -113,13 +102,13 @@ fn initial_context_setup_request(alloc: Global, octets: &[u8], count: u8) -> Opt
 }
 
 /// The IEs of an INITIAL CONTEXT SETUP RESPONSE.
-fn initial_context_setup_response(alloc: Global, octets: &[u8], count: u8) -> Option<Pdu>
-    ensures { IfSome result (AreFieldsOf kind.InitialContextSetupResponse octets.now count) }
+fn initial_context_setup_response(alloc: Global, octets: &[u8]) -> Option<Pdu>
+    ensures { IfSome result (AreAllFieldsOf kind.InitialContextSetupResponse octets.now) }
 {
     let (mme, octets) = mme(octets, Criticality::Ignore)?;
     let (enb, octets) = enb(octets, Criticality::Ignore)?;
     let (done, octets) = ie(octets, names::ERABS_DONE, Criticality::Ignore)?;
-    if count != 3 || !octets.is_empty() {
+    if !octets.is_empty() {
         return None;
     }
     let done = erabs_done(alloc, done)?;
@@ -127,128 +116,99 @@ fn initial_context_setup_response(alloc: Global, octets: &[u8], count: u8) -> Op
 }
 
 /// The IEs of an INITIAL CONTEXT SETUP FAILURE.
-fn initial_context_setup_failure(octets: &[u8], count: u8) -> Option<Pdu>
-    ensures { IfSome result (AreFieldsOf kind.InitialContextSetupFailure octets.now count) }
+fn initial_context_setup_failure(octets: &[u8]) -> Option<Pdu>
+    ensures { IfSome result (AreAllFieldsOf kind.InitialContextSetupFailure octets.now) }
 {
     let (mme, octets) = mme(octets, Criticality::Ignore)?;
     let (enb, octets) = enb(octets, Criticality::Ignore)?;
     let (cause, octets) = cause(octets)?;
-    if count != 3 || !octets.is_empty() {
+    if !octets.is_empty() {
         return None;
     }
     Some(Pdu::InitialContextSetupFailure { mme, enb, cause })
 }
 
 /// The IEs of a UE CONTEXT RELEASE REQUEST.
-fn ue_context_release_request(octets: &[u8], count: u8) -> Option<Pdu>
-    ensures { IfSome result (AreFieldsOf kind.UeContextReleaseRequest octets.now count) }
+fn ue_context_release_request(octets: &[u8]) -> Option<Pdu>
+    ensures { IfSome result (AreAllFieldsOf kind.UeContextReleaseRequest octets.now) }
 {
     let (mme, octets) = mme(octets, Criticality::Reject)?;
     let (enb, octets) = enb(octets, Criticality::Reject)?;
     let (cause, octets) = cause(octets)?;
-    if count != 3 || !octets.is_empty() {
+    if !octets.is_empty() {
         return None;
     }
     Some(Pdu::UeContextReleaseRequest { mme, enb, cause })
 }
 
 /// The IEs of a UE CONTEXT RELEASE COMMAND.
-fn ue_context_release_command(octets: &[u8], count: u8) -> Option<Pdu>
-    ensures { IfSome result (AreFieldsOf kind.UeContextReleaseCommand octets.now count) }
+fn ue_context_release_command(octets: &[u8]) -> Option<Pdu>
+    ensures { IfSome result (AreAllFieldsOf kind.UeContextReleaseCommand octets.now) }
 {
     let (ids, octets) = ids(octets)?;
     let (cause, octets) = cause(octets)?;
-    if count != 2 || !octets.is_empty() {
+    if !octets.is_empty() {
         return None;
     }
     Some(Pdu::UeContextReleaseCommand { ids, cause })
 }
 
 /// The IEs of a UE CONTEXT RELEASE COMPLETE.
-fn ue_context_release_complete(octets: &[u8], count: u8) -> Option<Pdu>
-    ensures { IfSome result (AreFieldsOf kind.UeContextReleaseComplete octets.now count) }
+fn ue_context_release_complete(octets: &[u8]) -> Option<Pdu>
+    ensures { IfSome result (AreAllFieldsOf kind.UeContextReleaseComplete octets.now) }
 {
     let (mme, octets) = mme(octets, Criticality::Ignore)?;
     let (enb, octets) = enb(octets, Criticality::Ignore)?;
-    if count != 2 || !octets.is_empty() {
+    if !octets.is_empty() {
         return None;
     }
     Some(Pdu::UeContextReleaseComplete { mme, enb })
 }
 
 /// The IEs of a UE CAPABILITY INFO INDICATION.
-fn ue_capability_info_indication(alloc: Global, octets: &[u8], count: u8) -> Option<Pdu>
-    ensures { IfSome result (AreFieldsOf kind.UeCapabilityInfoIndication octets.now count) }
+fn ue_capability_info_indication(alloc: Global, octets: &[u8]) -> Option<Pdu>
+    ensures { IfSome result (AreAllFieldsOf kind.UeCapabilityInfoIndication octets.now) }
 {
     let (mme, octets) = mme(octets, Criticality::Reject)?;
     let (enb, octets) = enb(octets, Criticality::Reject)?;
     let (radio, octets) = text(octets, names::RADIO_CAPABILITY, Criticality::Ignore)?;
-    if count != 3 || !octets.is_empty() {
+    if !octets.is_empty() {
         return None;
     }
     let radio = own(alloc, radio)?;
     Some(Pdu::UeCapabilityInfoIndication { mme, enb, radio })
 }
 
-/// How many IEs the table of a kind of message has.
-const fn rows_in(kind: MessageKind) -> u8
-    ensures { result ≡ length (rows_of kind) }
-{
-    match kind {
-        MessageKind::InitialUeMessage | MessageKind::InitialContextSetupRequest => 6,
-        MessageKind::UplinkNasTransport => 5,
-        MessageKind::DownlinkNasTransport
-        | MessageKind::InitialContextSetupResponse
-        | MessageKind::InitialContextSetupFailure
-        | MessageKind::UeContextReleaseRequest
-        | MessageKind::UeCapabilityInfoIndication => 3,
-        MessageKind::UeContextReleaseCommand | MessageKind::UeContextReleaseComplete => 2,
-    }
-}
-
-/// The IEs of a kind of message. Where there are more than its table has, others are among them.
+/// The IEs of a kind of message. Where there are more than its table has, others are among them. A message of any other kind
+/// goes piece by piece.
+#[rattlefmt::skip]
 pub fn fields(alloc: Global, kind: MessageKind, octets: &[u8], count: u8) -> Option<Pdu>
     ensures { IfSome result (AreFieldsOf kind octets.now count) }
 {
-    if count > rows_in(kind) {
-        return None;
-    }
-    match kind {
-        MessageKind::InitialUeMessage => initial_ue_message(alloc, octets, count),
-        MessageKind::UplinkNasTransport => uplink_nas_transport(alloc, octets, count),
-        MessageKind::DownlinkNasTransport => downlink_nas_transport(alloc, octets, count),
-        MessageKind::InitialContextSetupRequest => {
-            initial_context_setup_request(alloc, octets, count)
-        }
-        MessageKind::InitialContextSetupResponse => {
-            initial_context_setup_response(alloc, octets, count)
-        }
-        MessageKind::InitialContextSetupFailure => initial_context_setup_failure(octets, count),
-        MessageKind::UeContextReleaseRequest => ue_context_release_request(octets, count),
-        MessageKind::UeContextReleaseCommand => ue_context_release_command(octets, count),
-        MessageKind::UeContextReleaseComplete => ue_context_release_complete(octets, count),
-        MessageKind::UeCapabilityInfoIndication => {
-            ue_capability_info_indication(alloc, octets, count)
-        }
+    let absent = rows_in(kind).checked_sub(count)?;
+    match (kind, absent) {
+        (MessageKind::InitialUeMessage, _) => initial_ue_message(alloc, octets, count),
+        (MessageKind::UplinkNasTransport, 0) => uplink_nas_transport(alloc, octets),
+        (MessageKind::DownlinkNasTransport, 0) => downlink_nas_transport(alloc, octets),
+        (MessageKind::InitialContextSetupRequest, 0) => initial_context_setup_request(alloc, octets),
+        (MessageKind::InitialContextSetupResponse, 0) => initial_context_setup_response(alloc, octets),
+        (MessageKind::InitialContextSetupFailure, 0) => initial_context_setup_failure(octets),
+        (MessageKind::UeContextReleaseRequest, 0) => ue_context_release_request(octets),
+        (MessageKind::UeContextReleaseCommand, 0) => ue_context_release_command(octets),
+        (MessageKind::UeContextReleaseComplete, 0) => ue_context_release_complete(octets),
+        (MessageKind::UeCapabilityInfoIndication, 0) => ue_capability_info_indication(alloc, octets),
+        _ => None,
     }
 }
 
 /// The kind of message whose header has these octets, as it is written.
-#[rattlefmt::skip]
+#[tactic(auto, using(crate::proofs::UsualForm::kind_begins))]
 pub fn kind_of_header(outcome: u8, code: u8, criticality: u8) -> Option<MessageKind>
     ensures { IfSome result (λ kind. BeginsAs kind outcome code criticality) }
 {
-    match (outcome, code, criticality) {
-        (INITIATING, names::INITIAL_CONTEXT_SETUP, REJECT) => Some(MessageKind::InitialContextSetupRequest),
-        (INITIATING, names::DOWNLINK_NAS_TRANSPORT, IGNORE) => Some(MessageKind::DownlinkNasTransport),
-        (INITIATING, names::INITIAL_UE_MESSAGE, IGNORE) => Some(MessageKind::InitialUeMessage),
-        (INITIATING, names::UPLINK_NAS_TRANSPORT, IGNORE) => Some(MessageKind::UplinkNasTransport),
-        (INITIATING, names::UE_CONTEXT_RELEASE_REQUEST, IGNORE) => Some(MessageKind::UeContextReleaseRequest),
-        (INITIATING, names::UE_CAPABILITY_INFO_INDICATION, IGNORE) => Some(MessageKind::UeCapabilityInfoIndication),
-        (INITIATING, names::UE_CONTEXT_RELEASE, REJECT) => Some(MessageKind::UeContextReleaseCommand),
-        (SUCCESSFUL, names::INITIAL_CONTEXT_SETUP, REJECT) => Some(MessageKind::InitialContextSetupResponse),
-        (SUCCESSFUL, names::UE_CONTEXT_RELEASE, REJECT) => Some(MessageKind::UeContextReleaseComplete),
-        (UNSUCCESSFUL, names::INITIAL_CONTEXT_SETUP, REJECT) => Some(MessageKind::InitialContextSetupFailure),
-        _ => None,
+    let kind = kind_with(Outcome::with_octet(outcome)?, code)?;
+    if criticality != 64 * header_of(kind).criticality.number() {
+        return None;
     }
+    Some(kind)
 }

@@ -2,31 +2,39 @@
 
 ghost use Rattle.std.specs.Prelude.{◌≡◌, ◌+◌, ◌-◌, ◌*◌, ◌^◌, ◌<◌, ◌≤◌, ◌∷◌, [], ◌++◌, IfOk, IfSome, OnOk, length, take, drop};
 ghost use Rattle.s1ap_ies.specs.Names as named;
-ghost use Rattle.s1ap_messages.specs.Messages.{outcome_index, header_of};
-ghost use Rattle.s1ap_messages.specs.Usual.{count_octets, counted, least_octets, number_octets};
+ghost use Rattle.s1ap_messages.specs.Messages.{rows_of};
+ghost use Rattle.s1ap_messages.specs.Usual.{beginning, count_octets, counted, least_octets, number_octets};
 
-use crate::header::header_of;
-use crate::tables::MessageKind;
+use crate::tables::{MessageKind, header_of};
+use crate::usual::counts::rows_in;
 use device_types::Octets;
 use s1ap_ies::Criticality;
 use std::alloc::{AllocError, Global};
 
-/// The octets of a message of that kind before its IEs, with an octet of zeros in place of its length.
+/// The octets of a message of that kind before so many IEs, with an octet of zeros in place of its length.
 #[inline(always)]
-pub fn begin(
+pub fn begin_with(
     alloc: Global,
     kind: MessageKind,
     count: u8,
     room: usize,
 ) -> Result<Vec<u8>, AllocError>
-    ensures { IfOk result (λ out. out.items ≡ 32 * outcome_index (header_of kind).outcome ∷ (header_of kind).code ∷ 64 * named.criticality_number (header_of kind).criticality ∷ 0 ∷ 0 ∷ 0 ∷ count ∷ []) }
+    ensures { IfOk result (λ out. out.items ≡ beginning kind count) }
 {
     let header = header_of(kind);
-    let outcome = 32 * header.outcome.index();
+    let outcome = header.outcome.octet();
     let criticality = 64 * header.criticality.number();
     let mut out = Vec::with_capacity(alloc, room)?;
     out.extend_from_slice(&[outcome, header.code, criticality, 0, 0, 0, count])?;
     Ok(out)
+}
+
+/// The same before all IEs of its table.
+#[inline(always)]
+pub fn begin(alloc: Global, kind: MessageKind, room: usize) -> Result<Vec<u8>, AllocError>
+    ensures { IfOk result (λ out. out.items ≡ beginning kind (length (rows_of kind))) }
+{
+    begin_with(alloc, kind, rows_in(kind), room)
 }
 
 /// Puts a length.

@@ -5,21 +5,34 @@ ghost use Rattle.aper_fields.specs.Spelling.{IsEnumValue};
 ghost use Rattle.s1ap_ies.specs.Run.{IsTai, IsCgi, IsBitRates, IsCause, IsErabDone, IsErabToSetup};
 ghost use Rattle.s1ap_messages.specs.declared.pdu.Pdu.TheVariants.{InitialUeMessage, UplinkNasTransport, DownlinkNasTransport, InitialContextSetupRequest, InitialContextSetupResponse, InitialContextSetupFailure, UeContextReleaseRequest, UeContextReleaseCommand, UeContextReleaseComplete, UeCapabilityInfoIndication};
 ghost use Rattle.s1ap_messages.specs.Run.{IsRight};
-ghost use Rattle.s1ap_messages.specs.Usual.{unfinished_octets};
+ghost use Rattle.s1ap_messages.specs.Usual.{unfinished_octets, HasForms};
 
 use crate::pdu::Pdu;
 use crate::tables::MessageKind;
-use crate::usual::put::begin;
+use crate::usual::counts::initial_count;
+use crate::usual::put::{begin, begin_with};
 use crate::usual::put_bearers::{nas_len, put_done, put_setup};
 use crate::usual::put_values::{
-    initial_count, put_caps, put_cause, put_cgi, put_id, put_ids, put_key, put_last_stmsi,
-    put_rates, put_rrc, put_tai, put_text,
+    put_caps, put_cause, put_cgi, put_id, put_ids, put_key, put_last_stmsi, put_rates, put_rrc,
+    put_tai, put_text,
 };
 use aper_fields::EnumValue;
 use s1ap_ies::{
     BitRates, Cause, Cgi, Criticality, ErabDone, ErabToSetup, SecCaps, Stmsi, Tai, UeIds, names,
 };
 use std::alloc::{AllocError, Global};
+
+/// Room for what stands before the IEs, two identities and a cause.
+const ROOM: usize = 32;
+
+/// Room for what stands before the IEs, two identities, and an E-RAB or what stands before a string.
+const ROOM_WITH_ITEM: usize = 48;
+
+/// The same, with an area and a cell.
+const ROOM_WITH_AREA: usize = 80;
+
+/// The same as with an item, with bit rates, capabilities and a key.
+const ROOM_WITH_KEY: usize = 128;
 
 /// The octets of an INITIAL UE MESSAGE, without the length of its body.
 #[tactic(auto, unfolding(crate::specs::Usual::unfinished_octets), using(crate::proofs::UsualWrite::six_parts))]
@@ -38,11 +51,11 @@ fn initial_ue_message(
     requires rrc { IsEnumValue 5 true rrc.now }
     ensures { IfOk result (λ out. out.items ≡ unfinished_octets (InitialUeMessage enb nas.now tai.now cgi.now rrc.now stmsi.now)) }
 {
-    let mut out = begin(
+    let mut out = begin_with(
         alloc,
         MessageKind::InitialUeMessage,
         initial_count(stmsi),
-        80 + nas.len(),
+        ROOM_WITH_AREA + nas.len(),
     )?;
     put_id(&mut out, names::ENB_UE_S1AP_ID, Criticality::Reject, enb)?;
     put_text(&mut out, names::NAS_PDU, Criticality::Reject, nas)?;
@@ -68,7 +81,11 @@ fn uplink_nas_transport(
     requires tai { IsTai tai.now }
     ensures { IfOk result (λ out. out.items ≡ unfinished_octets (UplinkNasTransport mme enb nas.now cgi.now tai.now)) }
 {
-    let mut out = begin(alloc, MessageKind::UplinkNasTransport, 5, 80 + nas.len())?;
+    let mut out = begin(
+        alloc,
+        MessageKind::UplinkNasTransport,
+        ROOM_WITH_AREA + nas.len(),
+    )?;
     put_id(&mut out, names::MME_UE_S1AP_ID, Criticality::Reject, mme)?;
     put_id(&mut out, names::ENB_UE_S1AP_ID, Criticality::Reject, enb)?;
     put_text(&mut out, names::NAS_PDU, Criticality::Reject, nas)?;
@@ -88,7 +105,11 @@ fn downlink_nas_transport(
     requires { length nas.now ≤ 2048 }
     ensures { IfOk result (λ out. out.items ≡ unfinished_octets (DownlinkNasTransport mme enb nas.now)) }
 {
-    let mut out = begin(alloc, MessageKind::DownlinkNasTransport, 3, 48 + nas.len())?;
+    let mut out = begin(
+        alloc,
+        MessageKind::DownlinkNasTransport,
+        ROOM_WITH_ITEM + nas.len(),
+    )?;
     put_id(&mut out, names::MME_UE_S1AP_ID, Criticality::Reject, mme)?;
     put_id(&mut out, names::ENB_UE_S1AP_ID, Criticality::Reject, enb)?;
     put_text(&mut out, names::NAS_PDU, Criticality::Reject, nas)?;
@@ -114,8 +135,7 @@ fn initial_context_setup_request(
     let mut out = begin(
         alloc,
         MessageKind::InitialContextSetupRequest,
-        6,
-        128 + nas_len(&erab.nas),
+        ROOM_WITH_KEY + nas_len(&erab.nas),
     )?;
     put_id(&mut out, names::MME_UE_S1AP_ID, Criticality::Reject, mme)?;
     put_id(&mut out, names::ENB_UE_S1AP_ID, Criticality::Reject, enb)?;
@@ -137,7 +157,11 @@ fn initial_context_setup_response(
     requires { IsErabDone erab.now }
     ensures { IfOk result (λ out. out.items ≡ unfinished_octets (InitialContextSetupResponse mme enb (erab.now ∷ []))) }
 {
-    let mut out = begin(alloc, MessageKind::InitialContextSetupResponse, 3, 48)?;
+    let mut out = begin(
+        alloc,
+        MessageKind::InitialContextSetupResponse,
+        ROOM_WITH_ITEM,
+    )?;
     put_id(&mut out, names::MME_UE_S1AP_ID, Criticality::Ignore, mme)?;
     put_id(&mut out, names::ENB_UE_S1AP_ID, Criticality::Ignore, enb)?;
     put_done(&mut out, erab)?;
@@ -155,7 +179,7 @@ fn initial_context_setup_failure(
     requires { IsCause cause.now }
     ensures { IfOk result (λ out. out.items ≡ unfinished_octets (InitialContextSetupFailure mme enb cause.now)) }
 {
-    let mut out = begin(alloc, MessageKind::InitialContextSetupFailure, 3, 32)?;
+    let mut out = begin(alloc, MessageKind::InitialContextSetupFailure, ROOM)?;
     put_id(&mut out, names::MME_UE_S1AP_ID, Criticality::Ignore, mme)?;
     put_id(&mut out, names::ENB_UE_S1AP_ID, Criticality::Ignore, enb)?;
     put_cause(&mut out, cause)?;
@@ -173,7 +197,7 @@ fn ue_context_release_request(
     requires { IsCause cause.now }
     ensures { IfOk result (λ out. out.items ≡ unfinished_octets (UeContextReleaseRequest mme enb cause.now)) }
 {
-    let mut out = begin(alloc, MessageKind::UeContextReleaseRequest, 3, 32)?;
+    let mut out = begin(alloc, MessageKind::UeContextReleaseRequest, ROOM)?;
     put_id(&mut out, names::MME_UE_S1AP_ID, Criticality::Reject, mme)?;
     put_id(&mut out, names::ENB_UE_S1AP_ID, Criticality::Reject, enb)?;
     put_cause(&mut out, cause)?;
@@ -190,7 +214,7 @@ fn ue_context_release_command(
     requires { IsCause cause.now }
     ensures { IfOk result (λ out. out.items ≡ unfinished_octets (UeContextReleaseCommand ids.now cause.now)) }
 {
-    let mut out = begin(alloc, MessageKind::UeContextReleaseCommand, 2, 32)?;
+    let mut out = begin(alloc, MessageKind::UeContextReleaseCommand, ROOM)?;
     put_ids(&mut out, ids)?;
     put_cause(&mut out, cause)?;
     Ok(out)
@@ -201,7 +225,7 @@ fn ue_context_release_command(
 fn ue_context_release_complete(alloc: Global, mme: u32, enb: u32) -> Result<Vec<u8>, AllocError>
     ensures { IfOk result (λ out. out.items ≡ unfinished_octets (UeContextReleaseComplete mme enb)) }
 {
-    let mut out = begin(alloc, MessageKind::UeContextReleaseComplete, 2, 32)?;
+    let mut out = begin(alloc, MessageKind::UeContextReleaseComplete, ROOM)?;
     put_id(&mut out, names::MME_UE_S1AP_ID, Criticality::Ignore, mme)?;
     put_id(&mut out, names::ENB_UE_S1AP_ID, Criticality::Ignore, enb)?;
     Ok(out)
@@ -221,8 +245,7 @@ fn ue_capability_info_indication(
     let mut out = begin(
         alloc,
         MessageKind::UeCapabilityInfoIndication,
-        3,
-        48 + radio.len(),
+        ROOM_WITH_ITEM + radio.len(),
     )?;
     put_id(&mut out, names::MME_UE_S1AP_ID, Criticality::Reject, mme)?;
     put_id(&mut out, names::ENB_UE_S1AP_ID, Criticality::Reject, enb)?;
@@ -235,12 +258,13 @@ fn ue_capability_info_indication(
     Ok(out)
 }
 
-/// The octets of a message, without the length of its body, where its lists have one item.
-#[tactic(auto, unfolding(s1ap_ies::specs::Values::erabs_to_setup, s1ap_ies::specs::Values::erab_to_setup, s1ap_ies::specs::Values::erabs_done, s1ap_ies::specs::Values::erab_done, s1ap_ies::specs::Values::erab_id, s1ap_ies::specs::Values::qos, s1ap_ies::specs::Values::arp, s1ap_ies::specs::Values::address))]
+/// The octets of a message, without the length of its body, where its lists have one item. Any other goes piece by piece.
+#[tactic(auto, unfolding(s1ap_ies::specs::Values::erabs_to_setup, s1ap_ies::specs::Values::erab_to_setup, s1ap_ies::specs::Values::erabs_done, s1ap_ies::specs::Values::erab_done, s1ap_ies::specs::Values::erab_id, s1ap_ies::specs::Values::qos, s1ap_ies::specs::Values::arp, s1ap_ies::specs::Values::address), using(crate::proofs::UsualForm::stmsi_form))]
 #[rattlefmt::skip]
 pub fn unfinished(alloc: Global, p: &Pdu) -> Result<Option<Vec<u8>>, AllocError>
     requires { IsRight p.now }
-    ensures { IfOk result (λ found. IfSome found (λ out. out.items ≡ unfinished_octets p.now)) }
+    ensures octets { IfOk result (λ found. IfSome found (λ out. out.items ≡ unfinished_octets p.now)) }
+    ensures forms { IfOk result (λ found. IfSome found (λ out. HasForms p.now)) }
 {
     match p {
         Pdu::InitialUeMessage { enb, nas, tai, cgi, rrc, stmsi } => {
@@ -266,11 +290,9 @@ pub fn unfinished(alloc: Global, p: &Pdu) -> Result<Option<Vec<u8>>, AllocError>
         Pdu::UeContextReleaseRequest { mme, enb, cause } => Ok(Some(ue_context_release_request(alloc, *mme, *enb, cause)?)),
         Pdu::UeContextReleaseCommand { ids, cause } => Ok(Some(ue_context_release_command(alloc, ids, cause)?)),
         Pdu::UeContextReleaseComplete { mme, enb } => Ok(Some(ue_context_release_complete(alloc, *mme, *enb)?)),
-        Pdu::UeCapabilityInfoIndication { mme, enb, radio } => {
-            if radio.items().len() > 16000 {
-                return Ok(None);
-            }
+        Pdu::UeCapabilityInfoIndication { mme, enb, radio } if radio.items().len() <= 16000 => {
             Ok(Some(ue_capability_info_indication(alloc, *mme, *enb, radio.items())?))
         }
+        _ => Ok(None),
     }
 }

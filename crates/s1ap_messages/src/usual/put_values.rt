@@ -7,7 +7,6 @@ ghost use Rattle.s1ap_ies.specs.Run.{IsTai, IsCgi, IsBitRates, IsCause};
 ghost use Rattle.s1ap_ies.specs.Names as named;
 ghost use Rattle.s1ap_messages.specs.Tables.{optional};
 ghost use Rattle.s1ap_messages.specs.declared.value.IeValue.TheVariants as value;
-ghost use Rattle.s1ap_messages.specs.Run.{count_of};
 ghost use Rattle.s1ap_messages.specs.Usual.{counted, four_octets, number_octets, tai_octets, cgi_octets, stmsi_octets, rates_octets, caps_octets, rrc_octets, cause_octets, ids_octets, ie_octets, fields_octets};
 
 use crate::usual::put::{counted_len, octets_in, put_counted, put_ie, put_number};
@@ -158,14 +157,6 @@ pub fn put_last_stmsi(out: &mut Vec<u8>, stmsi: &Option<Stmsi>) -> Result<(), Al
         Some(stmsi) => put_stmsi(out, stmsi),
         None => Ok(()),
     }
-}
-
-/// How many IEs an INITIAL UE MESSAGE has.
-#[inline(always)]
-pub fn initial_count(stmsi: &Option<Stmsi>) -> u8
-    ensures { result ≡ 5 + count_of (option_map value.Stmsi stmsi.now ∷ []) }
-{
-    if stmsi.is_some() { 6 } else { 5 }
 }
 
 /// Puts bit rates.

@@ -6,8 +6,7 @@ ghost use Rattle.s1ap_ies.specs.Run.{IsTai, IsCgi, IsStmsi, IsBitRates, IsSecCap
 ghost use Rattle.s1ap_ies.specs.Names as named;
 ghost use Rattle.s1ap_messages.specs.Tables.{optional};
 ghost use Rattle.s1ap_messages.specs.declared.value.IeValue.TheVariants as value;
-ghost use Rattle.s1ap_messages.specs.Run.{count_of, IsRightValue};
-ghost use Rattle.s1ap_messages.specs.Usual.{counted, four_octets, number_octets, tai_octets, cgi_octets, stmsi_octets, rates_octets, caps_octets, rrc_octets, cause_octets, ids_octets, ie_octets, fields_octets};
+ghost use Rattle.s1ap_messages.specs.Usual.{counted, four_octets, number_octets, tai_octets, cgi_octets, stmsi_octets, rates_octets, caps_octets, rrc_octets, cause_octets, ids_octets, ie_octets, fields_octets, IsUsualValue};
 
 use crate::usual::octets::{counted, id, ie, number, one};
 use aper_fields::EnumValue;
@@ -186,16 +185,15 @@ fn stmsi(octets: &[u8]) -> Option<(Stmsi, &[u8])>
 }
 
 /// The S-TMSI of an INITIAL UE MESSAGE, which is its last IE, where it has one.
-pub fn last_stmsi(octets: &[u8], count: u8) -> Option<Option<Stmsi>>
+pub fn last_stmsi(octets: &[u8]) -> Option<Option<Stmsi>>
     ensures octets { IfSome result (λ s. octets.now ≡ fields_octets (optional named.stmsi ∷ []) (option_map value.Stmsi s ∷ [])) }
-    ensures count { IfSome result (λ s. count ≡ 5 + count_of (option_map value.Stmsi s ∷ [])) }
-    ensures right { IfSome result (λ s. IfSome (option_map value.Stmsi s) IsRightValue) }
+    ensures right { IfSome result (λ s. IfSome (option_map value.Stmsi s) IsUsualValue) }
 {
-    if count == 5 && octets.is_empty() {
+    if octets.is_empty() {
         return Some(None);
     }
     let (stmsi, more) = stmsi(octets)?;
-    if count != 6 || !more.is_empty() {
+    if !more.is_empty() {
         return None;
     }
     Some(Some(stmsi))
