@@ -77,34 +77,36 @@ grown_count true (Some a) x h = refl
 grown_count true None x h = let e : false ≡ true = h refl in absurd cc
 grown_count false o x h = refl
 
+-- what a section has behind the line: where it counts the line, what the line says is there, and comes at the end
+record Gains {A : Type 0} (section : Section) (before : List (List ℕ)) (line : List ℕ) (o : Option A) (old new : List A) : Type 0 where
+  more : new ≡ old ++ where_true (is_counted section (place before line)) (option_to_list o)
+  there : is_counted section (place before line) ≡ true → is_some o ≡ true
+
 -- behind a line that is not refused
 record IsGrown (before : List (List ℕ)) (line : List ℕ) (seen new : Seen) : Type 0 where
   section : new.section ≡ section_behind (before ++ line ∷ [])
   order : (heading : Section) → list_any (λ earlier. leb (place_of heading) (place_of earlier)) (headings (before ++ line ∷ [])) ≡ is_late heading new.section
   number : new.number ≡ (next seen).number
-  rows : new.rows ≡ seen.rows ++ where_true (is_counted Subscribers (place before line)) (option_to_list (placed_row (place before line)))
-  row_there : is_counted Subscribers (place before line) ≡ true → is_some (placed_row (place before line)) ≡ true
-  trace : new.trace ≡ seen.trace ++ where_true (is_counted Trace (place before line)) (option_to_list (placed_trace_line (place before line)))
-  trace_there : is_counted Trace (place before line) ≡ true → is_some (placed_trace_line (place before line)) ≡ true
-  schedule : new.schedule ≡ seen.schedule ++ where_true (is_counted Schedule (place before line)) (option_to_list (placed_event (place before line)))
-  schedule_there : is_counted Schedule (place before line) ≡ true → is_some (placed_event (place before line)) ≡ true
+  rows : Gains Subscribers before line (placed_row (place before line)) seen.rows new.rows
+  trace : Gains Trace before line (placed_trace_line (place before line)) seen.trace new.trace
+  schedule : Gains Schedule before line (placed_event (place before line)) seen.schedule new.schedule
 
-grown_length : {A : Type 0} (section : Section) (before : List (List ℕ)) (line : List ℕ) (old new : List A) (o : Option A) → new ≡ old ++ where_true (is_counted section (place before line)) (option_to_list o) → length old ≡ length (counted section before) → (is_counted section (place before line) ≡ true → is_some o ≡ true) → length new ≡ length (counted section (before ++ line ∷ []))
-grown_length section before line old new o is count there =
+grown_length : {A : Type 0} (section : Section) (before : List (List ℕ)) (line : List ℕ) (o : Option A) (old new : List A) → Gains section before line o old new → length old ≡ length (counted section before) → length new ≡ length (counted section (before ++ line ∷ []))
+grown_length section before line o old new g count =
     let b : Bool = is_counted section (place before line) in
-    ap length is ∙ length-append old (where_true b (option_to_list o)) ∙ rw (count, grown_count b o (place before line) there) (sym (length-append (counted section before) (where_true b (place before line ∷ [])))) ∙ sym (ap length (counted-push section before line))
+    ap length g.more ∙ length-append old (where_true b (option_to_list o)) ∙ rw (count, grown_count b o (place before line) g.there) (sym (length-append (counted section before) (where_true b (place before line ∷ [])))) ∙ sym (ap length (counted-push section before line))
 
 grown : (before : List (List ℕ)) (line : List ℕ) (seen new : Seen) → IsSeen before seen → placed_reason (place before line) ≡ None → IsGrown before line seen new → IsSeen (before ++ line ∷ []) new
 grown before line seen new s none g = record {
   section = g.section;
   order = g.order;
   number = g.number ∙ next_number before line seen s;
-  rows = g.rows ∙ ap (λ (l : List Subscriber). l ++ where_true (is_counted Subscribers (place before line)) (option_to_list (placed_row (place before line)))) s.rows ∙ sym (rows_of-push before line);
-  row_count = grown_length Subscribers before line seen.rows new.rows (placed_row (place before line)) g.rows s.row_count g.row_there;
-  trace = g.trace ∙ ap (λ (l : List TraceLine). l ++ where_true (is_counted Trace (place before line)) (option_to_list (placed_trace_line (place before line)))) s.trace ∙ sym (trace_of-push before line);
-  trace_count = grown_length Trace before line seen.trace new.trace (placed_trace_line (place before line)) g.trace s.trace_count g.trace_there;
-  schedule = g.schedule ∙ ap (λ (l : List Event). l ++ where_true (is_counted Schedule (place before line)) (option_to_list (placed_event (place before line)))) s.schedule ∙ sym (schedule_of-push before line);
-  schedule_count = grown_length Schedule before line seen.schedule new.schedule (placed_event (place before line)) g.schedule s.schedule_count g.schedule_there;
+  rows = g.rows.more ∙ ap (λ (l : List Subscriber). l ++ where_true (is_counted Subscribers (place before line)) (option_to_list (placed_row (place before line)))) s.rows ∙ sym (rows_of-push before line);
+  row_count = grown_length Subscribers before line (placed_row (place before line)) seen.rows new.rows g.rows s.row_count;
+  trace = g.trace.more ∙ ap (λ (l : List TraceLine). l ++ where_true (is_counted Trace (place before line)) (option_to_list (placed_trace_line (place before line)))) s.trace ∙ sym (trace_of-push before line);
+  trace_count = grown_length Trace before line (placed_trace_line (place before line)) seen.trace new.trace g.trace s.trace_count;
+  schedule = g.schedule.more ∙ ap (λ (l : List Event). l ++ where_true (is_counted Schedule (place before line)) (option_to_list (placed_event (place before line)))) s.schedule ∙ sym (schedule_of-push before line);
+  schedule_count = grown_length Schedule before line (placed_event (place before line)) seen.schedule new.schedule g.schedule s.schedule_count;
   good = rw (refusals-push before line, s.good, none) refl;
 }
 
@@ -116,6 +118,9 @@ is_grown b xs ys e = rw e refl
 
 not_there : {A : Type 0} (b : Bool) (o : Option A) → b ≡ false → b ≡ true → is_some o ≡ true
 not_there b o f t = absurd cc
+
+no_gain : {A : Type 0} (section : Section) (before : List (List ℕ)) (line : List ℕ) (o : Option A) (xs : List A) → is_counted section (place before line) ≡ false → Gains section before line o xs xs
+no_gain section before line o xs not = record { more = not_grown (is_counted section (place before line)) xs (option_to_list o) not; there = not_there (is_counted section (place before line)) o not }
 
 -- ---- lines that are no headings
 
@@ -144,22 +149,22 @@ counted_here before line here section e is = rw (e, is) refl
 
 -- ---- the cases of a line that is not refused
 
+-- one that no section counts
+uncounted_grows : (before : List (List ℕ)) (line : List ℕ) (seen : Seen) (named : Option Section) → (is_passed_over line || is_heading line) ≡ true → named ≡ section_behind (before ++ line ∷ []) → ((heading : Section) → list_any (λ earlier. leb (place_of heading) (place_of earlier)) (headings (before ++ line ∷ [])) ≡ is_late heading named) → IsGrown before line seen (record (next seen) { section = named })
+uncounted_grows before line seen named none section order = record {
+  section = section;
+  order = order;
+  number = refl;
+  rows = no_gain Subscribers before line (placed_row (place before line)) seen.rows (uncounted before line Subscribers none);
+  trace = no_gain Trace before line (placed_trace_line (place before line)) seen.trace (uncounted before line Trace none);
+  schedule = no_gain Schedule before line (placed_event (place before line)) seen.schedule (uncounted before line Schedule none);
+}
+
 -- an empty line or a comment
 passed_grows : (before : List (List ℕ)) (line : List ℕ) (seen : Seen) → IsSeen before seen → is_passed_over line ≡ true → IsGrown before line seen (next seen)
 passed_grows before line seen s passed =
     let plain : is_heading line ≡ false = passed_is_plain line passed in
-    let none = λ (section : Section). uncounted before line section (rw passed refl) in
-    record {
-      section = section_same before line seen s plain;
-      order = order_same before line seen s plain;
-      number = refl;
-      rows = not_grown _ seen.rows _ (none Subscribers);
-      row_there = not_there _ _ (none Subscribers);
-      trace = not_grown _ seen.trace _ (none Trace);
-      trace_there = not_there _ _ (none Trace);
-      schedule = not_grown _ seen.schedule _ (none Schedule);
-      schedule_there = not_there _ _ (none Schedule);
-    }
+    uncounted_grows before line seen seen.section (rw passed refl) (section_same before line seen s plain) (order_same before line seen s plain)
 
 -- a heading that comes later than those before it
 late_or : (heading other : Section) (section : Option Section) → is_late other section ≡ false → (is_late heading section || leb (place_of heading) (place_of other)) ≡ is_late heading (Some other)
@@ -177,19 +182,7 @@ order_more before line seen other s is early heading =
     or_false false = refl
 
 heading_grows : (before : List (List ℕ)) (line : List ℕ) (seen : Seen) (other : Section) → IsSeen before seen → is_heading line ≡ true → heading_of line ≡ Some other → is_late other seen.section ≡ false → IsGrown before line seen (record (next seen) { section = Some other })
-heading_grows before line seen other s heading is early =
-    let none = λ (section : Section). uncounted before line section (or_true (is_passed_over line) heading) in
-    record {
-      section = sym (section_behind-heading before line other is);
-      order = order_more before line seen other s is early;
-      number = refl;
-      rows = not_grown _ seen.rows _ (none Subscribers);
-      row_there = not_there _ _ (none Subscribers);
-      trace = not_grown _ seen.trace _ (none Trace);
-      trace_there = not_there _ _ (none Trace);
-      schedule = not_grown _ seen.schedule _ (none Schedule);
-      schedule_there = not_there _ _ (none Schedule);
-    }
+heading_grows before line seen other s heading is early = uncounted_grows before line seen (Some other) (or_true (is_passed_over line) heading) (sym (section_behind-heading before line other is)) (order_more before line seen other s is early)
   where
     or_true : (a : Bool) → is_heading line ≡ true → (a || is_heading line) ≡ true
     or_true true e = refl
@@ -219,12 +212,12 @@ row_grows before line seen s item plain section none =
       section = section_same before line seen s plain;
       order = order_same before line seen s plain;
       number = refl;
-      rows = ap (λ n. seen.rows ++ option_to_list (result_ok (row_of (n + 1) line))) s.row_count ∙ is_grown _ seen.rows _ (here Subscribers);
-      row_there = λ t. rw (← s.row_count) (row_there_from seen.rows (row_of (length seen.rows + 1) line) none);
-      trace = not_grown _ seen.trace _ (here Trace);
-      trace_there = not_there _ _ (here Trace);
-      schedule = not_grown _ seen.schedule _ (here Schedule);
-      schedule_there = not_there _ _ (here Schedule);
+      rows = record {
+        more = ap (λ n. seen.rows ++ option_to_list (result_ok (row_of (n + 1) line))) s.row_count ∙ is_grown _ seen.rows _ (here Subscribers);
+        there = λ t. rw (← s.row_count) (row_there_from seen.rows (row_of (length seen.rows + 1) line) none);
+      };
+      trace = no_gain Trace before line (placed_trace_line (place before line)) seen.trace (here Trace);
+      schedule = no_gain Schedule before line (placed_event (place before line)) seen.schedule (here Schedule);
     }
 
 trace_grows : (before : List (List ℕ)) (line : List ℕ) (seen : Seen) → IsSeen before seen → (is_passed_over line || is_heading line) ≡ false → is_heading line ≡ false → seen.section ≡ Some Trace → form_reason (length seen.trace) (is_some (sent_of line)) ≡ None → IsGrown before line seen (record (next seen) { trace = trace_after (next seen).number seen.trace line })
@@ -235,12 +228,12 @@ trace_grows before line seen s item plain section none =
       section = section_same before line seen s plain;
       order = order_same before line seen s plain;
       number = refl;
-      rows = not_grown _ seen.rows _ (here Subscribers);
-      row_there = not_there _ _ (here Subscribers);
-      trace = ap (λ (n : ℕ). seen.trace ++ option_to_list (option_map (λ (sent : ℕ × List ℕ). record { line = n; station = sent.0; text = sent.1 }) (sent_of line))) (same_number before line seen s) ∙ is_grown _ seen.trace _ (here Trace);
-      trace_there = λ t. is_some-map _ (sent_of line) ∙ good_form (length seen.trace) (is_some (sent_of line)) none;
-      schedule = not_grown _ seen.schedule _ (here Schedule);
-      schedule_there = not_there _ _ (here Schedule);
+      rows = no_gain Subscribers before line (placed_row (place before line)) seen.rows (here Subscribers);
+      trace = record {
+        more = ap (λ (n : ℕ). seen.trace ++ option_to_list (option_map (λ (sent : ℕ × List ℕ). record { line = n; station = sent.0; text = sent.1 }) (sent_of line))) (same_number before line seen s) ∙ is_grown _ seen.trace _ (here Trace);
+        there = λ t. is_some-map _ (sent_of line) ∙ good_form (length seen.trace) (is_some (sent_of line)) none;
+      };
+      schedule = no_gain Schedule before line (placed_event (place before line)) seen.schedule (here Schedule);
     }
 
 event_grows : (before : List (List ℕ)) (line : List ℕ) (seen : Seen) → IsSeen before seen → (is_passed_over line || is_heading line) ≡ false → is_heading line ≡ false → seen.section ≡ Some Schedule → form_reason (length seen.schedule) (is_some (event_of (length seen.rows) line)) ≡ None → IsGrown before line seen (record (next seen) { schedule = schedule_after (length seen.rows) seen.schedule line })
@@ -251,12 +244,12 @@ event_grows before line seen s item plain section none =
       section = section_same before line seen s plain;
       order = order_same before line seen s plain;
       number = refl;
-      rows = not_grown _ seen.rows _ (here Subscribers);
-      row_there = not_there _ _ (here Subscribers);
-      trace = not_grown _ seen.trace _ (here Trace);
-      trace_there = not_there _ _ (here Trace);
-      schedule = ap (λ (l : List Subscriber). seen.schedule ++ option_to_list (event_of (length l) line)) s.rows ∙ is_grown _ seen.schedule _ (here Schedule);
-      schedule_there = λ t. rw (← s.rows) (good_form (length seen.schedule) (is_some (event_of (length seen.rows) line)) none);
+      rows = no_gain Subscribers before line (placed_row (place before line)) seen.rows (here Subscribers);
+      trace = no_gain Trace before line (placed_trace_line (place before line)) seen.trace (here Trace);
+      schedule = record {
+        more = ap (λ (l : List Subscriber). seen.schedule ++ option_to_list (event_of (length l) line)) s.rows ∙ is_grown _ seen.schedule _ (here Schedule);
+        there = λ t. rw (← s.rows) (good_form (length seen.schedule) (is_some (event_of (length seen.rows) line)) none);
+      };
     }
 
 -- ---- all lines

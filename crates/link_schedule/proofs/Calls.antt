@@ -29,7 +29,7 @@ use Rattle.schedule_laws.specs.Promise.{Holds}
 use Rattle.schedule_laws.specs.Setting.{Setting, window, row_of, messages_of, entries_of}
 use Rattle.link_schedule.specs.Told.{settle_answer, reply_answer, down_answer}
 use Rattle.link_schedule.specs.World.{Parts, IsSetting, IsShort, row_in, row_after, IsWindowOf, AreGatewayCalls, AreSubscriberCalls, ArePartsOf}
-use Rattle.link_schedule.proofs.Events.{stays, acknowledges}
+use Rattle.link_schedule.proofs.Events.{window_read, stays, acknowledges}
 use Rattle.schedule_laws.proofs.EachAnswer.{reply_old, reply_new, push_told, push_void, effect_next, effect_repeat, effect_ahead, settle_old, settle_new}
 use Rattle.link_schedule.proofs.Lanes.{settled_is, accepted_length, accepts_down, settles}
 use Rattle.schedule_laws.proofs.Laws.{taken_sent, version_is}
@@ -50,7 +50,7 @@ reply_at w n b low e = rw (lt_false w.sent n low, e) refl
 
 pub replies : (s : Setting) (H : List Turn) (p : Parts) (e : DeviceId) (n : ℕ) (was now : WindowState) → Lawful s H → 1 ≤ n → n ≤ taken_count (journal s e.0 H) → was ≡ get_or p.windows (e.0 - 1) was → now ≡ after_reply was (reply_taken was n) → IsWithin (length s.rows) e.0 → ArePartsOf s H p → (reply_answer n (reply_taken was n) ≡ answer s H (Reply e n)) × ArePartsOf s ((Reply e n, reply_answer n (reply_taken was n)) ∷ H) (record p { windows = set p.windows (e.0 - 1) now })
 replies s H p e n was now L low high at then within m =
-    let i : IsWindowOf s H e.0 was = rw (← at) at (m.windows.at e.0 was within) in
+    let i = window_read s H p e.0 was at within m in
     let sent : n ≤ was.sent = let g = i.greatest in let t = taken_sent s e.0 H L in omega arith in
     let last : was.line.acked ≡ acked e.0 H = ap (λ l. l.acked) i.line in
     by (nat_le n was.line.acked) refl (reply_at was n (nat_le n was.line.acked) sent refl) last
@@ -78,7 +78,7 @@ subscriber_count s H d calls L i = sym (length-map calls effects.Subscriber) ∙
 
 pub downs : (s : Setting) (H : List Turn) (p : Parts) (e : DeviceId) (k : ℕ) (message : DownMessage) (was now : WindowState) → Lawful s H → effect_pushed e.0 Down k H ≡ true → was ≡ get_or p.windows (e.0 - 1) was → now ≡ after_down was message (down_taken was.downs k) → slice_get (effects_of Down (entries_of s e.0)) (k - 1) ≡ Some (effects.Down message) → IsWithin (length s.rows) e.0 → ArePartsOf s H p → (down_answer (down_taken was.downs k) ≡ answer s H (Effect e Down k)) × ArePartsOf s ((Effect e Down k, down_answer (down_taken was.downs k)) ∷ H) (record p { windows = set p.windows (e.0 - 1) now })
 downs s H p e k message was now L on at then got within m =
-    let i : IsWindowOf s H e.0 was = rw (← at) at (m.windows.at e.0 was within) in
+    let i = window_read s H p e.0 was at within m in
     let count = downs_count s H e.0 was L i in
     first count (k == length was.downs + 1) refl
   where

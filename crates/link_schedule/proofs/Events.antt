@@ -1,7 +1,6 @@
 -- Each event keeps the parts of a world.
 use Rattle.std.proofs.Common.{◌≡◌, ◌==◌, ℕ, suc, ◌+◌, ◌-◌, ◌≤◌, ◌<◌, max, Bool, true, false, cond, List, [], ◌∷◌, ◌++◌, length, take, set, get_or, Some, refl, sym, ap, ◌∙◌, subst, arith}
 use Rattle.std.proofs.lemmas.List.{take-take}
-use Rattle.std.proofs.lemmas.List.Sums.{fold-append}
 use Rattle.agent_order.specs.Order.{LineState}
 use Rattle.agent_resend.specs.Window.{WindowState, may_send, with_sent}
 use Rattle.device_types.specs.declared.event.Event.{Event}
@@ -19,7 +18,7 @@ use Rattle.device_types.specs.declared.message.Message.{Message}
 use Rattle.device_types.specs.declared.step.Entry.{Entry}
 use Rattle.device_types.specs.declared.subscriber.DeviceId.{DeviceId}
 use Rattle.device_types.specs.Alone.{entry_of, next_input}
-use Rattle.device_types.specs.Journal.{effects_of, taken_count}
+use Rattle.device_types.specs.Journal.{effects_of}
 use Rattle.device_types.specs.Numbers.{IsWithin}
 use Rattle.device_types.specs.PeerAnswer.{answer_of}
 use Rattle.effect_outbox.specs.Outbox.{LaneNumbers}
@@ -28,8 +27,8 @@ use Rattle.replica_worker.specs.declared.hand.Hand.TheVariants as hands
 use Rattle.session_row.specs.declared.commit.Commit.{Commit}
 use Rattle.session_row.specs.declared.commit.Commit.TheVariants as commit
 use Rattle.session_row.specs.Row.{RowState, Commits}
-use Rattle.schedule_laws.specs.Answer.{look_answer, answer, turn, history, Lawful}
-use Rattle.schedule_laws.specs.Counts.{Turn, Arrival, Held, hand, after_read, commits, acked, accepted, greatest_sent, reply_sent, journal}
+use Rattle.schedule_laws.specs.Answer.{look_answer, answer, Lawful}
+use Rattle.schedule_laws.specs.Counts.{Turn, Arrival, Held, is_written, hand, after_read, commits, acked, accepted, greatest_sent, journal}
 use Rattle.schedule_laws.specs.Counts.Held.{Nothing, Taken, Ready}
 use Rattle.schedule_laws.specs.Input.{message_of, input_of, IsHand}
 use Rattle.schedule_laws.specs.Lists.{AddsMark, Each}
@@ -38,9 +37,9 @@ use Rattle.schedule_laws.specs.Setting.{Setting, row_of, messages_of, entries_to
 use Rattle.link_schedule.specs.Told.{commit_answer}
 use Rattle.link_schedule.specs.World.{Parts, settled_numbers, row_after, hand_of, accepted_effects, IsWindowOf, AreGatewayCalls, AreSubscriberCalls, AreSent, ArePushed, ArePartsOf}
 use Rattle.schedule_laws.proofs.Items.{Each-set, Each-keep}
-use Rattle.schedule_laws.proofs.Laws.{version_is, hand_ok, reply_is}
+use Rattle.schedule_laws.proofs.Laws.{version_is, hand_ok}
 use Rattle.schedule_laws.proofs.Runs.{to_push}
-use Rattle.schedule_laws.proofs.Comparisons.{here, not_here, nor_here, le_true, le_false, lt_true, lt_false}
+use Rattle.schedule_laws.proofs.Comparisons.{here, not_here, nor_here, le_true}
 
 -- ---- events that change no part
 
@@ -52,6 +51,10 @@ accepted_same s H K l d same = rw (same.accepts d l) refl
 
 pub window_same : (s : Setting) (H K : List Turn) (d : ℕ) (w : WindowState) → acked d K ≡ acked d H → greatest_sent d K ≡ greatest_sent d H → accepted d Down K ≡ accepted d Down H → IsWindowOf s H d w → IsWindowOf s K d w
 window_same s H K d w a g c i = record { line = rw a i.line; greatest = rw g i.greatest; downs = rw c i.downs }
+
+-- the window of a device, as it is read
+pub window_read : (s : Setting) (H : List Turn) (p : Parts) (d : ℕ) (w : WindowState) → w ≡ get_or p.windows (d - 1) w → IsWithin (length s.rows) d → ArePartsOf s H p → IsWindowOf s H d w
+window_read s H p d w at within m = rw (← at) at (m.windows.at d w within)
 
 -- the counts are as before, and the hands are others
 pub with_hands : (s : Setting) (H K : List Turn) (p : Parts) (hands : List Hand) → HasSameCounts H K → Each hands s.replicas (λ r held. held ≡ hand_of s (hand r K)) → ArePartsOf s H p → ArePartsOf s K (record p { hands = hands })
@@ -80,7 +83,7 @@ send_told s H e n w i = rw i.line refl
 pub sends : (s : Setting) (H : List Turn) (p : Parts) (e : DeviceId) (n : ℕ) (was now : WindowState) (old new : List Bool) → was ≡ get_or p.windows (e.0 - 1) was → now ≡ with_sent was n → old ≡ get_or p.sent (e.0 - 1) old → AddsMark old new n → IsWithin (length s.rows) e.0 → ArePartsOf s H p → ArePartsOf s ((Send e n, told.Sent) ∷ H) (record p { windows = set p.windows (e.0 - 1) now; sent = set p.sent (e.0 - 1) new })
 sends s H p e n was now old new at then before marks within m =
     let K = (Send e n, told.Sent) ∷ H in
-    let i : IsWindowOf s H e.0 was = rw (← at) at (m.windows.at e.0 was within) in
+    let i = window_read s H p e.0 was at within m in
     record {
       rows = m.rows;
       hands = m.hands;
@@ -152,7 +155,7 @@ acked_line l messages a b e = rw e refl
 pub acknowledges : (s : Setting) (H : List Turn) (p : Parts) (e : DeviceId) (n : ℕ) (was now : WindowState) → was ≡ get_or p.windows (e.0 - 1) was → now ≡ record was { line = record was.line { acked = n } } → acked e.0 H < n → IsWithin (length s.rows) e.0 → ArePartsOf s H p → ArePartsOf s ((Reply e n, told.Acked n) ∷ H) (record p { windows = set p.windows (e.0 - 1) now })
 acknowledges s H p e n was now at then more within m =
     let K = (Reply e n, told.Acked n) ∷ H in
-    let i : IsWindowOf s H e.0 was = rw (← at) at (m.windows.at e.0 was within) in
+    let i = window_read s H p e.0 was at within m in
     let most : max n (acked e.0 H) ≡ n = omega arith in
     record {
       rows = m.rows;
@@ -222,47 +225,39 @@ committed_row s H d what v was row same next =
     with_entry was (entry_held s d what v) (entries_to s d v) (settled_numbers d H) at
     ∙ ap (λ (J : List Entry). let row : RowState = record { journal = J; settled = settled_numbers d H } in row) (grows ∙ ap (λ w. entries_to s d (suc w)) same)
 
+-- it was written or is stale: its row is this, the other rows are as before, and the hand is empty
+written : (s : Setting) (H : List Turn) (p : Parts) (r d : ℕ) (a : EventAnswer) (now : RowState) → is_written a ≡ true → now ≡ row_after s ((Write r, a) ∷ H) d → ((j : ℕ) → (j ≡ d → ⊥) → row_after s ((Write r, a) ∷ H) j ≡ row_after s H j) → IsWithin s.replicas r → IsWithin (length s.rows) d → ArePartsOf s H p → ArePartsOf s ((Write r, a) ∷ H) (record p { rows = set p.rows (d - 1) now; hands = set p.hands (r - 1) hands.Empty })
+written s H p r d a now wrote row others lt ld m =
+    let K = (Write r, a) ∷ H in
+    record {
+      windows = m.windows;
+      gateway = m.gateway;
+      subscriber = m.subscriber;
+      sent = m.sent;
+      pushed = m.pushed;
+      rows = Each-set p.rows (length s.rows) (λ d row. row ≡ row_after s H d) (λ i row. row ≡ row_after s K i) d now m.rows ld row (λ j x ne g. g ∙ sym (others j ne));
+      hands = hands-set s H K p.hands r hands.Empty m.hands lt
+          (rw (here r, wrote) refl)
+          (λ j ne. rw (nor_here r j ne, wrote) refl);
+    }
+
 pub writes : (s : Setting) (H : List Turn) (p : Parts) (r d : ℕ) (what : Arrival) (v : ℕ) (c : Commit) (was now : RowState) → Lawful s H → hand r H ≡ Ready d what v → was ≡ get_or p.rows (d - 1) was → Commits was now v (entry_held s d what v) c → IsWithin s.replicas r → IsWithin (length s.rows) d → ArePartsOf s H p → (commit_answer c ≡ answer s H (Write r)) × ArePartsOf s ((Write r, commit_answer c) ∷ H) (record p { rows = set p.rows (d - 1) now; hands = set p.hands (r - 1) hands.Empty })
 writes s H p r d what v (commit.Committed w) was now L h at k lt ld m =
     let row : was ≡ row_after s H d = at ∙ m.rows.at d was ld in
     let same : v ≡ commits d H = k.0 ∙ ap (λ (x : RowState). length x.journal) row ∙ version_is s d H L in
     let next = (subst (IsHand s H) h (hand_ok s r H L)).3 in
-    let test : (commits d H == v) ≡ true = rw same (here (commits d H)) in
-    let K = (Write r, told.Committed w) ∷ H in (
+    let test : (commits d H == v) ≡ true = rw same (here (commits d H)) in (
       ap told.Committed k.1 ∙ sym (write_told s H r d what v true h lt.1 test),
-      record {
-        windows = m.windows;
-        gateway = m.gateway;
-        subscriber = m.subscriber;
-        sent = m.sent;
-        pushed = m.pushed;
-        rows = Each-set p.rows (length s.rows) (λ d row. row ≡ row_after s H d) (λ i row. row ≡ row_after s K i) d now m.rows ld
-            (rw (h, here d) (k.2 ∙ committed_row s H d what v was row same next))
-            (λ j x ne g. rw (h, not_here d j ne) g);
-        hands = hands-set s H K p.hands r hands.Empty m.hands lt
-            (rw (here r) refl)
-            (λ j ne. rw (nor_here r j ne) refl);
-      },
+      written s H p r d (told.Committed w) now refl
+          (rw (h, here d) (k.2 ∙ committed_row s H d what v was row same next))
+          (λ j ne. rw (h, not_here d j ne) refl) lt ld m,
     )
 writes s H p r d what v (commit.Stale a b) was now L h at k lt ld m =
     let row : was ≡ row_after s H d = at ∙ m.rows.at d was ld in
     let same : b ≡ commits d H = k.2 ∙ ap (λ (x : RowState). length x.journal) row ∙ version_is s d H L in
-    let test : (commits d H == v) ≡ false = let other : commits d H ≡ v → ⊥ = (λ e. k.0 (sym e ∙ sym same ∙ k.2)) in not_here v (commits d H) other in
-    let K = (Write r, told.Stale a b) ∷ H in (
+    let test : (commits d H == v) ≡ false = let other : commits d H ≡ v → ⊥ = (λ e. k.0 (sym e ∙ sym same ∙ k.2)) in not_here v (commits d H) other in (
       (let e : told.Stale a b ≡ told.Stale v (commits d H) = rw (k.1, same) refl in e) ∙ sym (write_told s H r d what v false h lt.1 test),
-      record {
-        windows = m.windows;
-        gateway = m.gateway;
-        subscriber = m.subscriber;
-        sent = m.sent;
-        pushed = m.pushed;
-        rows = Each-set p.rows (length s.rows) (λ d row. row ≡ row_after s H d) (λ i row. row ≡ row_after s K i) d now m.rows ld
-            (k.3 ∙ row)
-            (λ j x ne g. g);
-        hands = hands-set s H K p.hands r hands.Empty m.hands lt
-            (rw (here r) refl)
-            (λ j ne. rw (nor_here r j ne) refl);
-      },
+      written s H p r d (told.Stale a b) now refl (k.3 ∙ row) (λ j ne. refl) lt ld m,
     )
 
 pub write_void : (s : Setting) (H : List Turn) (r : ℕ) (x : Held) → ((d : DeviceId) (v : ℕ) (entry : Entry) → hand_of s x ≡ hands.Ready d v entry → ⊥) → hand r H ≡ x → r ≤ s.replicas → told.VoidHand ≡ answer s H (Write r)

@@ -1,7 +1,6 @@
 -- Events of effects keep the parts of a world.
-use Rattle.std.proofs.Common.{◌≡◌, ◌==◌, ℕ, ◌+◌, ◌-◌, ◌≤◌, ◌<◌, max, Bool, true, false, cond, ◌&&◌, List, [], ◌∷◌, ◌++◌, length, set, get_or, Some, refl, sym, ap, ◌∙◌, arith}
-use Rattle.std.specs.Prelude.{map, nat_le, nat_lt, slice_get}
-use Rattle.std.proofs.lemmas.Grind.{common_steps}
+use Rattle.std.proofs.Common.{◌≡◌, ◌==◌, ℕ, ◌+◌, ◌-◌, max, Bool, true, false, cond, ◌&&◌, List, [], ◌∷◌, ◌++◌, length, set, get_or, Some, refl, sym, ap, ◌∙◌, arith}
+use Rattle.std.specs.Prelude.{map, slice_get}
 use Rattle.std.proofs.lemmas.List.{map-append, take_more, length-take-le}
 use Rattle.std.proofs.lemmas.Option.{get_or_from_slice_get, slice_get_within}
 use Rattle.agent_resend.specs.Window.{WindowState}
@@ -10,25 +9,26 @@ use Rattle.device_types.specs.declared.effect.Effect.{Effect as EffectValue}
 use Rattle.device_types.specs.declared.effect.Effect.TheVariants as effects
 use Rattle.device_types.specs.declared.effect.GwCall.{GwCall}
 use Rattle.device_types.specs.declared.effect.SubCall.{SubCall}
-use Rattle.device_types.specs.declared.event.Event.TheVariants.{Take, Answer, Push, Effect, Settle}
+use Rattle.device_types.specs.declared.event.Event.TheVariants.{Push, Effect, Settle}
 use Rattle.device_types.specs.declared.event.EventAnswer.TheVariants as told
 use Rattle.device_types.specs.declared.event.Lane.{Lane}
 use Rattle.device_types.specs.declared.event.Lane.TheVariants.{Down, Gateway, Subscriber}
 use Rattle.device_types.specs.declared.subscriber.DeviceId.{DeviceId}
-use Rattle.device_types.specs.Journal.{effects_of, pushed_count}
+use Rattle.device_types.specs.Journal.{effects_of}
 use Rattle.device_types.specs.Look.{same_lane}
 use Rattle.device_types.specs.Numbers.{IsWithin}
 use Rattle.effect_outbox.specs.Outbox.{number_on, with_number}
 use Rattle.session_row.specs.Row.{RowState}
-use Rattle.schedule_laws.specs.Answer.{answer, Lawful}
-use Rattle.schedule_laws.specs.Counts.{Turn, accepted, settled, message_sent, effect_pushed, effect_received, journal, commits}
+use Rattle.schedule_laws.specs.Answer.{Lawful}
+use Rattle.schedule_laws.specs.Counts.{Turn, accepted, settled, journal, commits}
+use Rattle.schedule_laws.specs.Lists.{Each}
 use Rattle.schedule_laws.specs.Setting.{Setting, row_of, messages_of, entries_of}
 use Rattle.link_schedule.specs.World.{LaneMarks, MarksOn, Parts, settled_numbers, row_after, accepted_effects, IsWindowOf, AreGatewayCalls, AreSubscriberCalls, ArePushed, ArePartsOf}
-use Rattle.link_schedule.proofs.Events.{window_same}
+use Rattle.link_schedule.proofs.Events.{window_same, window_read}
 use Rattle.schedule_laws.proofs.Items.{Each-set, Each-keep}
-use Rattle.schedule_laws.proofs.Laws.{accepted_bound, received_is}
+use Rattle.schedule_laws.proofs.Laws.{accepted_bound}
 use Rattle.schedule_laws.proofs.Runs.{Begins-length, effects_begin, to_alone}
-use Rattle.schedule_laws.proofs.Comparisons.{here, not_here, le_true, le_false, lt_true, lane_here}
+use Rattle.schedule_laws.proofs.Comparisons.{here, not_here, lane_here}
 
 -- ---- an effect is put on its link
 
@@ -88,10 +88,26 @@ other_device d m e l k v H ne = rw (not_here e.0 d ne) refl
 effects_if : (s : Setting) (H K : List Turn) (d : ℕ) (l : Lane) (xs : List EffectValue) → accepted d l K ≡ accepted d l H → xs ≡ accepted_effects s l H d → xs ≡ accepted_effects s l K d
 effects_if s H K d l xs same e = rw same e
 
+-- so do the parts of the other lanes
+windows_stay : (s : Setting) (H : List Turn) (p : Parts) (e : DeviceId) (l : Lane) (k v : ℕ) → same_lane Down l ≡ false → ArePartsOf s H p → Each p.windows (length s.rows) (IsWindowOf s ((Effect e l k, told.Accepted v) ∷ H))
+windows_stay s H p e l k v not m =
+    let K = (Effect e l k, told.Accepted v) ∷ H in
+    Each-keep p.windows (length s.rows) (IsWindowOf s H) (IsWindowOf s K) m.windows (λ j w g. window_same s H K j w refl refl (other_lane j Down e l k v H not) g)
+
+gateway_stays : (s : Setting) (H : List Turn) (p : Parts) (e : DeviceId) (l : Lane) (k v : ℕ) → same_lane Gateway l ≡ false → ArePartsOf s H p → Each p.gateway (length s.rows) (AreGatewayCalls s ((Effect e l k, told.Accepted v) ∷ H))
+gateway_stays s H p e l k v not m =
+    let K = (Effect e l k, told.Accepted v) ∷ H in
+    Each-keep p.gateway (length s.rows) (AreGatewayCalls s H) (AreGatewayCalls s K) m.gateway (λ j calls g. effects_if s H K j Gateway (map effects.Gateway calls) (other_lane j Gateway e l k v H not) g)
+
+subscriber_stays : (s : Setting) (H : List Turn) (p : Parts) (e : DeviceId) (l : Lane) (k v : ℕ) → same_lane Subscriber l ≡ false → ArePartsOf s H p → Each p.subscriber (length s.rows) (AreSubscriberCalls s ((Effect e l k, told.Accepted v) ∷ H))
+subscriber_stays s H p e l k v not m =
+    let K = (Effect e l k, told.Accepted v) ∷ H in
+    Each-keep p.subscriber (length s.rows) (AreSubscriberCalls s H) (AreSubscriberCalls s K) m.subscriber (λ j calls g. effects_if s H K j Subscriber (map effects.Subscriber calls) (other_lane j Subscriber e l k v H not) g)
+
 pub accepts_down : (s : Setting) (H : List Turn) (p : Parts) (e : DeviceId) (k v : ℕ) (message : DownMessage) (was now : WindowState) → was ≡ get_or p.windows (e.0 - 1) was → now ≡ record was { downs = was.downs ++ message ∷ [] } → k ≡ accepted e.0 Down H + 1 → slice_get (effects_of Down (entries_of s e.0)) (k - 1) ≡ Some (effects.Down message) → IsWithin (length s.rows) e.0 → ArePartsOf s H p → ArePartsOf s ((Effect e Down k, told.Accepted v) ∷ H) (record p { windows = set p.windows (e.0 - 1) now })
 accepts_down s H p e k v message was now at then is got within m =
     let K = (Effect e Down k, told.Accepted v) ∷ H in
-    let i : IsWindowOf s H e.0 was = rw (← at) at (m.windows.at e.0 was within) in
+    let i = window_read s H p e.0 was at within m in
     let more : map effects.Down (was.downs ++ message ∷ []) ≡ accepted_effects s Down K e.0 = map-append effects.Down was.downs (message ∷ []) ∙ ap (λ xs. xs ++ effects.Down message ∷ []) i.downs ∙ accepted_then s H e Down k v (effects.Down message) is got in
     record {
       rows = m.rows;
@@ -101,8 +117,8 @@ accepts_down s H p e k v message was now at then is got within m =
       windows = Each-set p.windows (length s.rows) (IsWindowOf s H) (IsWindowOf s K) e.0 now m.windows within
           (record { line = rw then i.line; greatest = rw then i.greatest; downs = ap (λ (w : WindowState). map effects.Down w.downs) then ∙ more })
           (λ j w ne g. window_same s H K j w refl refl (other_device j Down e Down k v H ne) g);
-      gateway = Each-keep p.gateway (length s.rows) (AreGatewayCalls s H) (AreGatewayCalls s K) m.gateway (λ j calls g. effects_if s H K j Gateway (map effects.Gateway calls) (other_lane j Gateway e Down k v H refl) g);
-      subscriber = Each-keep p.subscriber (length s.rows) (AreSubscriberCalls s H) (AreSubscriberCalls s K) m.subscriber (λ j calls g. effects_if s H K j Subscriber (map effects.Subscriber calls) (other_lane j Subscriber e Down k v H refl) g);
+      gateway = gateway_stays s H p e Down k v refl m;
+      subscriber = subscriber_stays s H p e Down k v refl m;
     }
 
 pub accepts_gateway : (s : Setting) (H : List Turn) (p : Parts) (e : DeviceId) (k v : ℕ) (call : GwCall) (was now : List GwCall) → was ≡ get_or p.gateway (e.0 - 1) was → now ≡ was ++ call ∷ [] → k ≡ accepted e.0 Gateway H + 1 → slice_get (effects_of Gateway (entries_of s e.0)) (k - 1) ≡ Some (effects.Gateway call) → IsWithin (length s.rows) e.0 → ArePartsOf s H p → ArePartsOf s ((Effect e Gateway k, told.Accepted v) ∷ H) (record p { gateway = set p.gateway (e.0 - 1) now })
@@ -114,11 +130,11 @@ accepts_gateway s H p e k v call was now at then is got within m =
       hands = m.hands;
       sent = m.sent;
       pushed = m.pushed;
-      windows = Each-keep p.windows (length s.rows) (IsWindowOf s H) (IsWindowOf s K) m.windows (λ j w g. window_same s H K j w refl refl (other_lane j Down e Gateway k v H refl) g);
+      windows = windows_stay s H p e Gateway k v refl m;
       gateway = Each-set p.gateway (length s.rows) (AreGatewayCalls s H) (AreGatewayCalls s K) e.0 now m.gateway within
           (ap (map effects.Gateway) then ∙ map-append effects.Gateway was (call ∷ []) ∙ ap (λ xs. xs ++ effects.Gateway call ∷ []) i ∙ accepted_then s H e Gateway k v (effects.Gateway call) is got)
           (λ j calls ne g. effects_if s H K j Gateway (map effects.Gateway calls) (other_device j Gateway e Gateway k v H ne) g);
-      subscriber = Each-keep p.subscriber (length s.rows) (AreSubscriberCalls s H) (AreSubscriberCalls s K) m.subscriber (λ j calls g. effects_if s H K j Subscriber (map effects.Subscriber calls) (other_lane j Subscriber e Gateway k v H refl) g);
+      subscriber = subscriber_stays s H p e Gateway k v refl m;
     }
 
 pub accepts_subscriber : (s : Setting) (H : List Turn) (p : Parts) (e : DeviceId) (k v : ℕ) (call : SubCall) (was now : List SubCall) → was ≡ get_or p.subscriber (e.0 - 1) was → now ≡ was ++ call ∷ [] → k ≡ accepted e.0 Subscriber H + 1 → slice_get (effects_of Subscriber (entries_of s e.0)) (k - 1) ≡ Some (effects.Subscriber call) → IsWithin (length s.rows) e.0 → ArePartsOf s H p → ArePartsOf s ((Effect e Subscriber k, told.Accepted v) ∷ H) (record p { subscriber = set p.subscriber (e.0 - 1) now })
@@ -130,14 +146,12 @@ accepts_subscriber s H p e k v call was now at then is got within m =
       hands = m.hands;
       sent = m.sent;
       pushed = m.pushed;
-      windows = Each-keep p.windows (length s.rows) (IsWindowOf s H) (IsWindowOf s K) m.windows (λ j w g. window_same s H K j w refl refl (other_lane j Down e Subscriber k v H refl) g);
-      gateway = Each-keep p.gateway (length s.rows) (AreGatewayCalls s H) (AreGatewayCalls s K) m.gateway (λ j calls g. effects_if s H K j Gateway (map effects.Gateway calls) (other_lane j Gateway e Subscriber k v H refl) g);
+      windows = windows_stay s H p e Subscriber k v refl m;
+      gateway = gateway_stays s H p e Subscriber k v refl m;
       subscriber = Each-set p.subscriber (length s.rows) (AreSubscriberCalls s H) (AreSubscriberCalls s K) e.0 now m.subscriber within
           (ap (map effects.Subscriber) then ∙ map-append effects.Subscriber was (call ∷ []) ∙ ap (λ xs. xs ++ effects.Subscriber call ∷ []) i ∙ accepted_then s H e Subscriber k v (effects.Subscriber call) is got)
           (λ j calls ne g. effects_if s H K j Subscriber (map effects.Subscriber calls) (other_device j Subscriber e Subscriber k v H ne) g);
     }
-
--- ---- a message or an answer arrives
 
 -- ---- an acknowledgement arrives
 

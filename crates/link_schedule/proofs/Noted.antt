@@ -1,18 +1,33 @@
 -- A world that has noted an event.
-use Rattle.std.proofs.Common.{◌≡◌, ℕ, ◌-◌, ◌<◌, List, [], ◌∷◌, ◌++◌, set, true, refl, sym, subst}
+use Rattle.std.proofs.Common.{◌≡◌, ℕ, ◌-◌, List, [], ◌∷◌, ◌++◌, length, set, true, sym, subst}
 use Rattle.device_types.specs.declared.event.Event.{Event}
 use Rattle.device_types.specs.declared.event.EventAnswer.{EventAnswer}
-use Rattle.device_types.specs.declared.event.EventAnswer.TheVariants as told
+use Rattle.device_types.specs.declared.event.Lane.{Lane}
+use Rattle.device_types.specs.Numbers.{IsWithin}
 use Rattle.replica_worker.specs.declared.hand.Hand.{Hand}
-use Rattle.schedule_laws.specs.Answer.{on_replica, answer, history, IsEvent}
-use Rattle.schedule_laws.specs.Counts.{hand}
+use Rattle.schedule_laws.specs.Answer.{answer, history, IsEvent}
+use Rattle.schedule_laws.specs.Counts.{hand, effect_pushed}
 use Rattle.schedule_laws.specs.Promise.{is_void}
-use Rattle.schedule_laws.specs.Setting.{Setting}
 use Rattle.link_schedule.specs.World.{Parts, WorldState, ArePartsOf, IsWorld, Answers}
-use Rattle.schedule_laws.proofs.Comparisons.{le_false}
 use Rattle.link_schedule.proofs.Events.{stays}
 use Rattle.schedule_laws.proofs.Promises.{is_quiet, quiet_stays, void_stays}
 use Rattle.link_schedule.proofs.Worlds.{goes_on, answered}
+
+-- the event is one of the setting, and comes to this answer, with these parts after it
+pub record ComesTo (w : WorldState) (e : Event) (a : EventAnswer) (p : Parts) : Type 0 where
+  pub event : IsEvent w.setting e
+  pub given : a ≡ answer w.setting (history w.setting w.events) e
+  pub parts : ArePartsOf w.setting ((e, a) ∷ history w.setting w.events) p
+
+-- what holds of the world as the caller saw it
+pub event_in : (old w : WorldState) (e : Event) → w ≡ old → IsEvent old.setting e → IsEvent w.setting e
+event_in old w e same i = subst (λ (x : WorldState). IsEvent x.setting e) (sym same) i
+
+pub device_in : (old w : WorldState) (d : ℕ) → w ≡ old → IsWithin (length old.setting.rows) d → IsWithin (length w.setting.rows) d
+device_in old w d same within = subst (λ (x : WorldState). IsWithin (length x.setting.rows) d) (sym same) within
+
+pub on_link_in : (old w : WorldState) (d : ℕ) (l : Lane) (k : ℕ) → w ≡ old → effect_pushed d l k (history old.setting old.events) ≡ true → effect_pushed d l k (history w.setting w.events) ≡ true
+on_link_in old w d l k same on = subst (λ (x : WorldState). effect_pushed d l k (history x.setting x.events) ≡ true) (sym same) on
 
 -- what it is, whatever the list that has the event at its end
 pub notes : (w : WorldState) (e : Event) (a : EventAnswer) (p : Parts) (es : List Event) → es ≡ w.events ++ e ∷ [] → IsWorld w → IsEvent w.setting e → a ≡ answer w.setting (history w.setting w.events) e → ArePartsOf w.setting ((e, a) ∷ history w.setting w.events) p → IsWorld (record { setting = w.setting; events = es; parts = p })

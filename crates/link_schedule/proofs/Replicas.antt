@@ -54,6 +54,10 @@ what_held s H p r was d input at held within m =
     let is : was ≡ hand_of s (hand r H) = at ∙ m.hands.at r was within in
     with_input s (hand r H) d input (subst (IsWith d input) is (with_held was d input held))
 
+-- a hand that is looked at twice
+pub same_hand : (s : Setting) (H : List Turn) (p : Parts) (r : ℕ) (one two : Hand) → one ≡ get_or p.hands (r - 1) one → two ≡ get_or p.hands (r - 1) two → IsWithin s.replicas r → ArePartsOf s H p → one ≡ two
+same_hand s H p r one two first second within m = first ∙ m.hands.at r one within ∙ sym (second ∙ m.hands.at r two within)
+
 is_asked : (s : Setting) (H : List Turn) (d : ℕ) (what : Arrival) → IsSetting s → Lawful s H → IsArrival H d what → IsAsked (asked_of (input_of s d what))
 is_asked s H d (TheMessage n) is L i =
     let b = sent_bound s d n H L i.1 in

@@ -1,13 +1,12 @@
-use Rattle.std.proofs.Common.{◌≡◌, false, refl, sym, ◌∙◌, subst}
+use Rattle.std.proofs.Common.{◌≡◌, false, refl, sym, ◌∙◌}
 use Rattle.device_types.specs.declared.event.Event.TheVariants.{Effect}
 use Rattle.device_types.specs.declared.event.EventAnswer.TheVariants as told
-use Rattle.schedule_laws.specs.Answer.{IsEvent, history}
+use Rattle.schedule_laws.specs.Answer.{history}
 use Rattle.schedule_laws.specs.Counts.{effect_pushed}
 use Rattle.link_schedule.specs.View.{view_of}
-use Rattle.link_schedule.specs.World.{WorldState}
 use Rattle.link_schedule.proofs.Contents.{marked}
 use Rattle.schedule_laws.proofs.EachAnswer.{effect_void}
-use Rattle.link_schedule.proofs.Noted.{notes_void}
+use Rattle.link_schedule.proofs.Noted.{event_in, notes_void}
 use Rattle.link_schedule.proofs.world.World.effect.Goals as goal
 use Rattle.link_schedule.proofs.world.World.effect.Goals.{After-has}
 
@@ -15,7 +14,7 @@ use Rattle.link_schedule.proofs.world.World.effect.Goals.{After-has}
 on_link : (c : After-has) → effect_pushed c.args.d.0 c.args.lane c.args.k (history (view_of c.self.inside).setting (view_of c.self.inside).events) ≡ c.has.result
 on_link c =
     let w = view_of c.self.inside in
-    let i = subst (λ (x : WorldState). IsEvent x.setting (Effect c.args.d c.args.lane c.args.k)) (sym c.self.view_is) c.requires in
+    let i = event_in c.args.self.now w (Effect c.args.d c.args.lane c.args.k) c.self.view_is c.requires in
     sym (marked w.setting (history w.setting w.events) w.parts c.args.d.0 c.args.lane c.args.k c.index.result.now c.index.ensures i.0 i.1 c.self.invariant.world.parts) ∙ sym c.has.ensures
 
 pub invariant_of-self-then-not-has : goal.invariant_of-self-then-not-has
@@ -23,7 +22,7 @@ invariant_of-self-then-not-has c =
     let w = view_of c.self.inside in
     let H = history w.setting w.events in
     let e = Effect c.args.d c.args.lane c.args.k in
-    let i = subst (λ (x : WorldState). IsEvent x.setting e) (sym c.self.view_is) c.requires in
+    let i = event_in c.args.self.now w e c.self.view_is c.requires in
     let off : effect_pushed c.args.d.0 c.args.lane c.args.k H ≡ false = on_link (goal.at.invariant_of-self-then-not-has c).After-has ∙ c.if-not-has.true in
     let void = effect_void w.setting H c.args.d c.args.lane c.args.k off in
     record { charter = c.self.invariant.charter; world = notes_void w e told.VoidLink c.noted.new.events.items (rw c.in_ok-reserve.ensures.items at c.noted.ensures.events) c.self.invariant.world i void refl }

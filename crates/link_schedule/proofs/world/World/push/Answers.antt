@@ -1,13 +1,12 @@
-use Rattle.std.proofs.Common.{sym, subst, refl}
+use Rattle.std.proofs.Common.{refl}
 use Rattle.device_types.specs.declared.event.Event.TheVariants.{Push}
 use Rattle.device_types.specs.declared.event.EventAnswer.TheVariants as told
 use Rattle.session_store.specs.Rows.{opening_row}
-use Rattle.schedule_laws.specs.Answer.{IsEvent, history}
+use Rattle.schedule_laws.specs.Answer.{history}
 use Rattle.link_schedule.specs.View.{view_of}
-use Rattle.link_schedule.specs.World.{WorldState}
 use Rattle.link_schedule.proofs.Calls.{in_row_told, in_row_void}
 use Rattle.link_schedule.proofs.Lanes.{pushes}
-use Rattle.link_schedule.proofs.Noted.{notes, notes_void}
+use Rattle.link_schedule.proofs.Noted.{event_in, notes, notes_void}
 use Rattle.link_schedule.proofs.world.World.push.Goals as goal
 
 pub invariant_of-self-then-not-branch : goal.invariant_of-self-then-not-branch
@@ -16,7 +15,7 @@ invariant_of-self-then-not-branch c =
     let H = history w.setting w.events in
     let is = c.self.invariant.world in
     let e = Push c.args.d c.args.lane c.args.k in
-    let i = subst (λ (x : WorldState). IsEvent x.setting e) (sym c.self.view_is) c.requires in
+    let i = event_in c.args.self.now w e c.self.view_is c.requires in
     let row = is.parts.rows.at c.args.d.0 opening_row i.0 in
     let void = in_row_void w.setting H c.args.d c.args.lane c.args.k _ row (λ there. let t = c.in_ok-is_in_row.ensures.1 there in cc) in
     record { charter = c.self.invariant.charter; world = notes_void w e told.VoidOutbox c.noted.new.events.items (rw c.in_ok-reserve.ensures.items at c.noted.ensures.events) is i void refl }
@@ -27,7 +26,7 @@ invariant_of-self-2 c =
     let H = history w.setting w.events in
     let is = c.self.invariant.world in
     let e = Push c.args.d c.args.lane c.args.k in
-    let i = subst (λ (x : WorldState). IsEvent x.setting e) (sym c.self.view_is) c.requires in
+    let i = event_in c.args.self.now w e c.self.view_is c.requires in
     let row = is.parts.rows.at c.args.d.0 opening_row i.0 in
     let pushed = in_row_told w.setting H c.args.d c.args.lane c.args.k _ row (c.in_ok-is_in_row.ensures.0 c.if-not-branch.false) in
     record {

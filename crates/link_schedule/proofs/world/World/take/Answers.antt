@@ -1,31 +1,32 @@
-use Rattle.std.proofs.Common.{◌≡◌, ◌-◌, true, false, cond, get_or, refl, sym, ap, ◌∙◌, subst}
+use Rattle.std.proofs.Common.{◌≡◌, ◌-◌, true, false, cond, get_or, refl, sym, ap, ◌∙◌}
 use Rattle.device_types.specs.declared.event.Event.TheVariants.{Take}
 use Rattle.device_types.specs.declared.event.EventAnswer.TheVariants as told
 use Rattle.device_types.specs.declared.input.Input.TheVariants as inputs
 use Rattle.replica_worker.specs.declared.hand.Hand.TheVariants as hands
-use Rattle.schedule_laws.specs.Answer.{answer, history, IsEvent}
+use Rattle.schedule_laws.specs.Answer.{answer, history}
 use Rattle.schedule_laws.specs.Counts.{message_sent}
 use Rattle.schedule_laws.specs.Input.{message_of, no_message}
 use Rattle.schedule_laws.specs.Lists.{has}
 use Rattle.link_schedule.specs.View.{view_of}
-use Rattle.link_schedule.specs.World.{WorldState, IsWindowOf}
-use Rattle.link_schedule.proofs.Events.{takes}
+use Rattle.link_schedule.specs.World.{IsWindowOf}
+use Rattle.link_schedule.proofs.Events.{window_read, takes}
 use Rattle.schedule_laws.proofs.EachAnswer.{take_told, no_replica}
 use Rattle.schedule_laws.proofs.Laws.{sent_bound}
-use Rattle.link_schedule.proofs.Noted.{notes_void, notes_hand}
+use Rattle.link_schedule.proofs.Noted.{event_in, notes_void, notes_hand}
 use Rattle.link_schedule.proofs.world.World.take.Goals as goal
 use Rattle.link_schedule.proofs.world.World.take.Goals.{After-has, After-index-2}
 
 on_link : (c : After-has) → message_sent c.args.d.0 c.args.n (history (view_of c.self.inside).setting (view_of c.self.inside).events) ≡ c.has.result
 on_link c =
-    let i = subst (λ (v : WorldState). IsEvent v.setting (Take c.args.r c.args.d c.args.n)) (sym c.self.view_is) c.requires in
+    let w = view_of c.self.inside in
+    let i = event_in c.args.self.now w (Take c.args.r c.args.d c.args.n) c.self.view_is c.requires in
     sym (c.has.ensures ∙ ap (has c.args.n) c.index.ensures ∙ c.self.invariant.world.parts.sent.at c.args.d.0 c.index.result.now i.1 c.args.n i.2)
 
 pub invariant_of-self-then-r-self : goal.invariant_of-self-then-r-self
 invariant_of-self-then-r-self c =
     let w = view_of c.self.inside in
     let e = Take c.args.r c.args.d c.args.n in
-    let i = subst (λ (v : WorldState). IsEvent v.setting e) (sym c.self.view_is) c.requires in
+    let i = event_in c.args.self.now w e c.self.view_is c.requires in
     record {
       charter = c.self.invariant.charter;
       world = notes_void w e told.VoidReplica _ (rw c.in_ok-reserve.ensures.items at c.noted.ensures.events) c.self.invariant.world i (no_replica w.setting c.args.r _ c.if-r-self.true) refl;
@@ -36,7 +37,7 @@ invariant_of-self-then-not-has c =
     let w = view_of c.self.inside in
     let H = history w.setting w.events in
     let e = Take c.args.r c.args.d c.args.n in
-    let i = subst (λ (v : WorldState). IsEvent v.setting e) (sym c.self.view_is) c.requires in
+    let i = event_in c.args.self.now w e c.self.view_is c.requires in
     let none : message_sent c.args.d.0 c.args.n H ≡ false = on_link (goal.at.invariant_of-self-then-not-has c).After-has ∙ c.if-not-has.true in
     let given : told.VoidLink ≡ answer w.setting H e = sym (take_told w.setting H c.args.r c.args.d c.args.n c.if-r-self.false ∙ ap (λ b. cond b told.Taken told.VoidLink) none) in
     record {
@@ -46,8 +47,9 @@ invariant_of-self-then-not-has c =
 
 window_at : (c : After-index-2) → IsWindowOf (view_of c.self.inside).setting (history (view_of c.self.inside).setting (view_of c.self.inside).events) c.args.d.0 c.index-2.result.now
 window_at c =
-    let i = subst (λ (v : WorldState). IsEvent v.setting (Take c.args.r c.args.d c.args.n)) (sym c.self.view_is) c.requires in
-    rw (← c.index-2.ensures) at (c.self.invariant.world.parts.windows.at c.args.d.0 c.index-2.result.now i.1)
+    let w = view_of c.self.inside in
+    let i = event_in c.args.self.now w (Take c.args.r c.args.d c.args.n) c.self.view_is c.requires in
+    window_read w.setting (history w.setting w.events) w.parts c.args.d.0 c.index-2.result.now c.index-2.ensures i.1 c.self.invariant.world.parts
 
 pub message_at-requires-clause-within : goal.message_at-requires-clause-within
 message_at-requires-clause-within c =
@@ -63,7 +65,7 @@ invariant_of-self-2 c =
     let w = view_of c.self.inside in
     let H = history w.setting w.events in
     let e = Take c.args.r c.args.d c.args.n in
-    let i = subst (λ (v : WorldState). IsEvent v.setting e) (sym c.self.view_is) c.requires in
+    let i = event_in c.args.self.now w e c.self.view_is c.requires in
     let on : message_sent c.args.d.0 c.args.n H ≡ true = on_link (goal.at.invariant_of-self-2 c).After-has ∙ c.if-not-has.false in
     let given : told.Taken ≡ answer w.setting H e = sym (take_told w.setting H c.args.r c.args.d c.args.n c.if-r-self.false ∙ ap (λ b. cond b told.Taken told.VoidLink) on) in
     let window = window_at (goal.at.invariant_of-self-2 c).After-index-2 in

@@ -2,15 +2,17 @@ use Rattle.std.proofs.Common.{◌≡◌, ◌-◌, ◌∷◌, set, refl, sym, ◌
 use Rattle.device_types.specs.declared.event.Event.TheVariants.{Write}
 use Rattle.device_types.specs.declared.event.EventAnswer.TheVariants as told
 use Rattle.replica_worker.specs.declared.hand.Hand.{Hand}
+use Rattle.replica_worker.specs.declared.hand.Hand.TheVariants as hands
 use Rattle.schedule_laws.specs.Answer.{history}
 use Rattle.schedule_laws.specs.Counts.{hand}
 use Rattle.link_schedule.specs.Told.{commit_answer}
 use Rattle.link_schedule.specs.View.{view_of}
 use Rattle.link_schedule.specs.World.{hand_of, ArePartsOf}
 use Rattle.link_schedule.proofs.Events.{write_void}
-use Rattle.link_schedule.proofs.Noted.{notes, notes_void, gives}
+use Rattle.link_schedule.proofs.Noted.{ComesTo, notes, notes_void, gives}
 use Rattle.link_schedule.proofs.Replicas.{may_write, writes_held}
 use Rattle.link_schedule.proofs.world.World.write.Goals as goal
+use Rattle.link_schedule.proofs.world.World.write.Goals.{In_ok-commit}
 
 pub invariant_of-self-in_default : goal.invariant_of-self-in_default
 invariant_of-self-in_default c =
@@ -32,27 +34,28 @@ written-requires-clause-may c =
     let is = c.self.invariant.world in
     may_write w.setting (history w.setting w.events) w.parts c.args.r c.index_mut.result.now c.self.inside.store.charter is.setting is.lawful c.index_mut.ensures.value c.self.invariant.charter (c.requires.0, c.if-r-self.false) is.parts
 
+was_written : (c : In_ok-commit) → let w = view_of c.self.inside in
+    ComesTo w (Write c.args.r) (commit_answer c.in_ok-commit.commit) (record w.parts { rows = c.written.new.store.rows; hands = set w.parts.hands (c.args.r - 1) hands.Empty })
+was_written c =
+    let w = view_of c.self.inside in
+    let is = c.self.invariant.world in
+    let both = writes_held w.setting (history w.setting w.events) w.parts c.args.r c.index_mut.result.now c.self.inside.store.charter c.written.new.store c.in_ok-commit.commit is.lawful c.index_mut.ensures.value c.in_ok-commit.ensures.store (c.requires.0, c.if-r-self.false) is.parts in
+    record { event = c.requires; given = both.0; parts = both.1 }
+
 pub invariant_of-self-2 : goal.invariant_of-self-2
 invariant_of-self-2 c =
     let w = view_of c.self.inside in
-    let H = history w.setting w.events in
-    let is = c.self.invariant.world in
     let e = Write c.args.r in
-    let commit = c.in_ok-commit.commit in
-    let new = c.written.new.store in
-    let both = writes_held w.setting H w.parts c.args.r c.index_mut.result.now c.self.inside.store.charter new commit is.lawful c.index_mut.ensures.value c.in_ok-commit.ensures.store (c.requires.0, c.if-r-self.false) is.parts in
+    let a = commit_answer c.in_ok-commit.commit in
+    let made = was_written (goal.at.invariant_of-self-2 c).In_ok-commit in
     record {
       charter = c.written.ensures.charter ∙ c.self.invariant.charter;
-      world = notes w e (commit_answer commit) _ _ (rw c.in_ok-reserve.ensures.items at c.noted-2.ensures.events) is c.requires both.0
-          (subst (λ (h : Hand). ArePartsOf w.setting ((e, commit_answer commit) ∷ H) (record w.parts { rows = new.rows; hands = set w.parts.hands (c.args.r - 1) h })) (sym c.in_ok-commit.ensures.empty) both.1);
+      world = notes w e a _ _ (rw c.in_ok-reserve.ensures.items at c.noted-2.ensures.events) c.self.invariant.world made.event made.given
+          (subst (λ (h : Hand). ArePartsOf w.setting ((e, a) ∷ history w.setting w.events) (record w.parts { rows = c.written.new.store.rows; hands = set w.parts.hands (c.args.r - 1) h })) (sym c.in_ok-commit.ensures.empty) made.parts);
     }
 
 pub returns-clause-ok : goal.returns-clause-ok
 returns-clause-ok c =
     let w = view_of c.self.inside in
-    let H = history w.setting w.events in
-    let is = c.self.invariant.world in
-    let e = Write c.args.r in
-    let new = c.written.new.store in
-    let both = writes_held w.setting H w.parts c.args.r c.index_mut.result.now c.self.inside.store.charter new c.in_ok-commit.commit is.lawful c.index_mut.ensures.value c.in_ok-commit.ensures.store (c.requires.0, c.if-r-self.false) is.parts in
-    gives c.args.self.now w e c.noted-2.result _ _ c.self.view_is (rw c.in_ok-reserve.ensures.items at c.noted-2.ensures.events) (c.noted-2.ensures.answer ∙ c.commit_answer.ensures ∙ both.0)
+    let made = was_written (goal.at.returns-clause-ok c).In_ok-commit in
+    gives c.args.self.now w (Write c.args.r) c.noted-2.result _ _ c.self.view_is (rw c.in_ok-reserve.ensures.items at c.noted-2.ensures.events) (c.noted-2.ensures.answer ∙ c.commit_answer.ensures ∙ made.given)
