@@ -1,6 +1,6 @@
 //! The IEs of each kind of message, read from their octets.
 
-ghost use Rattle.std.specs.Prelude.{◌≡◌, IfSome};
+ghost use Rattle.std.specs.Prelude.{IfSome};
 ghost use Rattle.s1ap_messages.specs.declared.tables.MessageKind.TheVariants as kind;
 ghost use Rattle.s1ap_messages.specs.Usual.{AreAllFieldsOf, AreFieldsOf, BeginsAs};
 

@@ -1,6 +1,6 @@
 //! Octets that are written one behind another.
 
-ghost use Rattle.std.specs.Prelude.{◌≡◌, ◌+◌, ◌-◌, ◌*◌, ◌^◌, ◌<◌, ◌≤◌, ◌∷◌, [], ◌++◌, IfOk, IfSome, OnOk, length, take, drop};
+ghost use Rattle.std.specs.Prelude.{◌≡◌, ◌+◌, ◌-◌, ◌*◌, ◌^◌, ◌<◌, ◌≤◌, ◌∷◌, ◌++◌, IfOk, IfSome, OnOk, length, take, drop};
 ghost use Rattle.s1ap_ies.specs.Names as named;
 ghost use Rattle.s1ap_messages.specs.Messages.{rows_of};
 ghost use Rattle.s1ap_messages.specs.Usual.{beginning, count_octets, counted, least_octets, number_octets};
