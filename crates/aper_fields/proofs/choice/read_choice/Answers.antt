@@ -1,3 +1,4 @@
+-- The index of a CHOICE is read exactly behind its extension bit, as reading the two from left to right is exact.
 use Rattle.aper_fields.proofs.Formats.{gives_exactly}
 use Rattle.aper_fields.specs.SequenceReading.{choice_at}
 use Rattle.aper_fields.specs.Sequence.{choice_in}

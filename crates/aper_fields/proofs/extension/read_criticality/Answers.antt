@@ -1,3 +1,4 @@
+-- A criticality is read exactly: two bits, of which the number 3 is refused.
 use Rattle.aper_fields.proofs.Formats.{gives_exactly}
 use Rattle.aper_fields.specs.SequenceReading.{criticality_at}
 use Rattle.aper_fields.specs.Sequence.{criticality_in}

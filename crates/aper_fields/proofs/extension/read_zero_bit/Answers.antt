@@ -1,3 +1,4 @@
+-- A bit that has to be 0 is read exactly, and refused for the given reason where it is 1.
 use Rattle.aper_fields.proofs.Formats.{gives_exactly}
 use Rattle.aper_fields.specs.SequenceReading.{zero_bit_at}
 use Rattle.aper_fields.specs.Sequence.{zero_bit_in}

@@ -1,3 +1,4 @@
+-- At each turn: passing over the entries that are left, from where the reader is, gives what passing over all of them from the first gives.
 use Rattle.std.proofs.Common.{◌≡◌}
 use Rattle.aper_fields.specs.SequenceReading.{entry_at, skipped_at}
 use Rattle.aper_fields.proofs.extension.skip_entries.Given as goal

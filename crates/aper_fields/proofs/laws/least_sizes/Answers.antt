@@ -1,3 +1,4 @@
+-- So many bits or octets hold a number exactly where they are no fewer than it takes; of several octets the first is not 0.
 use Rattle.aper_fields.proofs.Counts.{octet_count_le, octet_count_back, octet_count_first}
 use Rattle.aper_fields.proofs.Widths.{width_below, width_back}
 use Rattle.aper_fields.proofs.laws.least_sizes.Goals as goal

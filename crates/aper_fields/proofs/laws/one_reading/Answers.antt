@@ -1,3 +1,4 @@
+-- Reading from left to right is exact for each piece, so two readings of a piece at one place agree in value, refusal and the place behind it.
 use Rattle.aper_fields.specs.Reading.{number_at, length_at, fixed_octets_at, octet_string_at, fixed_bits_at, enumerated_at, open_at}
 use Rattle.aper_fields.specs.Format.{number_in, length_in, fixed_octets_in, octet_string_in, fixed_bits_in, enumerated_in, open_in}
 use Rattle.aper_fields.proofs.Formats.{one_reading_lem}

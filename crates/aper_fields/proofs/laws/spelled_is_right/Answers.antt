@@ -1,3 +1,4 @@
+-- A value of a sound ASN.1 type that any run spells is in its range, and its strings are octets.
 use Rattle.aper_fields.proofs.Least.{least}
 use Rattle.aper_fields.proofs.laws.spelled_is_right.Goals as goal
 

@@ -1,3 +1,4 @@
+-- Each piece that is written is read back, as its run spells it and each spelling is read; so is an open type, and one that is written round no bits.
 use Rattle.std.proofs.Common.{refl}
 use Rattle.aper_fields.specs.Run.{number_run, length_run, fixed_octets_run, octet_string_run, fixed_bits_run, enumerated_run}
 use Rattle.aper_fields.proofs.ExactNumbers.{number_exact}

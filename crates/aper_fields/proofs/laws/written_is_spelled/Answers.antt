@@ -1,3 +1,4 @@
+-- The run with which a value of a sound ASN.1 type in its range is written spells that value, wherever the run begins.
 use Rattle.aper_fields.proofs.Spelled.{spelled}
 use Rattle.aper_fields.proofs.laws.written_is_spelled.Goals as goal
 

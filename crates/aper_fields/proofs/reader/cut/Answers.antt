@@ -1,3 +1,4 @@
+-- The first octets of a slice are the first that its bits spell, as each octet is below 256.
 use Rattle.std.proofs.Common.{sym, ◌∙◌, arith}
 use Rattle.aper_fields.proofs.Packed.{octets_of-bits_of}
 use Rattle.aper_fields.proofs.reader.cut.Goals as goal

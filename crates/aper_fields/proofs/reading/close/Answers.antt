@@ -1,3 +1,4 @@
+-- A container is closed exactly: where nothing was read of it, by an octet of zeros and the end behind it, else by the end alone.
 use Rattle.std.proofs.Common.{Ok, rules}
 use Rattle.aper_fields.specs.Reading.{close_at}
 use Rattle.aper_fields.proofs.Containers.{close_reads}

@@ -1,3 +1,4 @@
+-- The end of a container is exact: refused for its padding, or for octets behind that, else found where only the padding is left.
 use Rattle.std.proofs.Common.{Ok, Err, rules}
 use Rattle.aper_fields.specs.Reading.{end_at}
 use Rattle.aper_fields.proofs.Containers.{end_reads}

@@ -1,3 +1,4 @@
+-- A length that begins where an octet begins ends where one ends: it takes 1 and 7 bits, or 1, 1 and 14.
 use Rattle.std.proofs.Common.{ap, arith}
 use Rattle.aper_fields.proofs.Steps.{bits_at-offset}
 use Rattle.aper_fields.proofs.reading.length_octets.Goals as goal

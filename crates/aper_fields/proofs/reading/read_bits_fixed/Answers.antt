@@ -1,3 +1,4 @@
+-- A bit string of a fixed size is read exactly: up to 16 bits where the reader stands, more bits behind padding.
 use Rattle.std.proofs.Common.{Ok, rules}
 use Rattle.aper_fields.specs.Reading.{fixed_bits_at}
 use Rattle.aper_fields.specs.Format.{fixed_bits_in}

@@ -1,3 +1,4 @@
+-- A value of an enumeration is read exactly, with an extension mark and without: the index of a root, or behind an extension bit 1 one beyond the roots.
 use Rattle.std.proofs.Common.{Ok, arith, rules}
 use Rattle.aper_fields.specs.Reading.{enumerated_at}
 use Rattle.aper_fields.specs.Format.{enumerated_in}

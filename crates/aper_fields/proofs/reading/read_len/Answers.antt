@@ -1,3 +1,4 @@
+-- A general length is read exactly: refused for its padding, or as the octets behind that are, else given.
 use Rattle.std.proofs.Common.{Ok, rules}
 use Rattle.aper_fields.specs.Reading.{length_at}
 use Rattle.aper_fields.specs.Format.{length_in}

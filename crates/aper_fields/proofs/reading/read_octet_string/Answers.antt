@@ -1,3 +1,4 @@
+-- An octet string of free size is read exactly: refused for its padding, its length, a length above the most or octets that are not there, else given.
 use Rattle.std.proofs.Common.{Ok, Err, rules}
 use Rattle.aper_fields.specs.Reading.{octet_string_at}
 use Rattle.aper_fields.specs.Format.{octet_string_in}

@@ -1,3 +1,4 @@
+-- An octet string of a fixed size is read exactly: refused for its padding or for octets that are not there, else given.
 use Rattle.std.proofs.Common.{Ok, rules}
 use Rattle.aper_fields.specs.Reading.{fixed_octets_at}
 use Rattle.aper_fields.specs.Format.{fixed_octets_in}

@@ -1,3 +1,4 @@
+-- An open type is read exactly: refused for its padding, its length or octets that are not there, else given as a container of its own.
 use Rattle.std.proofs.Common.{Ok, Err, rules}
 use Rattle.aper_fields.specs.Reading.{content_at, open_at}
 use Rattle.aper_fields.specs.Format.{open_in}

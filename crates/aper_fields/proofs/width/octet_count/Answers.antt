@@ -1,3 +1,4 @@
+-- A number that is not 0 fits in the octets that its bits take.
 use Rattle.std.proofs.Common.{arith}
 use Rattle.aper_fields.proofs.Widths.{octets_hold}
 use Rattle.aper_fields.proofs.width.octet_count.Goals as goal

@@ -1,3 +1,4 @@
+-- The octet that is put behind the others has the bits of the number in front, and its other bits are free.
 use Rattle.aper_fields.proofs.Fill.{octet_more}
 use Rattle.aper_fields.proofs.writer.add_octet.Goals as goal
 

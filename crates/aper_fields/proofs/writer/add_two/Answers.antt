@@ -1,3 +1,4 @@
+-- The quotient and the remainder of a number below 2^16 by 256 are two more octets that hold its sixteen bits, with no bit free.
 use Rattle.std.proofs.Common.{◌≡◌, ◌%◌, ◌^◌}
 use Rattle.std.specs.Prelude.{bit_and}
 use Rattle.std.proofs.lemmas.Nat.{and_mask}

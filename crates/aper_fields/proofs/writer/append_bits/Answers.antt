@@ -1,3 +1,4 @@
+-- Octets in which room was made end with the bits that are free, so the number may be put there, and stands right behind the run.
 use Rattle.std.proofs.Common.{arith}
 use Rattle.std.proofs.lemmas.List.{with_items_is}
 use Rattle.aper_fields.proofs.Fill.{length-run, before_free-is}

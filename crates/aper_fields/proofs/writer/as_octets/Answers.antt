@@ -1,3 +1,4 @@
+-- All octets of a slice are those that its bits spell, as each octet is below 256.
 use Rattle.std.proofs.Common.{sym, arith}
 use Rattle.aper_fields.proofs.Packed.{octets_of-all}
 use Rattle.aper_fields.proofs.writer.as_octets.Goals as goal

@@ -1,3 +1,4 @@
+-- The octets that are left hold the front of the bits, with zeros behind it where bits of the last octet are free then.
 use Rattle.std.proofs.Common.{◌≡◌, ◌-◌, ◌<◌, length, take, get_or, arith}
 use Rattle.std.proofs.lemmas.List.{get_or_read, length-take}
 use Rattle.aper_fields.proofs.Fill.{cut_within, cut_whole}

@@ -1,3 +1,4 @@
+-- Where bits are free there is a last octet, whose free bits are zeros; the number that is put into them stands right behind the run.
 use Rattle.std.proofs.Common.{◌-◌, ◌<◌, length, arith}
 use Rattle.std.proofs.lemmas.List.{get_or_read}
 use Rattle.aper_fields.specs.Bits.{bits}

@@ -1,3 +1,4 @@
+-- With octets of zeros put behind it the run is as it was, and eight more bits are free for each of them.
 use Rattle.std.proofs.Common.{◌≡◌, ◌+◌, ◌-◌, vec_len, arith}
 use Rattle.std.proofs.lemmas.List.{take_all}
 use Rattle.aper_fields.proofs.Fill.{more_free}

@@ -1,3 +1,4 @@
+-- Each turn puts the next bits of the number into the first octet with free bits, which are zeros, behind the bits that were put before.
 use Rattle.std.proofs.Common.{◌≡◌, ◌+◌, ◌-◌, ◌/◌, ◌%◌, ◌^◌, ◌<◌, ◌++◌, List, Bool, length, get_or, set, append_assoc, ap, ◌∙◌, subst, arith}
 use Rattle.aper_fields.specs.Bits.{bits, zeros}
 use Rattle.aper_fields.specs.Buffer.{FreeBehind, before_free}

@@ -1,3 +1,4 @@
+-- At each turn: the octets hold what they held at first, the highest bits of the number, and zeros that are still free, as many fewer as bits were put.
 use Rattle.std.proofs.Common.{◌≡◌, ◌+◌, ◌-◌, ◌/◌, ◌^◌, ◌≤◌, ◌++◌}
 use Rattle.aper_fields.specs.Bits.{bits}
 use Rattle.aper_fields.specs.Buffer.{FreeBehind, before_free}

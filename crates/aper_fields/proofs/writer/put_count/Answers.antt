@@ -1,3 +1,4 @@
+-- With their count before them octets are an open type: none of them, as one octet of zeros, fewer than 128, and more, with a count of two octets.
 use Rattle.std.proofs.Common.{◌-◌, arith}
 use Rattle.aper_fields.proofs.Counted.{counted_none, counted_short, counted_long}
 use Rattle.aper_fields.proofs.writer.put_count.Goals as goal

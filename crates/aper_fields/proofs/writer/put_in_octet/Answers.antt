@@ -1,3 +1,4 @@
+-- With a number put into its free last bits an octet has its own bits in front, then those of the number, then zeros.
 use Rattle.aper_fields.proofs.Fill.{bits-put}
 use Rattle.aper_fields.proofs.writer.put_in_octet.Goals as goal
 

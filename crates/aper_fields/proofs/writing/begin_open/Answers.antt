@@ -1,3 +1,4 @@
+-- Behind the length 0 an octet begins, and at least one octet stands before that place.
 use Rattle.std.proofs.Common.{arith}
 use Rattle.aper_fields.proofs.Counted.{begun_whole, begun_room}
 use Rattle.aper_fields.proofs.writing.begin_open.Goals as goal

@@ -1,3 +1,4 @@
+-- The count of a number's octets less one fits in the bits that are kept for the count of the greatest number.
 use Rattle.std.proofs.Common.{arith}
 use Rattle.aper_fields.proofs.Widths.{count_fits}
 use Rattle.aper_fields.proofs.writing.put_counted.Goals as goal

@@ -1,3 +1,4 @@
+-- A length, and octets behind padding, are the run of an octet string of free size, as behind a length there is no padding.
 use Rattle.std.proofs.Common.{length}
 use Rattle.aper_fields.specs.Run.{◌▸◌, length_run, fixed_octets_run, octet_string_run}
 use Rattle.aper_fields.proofs.Pieces.{octet_string_run-is}

@@ -1,3 +1,4 @@
+-- The bits that are written are the run of the value: beyond the roots, of a root alone, or of a root behind an extension bit 0, where the index fits.
 use Rattle.std.proofs.Common.{◌≡◌, suc, ◌+◌, length, arith}
 use Rattle.std.proofs.lemmas.Result.{on_ok_weaker}
 use Rattle.std.proofs.Math.Nat.{pow-suc}

@@ -1,3 +1,4 @@
+-- What is written is the run of a general length: padding and 8 bits below 128, else padding and 16 bits for the length plus 32,768.
 use Rattle.std.proofs.Common.{◌+◌, length}
 use Rattle.std.proofs.lemmas.Result.{on_ok_weaker}
 use Rattle.aper_fields.specs.Run.{◌▸◌, bits_run, padding_run, length_run}

@@ -1,3 +1,4 @@
+-- The octets of the body, or one of zeros for an empty body, behind their count are the run of the open type; they are few enough for a length.
 use Rattle.std.proofs.Common.{[], ◌∷◌, length, ap, sym, arith}
 use Rattle.std.proofs.lemmas.Bool.{eqb-true, eqb-false}
 use Rattle.std.proofs.lemmas.Result.{on_ok_weaker}

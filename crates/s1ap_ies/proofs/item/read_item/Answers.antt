@@ -1,3 +1,4 @@
+-- An item of a list is read exactly: the id that all items of the list have, a criticality, and an open type, given as a container.
 use Rattle.aper_fields.proofs.Formats.{gives_exactly}
 use Rattle.aper_fields.specs.SequenceReading.{item_at}
 use Rattle.aper_fields.specs.Sequence.{item_in}

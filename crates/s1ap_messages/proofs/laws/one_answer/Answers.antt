@@ -1,3 +1,4 @@
+-- Octets are one message or have one refusal, never both; behind a message more octets are refused at the first, so no spelling begins another.
 use Rattle.s1ap_messages.proofs.Answering.{one_message, one_refusal, not_both, either_one, trailing, one_front}
 use Rattle.s1ap_messages.proofs.laws.one_answer.Goals as goal
 

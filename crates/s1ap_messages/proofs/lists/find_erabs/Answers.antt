@@ -1,3 +1,4 @@
+-- Passing over a list is reading it without its items: it is refused as reading refuses it, and a list that is found can be read where it begins.
 use Rattle.std.proofs.Common.{rules}
 use Rattle.aper_fields.specs.Asn1.{reading}
 use Rattle.aper_fields.proofs.Skipped.{passed_over, refused_gives}

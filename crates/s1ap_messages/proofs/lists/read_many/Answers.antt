@@ -1,3 +1,4 @@
+-- With an item read and put at the end of the list, reading the others behind it still gives what reading all of them gives.
 use Rattle.aper_fields.specs.Asn1.{reading, contained_item_at}
 use Rattle.aper_fields.proofs.Manys.{many_next}
 use Rattle.s1ap_messages.proofs.lists.read_many.Goals as goal

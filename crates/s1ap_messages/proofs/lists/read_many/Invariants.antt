@@ -1,3 +1,4 @@
+-- At each turn: reading the items that are left, behind those in the list, gives what reading all of them into an empty list from the first gives.
 use Rattle.std.proofs.Common.{◌≡◌, []}
 use Rattle.aper_fields.specs.Many.{many_at}
 use Rattle.aper_fields.specs.Asn1.{reading, contained_item_at}

@@ -1,3 +1,4 @@
+-- At each turn: passing over the items that are left, from where the reader is, gives what passing over all of them from the first gives.
 use Rattle.std.proofs.Common.{◌≡◌}
 use Rattle.aper_fields.specs.SequenceReading.{skipping, skipped_at}
 use Rattle.aper_fields.specs.Asn1.{reading, contained_item_at}

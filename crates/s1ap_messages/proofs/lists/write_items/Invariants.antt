@@ -1,3 +1,4 @@
+-- At each turn: the items that are left, put behind what is written now, make the run of all items, and each of them can be written.
 use Rattle.std.proofs.Common.{◌≡◌, length}
 use Rattle.std.specs.List.{AllByRecursion}
 use Rattle.aper_fields.specs.Run.{then_written}

@@ -1,3 +1,4 @@
+-- An E-RAB that is written behind the start of its item, and counted then, gives that item whole; it is short enough to be counted.
 use Rattle.std.proofs.lemmas.Result.{on_ok_weaker}
 use Rattle.s1ap_ies.specs.Names.{criticality_number}
 use Rattle.aper_fields.specs.Asn1.{run}

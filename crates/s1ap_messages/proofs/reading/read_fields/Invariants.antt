@@ -1,3 +1,4 @@
+-- At each turn: reading the IEs that are left, with the slots filled so far, gives what reading all of them from the first with empty slots gives.
 use Rattle.std.proofs.Common.{◌≡◌}
 use Rattle.s1ap_messages.specs.Reading.{empty, fields_at}
 use Rattle.s1ap_messages.proofs.reading.read_fields.Given as goal

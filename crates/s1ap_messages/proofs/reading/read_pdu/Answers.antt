@@ -1,3 +1,4 @@
+-- Octets give the message or the refusal that the grammar has for them; what is read can be written, and memory runs out only where it takes some.
 use Rattle.std.proofs.Common.{subst}
 use Rattle.echo_base.specs.Answer.{IsAnswer}
 use Rattle.s1ap_messages.specs.Grammar.{Spells, Refused}

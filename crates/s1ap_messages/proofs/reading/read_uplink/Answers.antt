@@ -1,3 +1,4 @@
+-- Octets are read as the grammar of what an MME receives has it, refusals too, and what is read can be written; memory runs out only where it takes some.
 use Rattle.std.proofs.Common.{subst}
 use Rattle.echo_base.specs.Answer.{IsAnswer}
 use Rattle.s1ap_messages.specs.Grammar.{SpellsUplink, RefusedUplink}

@@ -1,3 +1,4 @@
+-- The first values, as many as the table has rows, are those of the message, so what is written of them is its SEQUENCE of IEs.
 use Rattle.s1ap_messages.specs.Lent.{all_seen}
 use Rattle.std.proofs.Common.{take}
 use Rattle.s1ap_messages.proofs.Writes.{values_front, body_is}

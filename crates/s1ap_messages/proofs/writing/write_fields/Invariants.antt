@@ -1,3 +1,4 @@
+-- At each turn: the IEs of the rows that are left, put behind what is written now, make the run of all rows, and each value left can be written.
 use Rattle.std.proofs.Common.{◌≡◌, length, IfSome}
 use Rattle.std.specs.List.{AllByRecursion}
 use Rattle.aper_fields.specs.Run.{then_written}

@@ -1,3 +1,4 @@
+-- A value that is written behind the start of its IE, and counted then, gives that IE whole; it is short enough to be counted.
 use Rattle.std.proofs.lemmas.Result.{on_ok_weaker}
 use Rattle.s1ap_ies.specs.Names.{criticality_number}
 use Rattle.s1ap_messages.specs.Lent.{seen}

@@ -1,3 +1,4 @@
+-- IEs that are written in place behind the header, and counted then, make the octets of the message; they are short enough to be counted.
 use Rattle.std.proofs.Common.{◌∙◌}
 use Rattle.s1ap_messages.specs.Messages.{kind_of, values_of}
 use Rattle.s1ap_messages.specs.Run.{ies_run}

@@ -1,3 +1,4 @@
+-- A whole number from LOW to HIGH is read exactly, as HIGH - LOW is below 2^64.
 use Rattle.std.proofs.Common.{◌-◌, arith}
 use Rattle.aper_fields.specs.Reading.{number_at}
 use Rattle.aper_fields.specs.Format.{number_in}

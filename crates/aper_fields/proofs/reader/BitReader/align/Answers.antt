@@ -1,3 +1,4 @@
+-- Behind the padding an octet begins, as just the bits that lead to it were read; where an octet begins already, there is no padding.
 use Rattle.std.proofs.Common.{ap, arith}
 use Rattle.aper_fields.proofs.Steps.{bits_at-offset, padding_none}
 use Rattle.aper_fields.proofs.reader.BitReader.align.Goals as goal

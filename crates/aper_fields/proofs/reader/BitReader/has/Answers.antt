@@ -1,3 +1,4 @@
+-- So many bits are left exactly where there are octets for them and for the bits of the first octet that were read.
 use Rattle.std.proofs.Common.{◌≡◌, ◌-◌, ◌*◌, length, arith}
 use Rattle.std.proofs.lemmas.Bool.{leb-true, le-leb}
 use Rattle.aper_fields.proofs.Octet.{length-left}

@@ -1,3 +1,4 @@
+-- So many octets are there exactly where eight bits for each are left, as the reader stands where an octet begins.
 use Rattle.std.proofs.Common.{◌≡◌, ◌+◌, ◌-◌, ◌*◌, length, ap, sym, arith}
 use Rattle.std.proofs.lemmas.Bool.{leb-true, le-leb}
 use Rattle.aper_fields.proofs.Octet.{length-left}

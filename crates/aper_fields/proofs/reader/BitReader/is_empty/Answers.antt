@@ -1,3 +1,4 @@
+-- No bit is left exactly where no octet is, as of the first octet never all bits were read.
 use Rattle.std.proofs.Common.{◌≡◌, ◌-◌, ◌*◌, length, sym, ◌∙◌, arith}
 use Rattle.std.proofs.lemmas.Bool.{eqb-true, eq-eqb}
 use Rattle.aper_fields.proofs.Octet.{length-left}

@@ -1,3 +1,4 @@
+-- The turns gather the next bits into one number, and two whole octets are read as sixteen bits; each number fits in its count of bits.
 use Rattle.std.proofs.Common.{◌≡◌, ◌+◌, ◌-◌, ◌≤◌, length, drop, ap, sym, ◌∙◌, arith}
 use Rattle.aper_fields.specs.Reading.{forward}
 use Rattle.aper_fields.proofs.Steps.{forward-zero, forward-add, gathered, number_of-none, number_of-take-lt, two_value, two_read}

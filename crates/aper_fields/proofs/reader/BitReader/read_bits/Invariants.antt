@@ -1,3 +1,4 @@
+-- At each turn: the value is the number of the bits that were read so far, the reader stands behind them, and all bits that are wanted are there.
 use Rattle.std.proofs.Common.{◌≡◌, ◌-◌, ◌≤◌, length, take}
 use Rattle.aper_fields.specs.Bits.{number_of}
 use Rattle.aper_fields.specs.Reading.{forward}

@@ -1,3 +1,4 @@
+-- So many octets may be cut off where their bits are left: they are the next ones, and behind them all holds that has to hold of a reader.
 use Rattle.std.proofs.Common.{◌≡◌, ◌+◌, ◌-◌, ◌*◌, length, ap, sym, refl, ltb, false, arith}
 use Rattle.aper_fields.specs.Reading.{octets_at}
 use Rattle.aper_fields.proofs.Octet.{length-left, cut_is}

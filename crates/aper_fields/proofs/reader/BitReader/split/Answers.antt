@@ -1,3 +1,4 @@
+-- So many octets may be split off where eight bits for each are left: they contain the next bits, and the reader stands behind those.
 use Rattle.std.proofs.Common.{◌≡◌, ◌+◌, ◌-◌, ◌*◌, length, ap, sym, arith}
 use Rattle.aper_fields.proofs.Octet.{length-left, split_front, split_back}
 use Rattle.aper_fields.proofs.reader.BitReader.split.Goals as goal

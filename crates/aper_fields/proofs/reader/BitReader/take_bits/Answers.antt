@@ -1,3 +1,4 @@
+-- Where a bit is left there is an octet; shifted and masked, it is the number of its next bits, and behind its last bit the next octet begins.
 use Rattle.std.proofs.Common.{◌≡◌, ◌-◌, ◌*◌, ◌+◌, ◌≤◌, ◌<◌, length, sym, ap, arith}
 use Rattle.std.proofs.lemmas.Nat.{one_shl, and_mask}
 use Rattle.aper_fields.proofs.Octet.{length-left, taken, passed_input}

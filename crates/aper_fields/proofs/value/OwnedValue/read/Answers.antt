@@ -1,3 +1,4 @@
+-- A value of any ASN.1 type is read exactly, unless memory runs out, and then the reader has not moved.
 use Rattle.aper_fields.specs.Asn1.{format, reading}
 use Rattle.aper_fields.proofs.SequenceExact.{reads_in}
 use Rattle.aper_fields.proofs.Types.{exactly}

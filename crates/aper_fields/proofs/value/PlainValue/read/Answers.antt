@@ -1,3 +1,4 @@
+-- A value that takes no memory is read exactly, as the reading of each ASN.1 type from left to right is exact for the format of the type.
 use Rattle.aper_fields.proofs.Formats.{gives_exactly}
 use Rattle.aper_fields.specs.Asn1.{format, reading}
 use Rattle.aper_fields.proofs.Types.{exactly}

@@ -1,3 +1,4 @@
+-- The octets that are cut at a mark hold the bits that were written before it, and all holds of them that has to hold of a writer.
 use Rattle.std.proofs.Common.{◌≡◌, ◌≤◌, ◌-◌, ◌*◌, length, refl, ◌∙◌, arith}
 use Rattle.aper_fields.specs.Buffer.{before_free}
 use Rattle.aper_fields.proofs.Fill.{length-run, before_free-is, take_before}

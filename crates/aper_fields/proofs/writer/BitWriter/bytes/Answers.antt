@@ -1,3 +1,4 @@
+-- The octets that are lent are those that hold what was written, and their bits are what was written, filled up with zeros.
 use Rattle.std.proofs.Common.{ap, ◌∙◌}
 use Rattle.aper_fields.specs.Bits.{bits_of}
 use Rattle.aper_fields.specs.Buffer.{before_free}

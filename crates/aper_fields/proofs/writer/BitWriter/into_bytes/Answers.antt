@@ -1,3 +1,4 @@
+-- The octets of a writer that is used up are those that hold the bits that were written, the last one filled up with zeros.
 use Rattle.aper_fields.specs.Buffer.{before_free}
 use Rattle.std.proofs.Common.{sym, ◌∙◌}
 use Rattle.aper_fields.proofs.Fill.{filled-is}

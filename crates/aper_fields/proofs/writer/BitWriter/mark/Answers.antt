@@ -1,3 +1,4 @@
+-- A mark is how many bits were written: eight for each octet, less those that are free.
 use Rattle.std.proofs.Common.{arith}
 use Rattle.aper_fields.specs.Buffer.{before_free}
 use Rattle.aper_fields.proofs.Fill.{length-run}

@@ -1,3 +1,4 @@
+-- What was written behind the place is short enough to be counted, and with its count before it an open type, with no bit free behind it.
 use Rattle.std.proofs.Common.{◌≡◌, ◌*◌, ◌^◌, ◌<◌, ◌≤◌, length, drop, ◌∙◌, arith}
 use Rattle.aper_fields.specs.Buffer.{before_free}
 use Rattle.aper_fields.specs.Run.{content_of}

@@ -1,3 +1,4 @@
+-- The bits of the number stand right behind what was written before, and all holds that has to hold of a writer.
 use Rattle.std.proofs.Common.{◌∙◌, ◌++◌, List, Bool, ap, arith}
 use Rattle.aper_fields.specs.Bits.{bits}
 use Rattle.aper_fields.proofs.Fill.{length-run, before_free-is}

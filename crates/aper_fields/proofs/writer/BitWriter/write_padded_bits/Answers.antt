@@ -1,3 +1,4 @@
+-- A number that is put as if no bit were free stands behind padding, and all holds that has to hold of a writer.
 use Rattle.std.proofs.Common.{◌∙◌, arith}
 use Rattle.aper_fields.specs.Bits.{bits}
 use Rattle.aper_fields.proofs.Fill.{length-run, before_free-is, padded_run}

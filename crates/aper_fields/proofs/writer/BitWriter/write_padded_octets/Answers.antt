@@ -1,3 +1,4 @@
+-- Octets put behind those that were written stand behind padding, as the bits that were free are zeros; no bit is free then.
 use Rattle.std.proofs.Common.{◌∙◌, ℕ, ◌++◌, List, Bool, sym, ap, arith}
 use Rattle.aper_fields.specs.Bits.{bits_of}
 use Rattle.aper_fields.specs.Run.{fixed_octets_run}

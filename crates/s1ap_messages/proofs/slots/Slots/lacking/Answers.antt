@@ -1,3 +1,4 @@
+-- A needed row with an empty slot is the first that is lacking, and a row that is not needed or has its value is passed over with its slot.
 use Rattle.std.proofs.Common.{sym, ◌∙◌, ◌-◌, length, drop, arith}
 use Rattle.std.proofs.lemmas.List.{length-take, length-drop}
 use Rattle.s1ap_messages.proofs.Places.{lacking_here, lacking_later}

@@ -1,3 +1,4 @@
+-- At each turn: the rows that are left, with the slots from their place on, have the same first lacking row as all rows, and each has a slot.
 use Rattle.std.proofs.Common.{◌≡◌, ◌+◌, ◌≤◌, length, drop}
 use Rattle.s1ap_messages.specs.Reading.{lacking}
 use Rattle.s1ap_messages.proofs.slots.Slots.lacking.Given as goal
