@@ -17,6 +17,14 @@ pub bit_some : 0 < length (fixed_bits_run 1 0 0)
 unfolding fixed_bits_run
 bit_some = omega (arith, length-bits 1 0)
 
+either_some : (b : Bool) (f g : Run) → 0 < length (f 0) → 0 < length (g 0) → 0 < length ((cond b f g) 0)
+either_some true f g p q = p
+either_some false f g p q = q
+
+pub fixed_bits_some : (n v : ℕ) → 0 < n → 0 < length (fixed_bits_run n v 0)
+unfolding fixed_bits_run
+fixed_bits_some n v large = either_some (ltb 16 n) (padding_run ▸ bits_run n v) (bits_run n v) (omega (arith, large, length-append (zeros (gap 0)) (bits n v), length-bits n v)) (omega (arith, large, length-bits n v))
+
 -- a number above 65,536 values begins with the count of its octets
 counted_some : (top n : ℕ) → 255 < top → top < 2 ^ 64 → 0 < length (bits_run (width (octet_count top - 1)) n 0)
 counted_some top n large small =
@@ -57,16 +65,19 @@ pub text_some : (text : List ℕ) → 0 < length (octet_string_run text 0)
 unfolding octet_string_run length_run
 text_some text = first_some (padding_run ▸ λ at. length_octets (length text)) (λ at. bits_of text) 0 (omega (arith, length_octets_some (length text), length-append (zeros (gap 0)) (length_octets (length text))))
 
-either_some : (b : Bool) (f g : Run) → 0 < length (f 0) → 0 < length (g 0) → 0 < length ((cond b f g) 0)
-either_some true f g p q = p
-either_some false f g p q = q
-
 pub marked_some : (roots : ℕ) (v : EnumValue) → 0 < length (enumerated_run roots true v 0)
 unfolding enumerated_run
 marked_some roots v =
     let beyond : Run = bits_run 1 0 ▸ bits_run 6 v.index in
     let within : Run = number_run 0 (roots - 1) v.index in
     either_some v.extended (bits_run 1 1 ▸ beyond) (bits_run 1 0 ▸ within) (first_some (bits_run 1 1) beyond 0 (omega (arith, length-bits 1 1))) (first_some (bits_run 1 0) within 0 (omega (arith, length-bits 1 0)))
+
+pub unmarked_some : (roots : ℕ) (v : EnumValue) → 1 < roots → roots < 2 ^ 64 → 0 < length (enumerated_run roots false v 0)
+unfolding enumerated_run
+unmarked_some roots v large small =
+    let beyond : Run = bits_run 1 0 ▸ bits_run 6 v.index in
+    let within : Run = number_run 0 (roots - 1) v.index in
+    either_some v.extended (bits_run 1 1 ▸ beyond) (nothing_run ▸ within) (first_some (bits_run 1 1) beyond 0 (omega (arith, length-bits 1 1))) (number_some 0 (roots - 1) v.index (omega arith) (omega arith))
 
 pub octets_some : (n : ℕ) (octets : List ℕ) → 0 < n → length octets ≡ n → 0 < length (fixed_octets_run octets 0)
 unfolding fixed_octets_run

@@ -1,11 +1,11 @@
--- How many bits are written for a value: at least one, and at most so many.
+-- How many bits are written for a value: at most so many, and at least one where its type takes some.
 use Rattle.std.proofs.Common.{ℕ, ◌≡◌, ◌+◌, ◌-◌, ◌*◌, ◌<◌, ◌≤◌, Bool, true, false, List, [], ◌∷◌, length, arith, inl, inr, Option, Some, None, is_some, IsSomeAnd}
 use Rattle.std.specs.List.{AllByRecursion}
-use Rattle.std.proofs.lemmas.Bool.{ltb-true}
+use Rattle.std.proofs.lemmas.Bool.{ltb-true, and_parts}
 use Rattle.std.proofs.lemmas.Nat.{mul-le}
 use Rattle.aper_fields.specs.Run.{Run, ◌▸◌, fixed_bits_run, number_run, open_run}
 use Rattle.aper_fields.proofs.Lengths.{Takes, then_takes, number_takes, fixed_bits_takes, octet_string_takes, fixed_octets_takes, enumerated_takes, open_takes}
-use Rattle.aper_fields.proofs.NotEmpty.{first_some, bit_some, number_some, text_some, marked_some, octets_some}
+use Rattle.aper_fields.proofs.NotEmpty.{first_some, bit_some, fixed_bits_some, number_some, text_some, marked_some, unmarked_some, octets_some}
 use Rattle.aper_fields.specs.Asn1.{AsnType, Fields, bit_string, integer, only, enumerated, octet_string, fixed_octets, choice_index, extensible, on, choice, sequence, sequence_of, container, by_test, variant, named, needed, optional, absent, also, run, fields_run, flags_run, each_run, list_run, item_run, part_run, present_run, index_run, Fits, FieldsFit, most_bits, most_flags, most_fields, takes_some, IsSound, AreSound}
 use Rattle.aper_fields.proofs.Types.{small_top}
 
@@ -23,9 +23,10 @@ part_some In f each None fits = absurd fits
 
 pub some : {A : Type 0} (S : List ℕ → Type 0) (s : AsnType A) → takes_some s ≡ true → (v : A) → Fits S s v → 0 < length (run s v 0)
 unfolding run list_run
+some S (bit_string n) b v fits = fixed_bits_some n v (ltb-true _ _ b)
 some S (integer low high bounds) b v fits = number_some low (high - low) v (omega (arith, ltb-true _ _ b)) (small_top low high bounds)
 some S (enumerated roots true few) b v fits = marked_some roots v
-some S (enumerated roots false few) b v fits = false_true b
+some S (enumerated roots false few) b v fits = unmarked_some roots v (ltb-true _ _ b) (ltb-true _ _ (and_parts _ _ few).1)
 some S (octet_string most few) b v fits = text_some v
 some S (sequence_of low high bounds p) b v fits = first_some (number_run low (high - low) (length v)) (each_run (λ a. run p a) v) 0 (number_some low (high - low) (length v) (omega (arith, ltb-true _ _ b)) (small_top low high bounds))
 some S (sequence p) b v fits = first_some (fixed_bits_run 1 0) (flags_run p v (fixed_bits_run 1 0 ▸ fields_run p v)) 0 bit_some

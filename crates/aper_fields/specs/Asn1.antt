@@ -307,8 +307,9 @@ abbrev mutual
 
 -- it takes at least a bit, whatever its value
 abbrev pub takes_some : {A : Type 0} → AsnType A → Bool
+takes_some (bit_string n) = nat_lt 0 n
 takes_some (integer low high bounds) = nat_lt low high
-takes_some (enumerated roots marked some) = marked
+takes_some (enumerated roots marked some) = if marked then true else nat_lt 1 roots
 takes_some (octet_string most few) = true
 takes_some (fixed_octets n) = nat_lt 0 n
 takes_some (choice_index roots n enough) = true

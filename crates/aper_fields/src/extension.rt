@@ -3,7 +3,7 @@
 ghost use Rattle.std.specs.Prelude.{◌≡◌};
 ghost use Rattle.echo_base.specs.Reading.{Gives};
 ghost use Rattle.aper_fields.specs.Format.{ReadsExactly};
-ghost use Rattle.aper_fields.specs.Sequence.{zero_bit_in, criticality_in, extensions_in};
+ghost use Rattle.aper_fields.specs.Sequence.{zero_bit_in, criticality_in};
 ghost use Rattle.aper_fields.specs.SequenceReading.{zero_bit_at, criticality_at, entry_at, skipped_at, extensions_at};
 
 use crate::ranged::Ranged;

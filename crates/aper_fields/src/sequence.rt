@@ -4,7 +4,6 @@ ghost use Rattle.std.specs.Prelude.{◌≡◌, OnOk, OnErr};
 ghost use Rattle.echo_base.specs.Reading.{Gives};
 ghost use Rattle.aper_fields.specs.Run.{then_written, ◌▸◌, fixed_bits_run};
 ghost use Rattle.aper_fields.specs.Asn1.{present_run};
-ghost use Rattle.aper_fields.specs.Kept.{Keeps};
 ghost use Rattle.aper_fields.specs.SequenceReading.{present_at};
 
 use crate::reader::BitReader;
@@ -22,11 +21,11 @@ pub fn read_present(r: &mut BitReader) -> Result<bool, Refusal>
     Ok(read_bits_fixed(r, 1)? == 1)
 }
 
-/// Writes a bit that says whether an optional part is there.
+/// Writes a bit that says whether an optional part is there. Where memory runs out, nothing is written.
 #[tactic(auto, unfolding(crate::specs::Asn1::present_run))]
 pub fn write_present(w: &mut BitWriter, present: bool) -> Result<(), OutOfMemory>
     ensures ok { OnOk result (w.new ≡ then_written w.old (present_run present)) }
-    ensures kept { OnErr result (Keeps w.old w.new) }
+    ensures err { OnErr result (w.new ≡ w.old) }
 {
     if present {
         write_bits_fixed(w, 1, 1)
@@ -35,11 +34,10 @@ pub fn write_present(w: &mut BitWriter, present: bool) -> Result<(), OutOfMemory
     }
 }
 
-/// Writes the bits before the fields: no extension, no iE-Extensions.
+/// Writes the bits before the fields: no extension, no iE-Extensions. Where memory runs out, nothing is written.
 pub fn write_preamble(w: &mut BitWriter) -> Result<(), OutOfMemory>
     ensures ok { OnOk result (w.new ≡ then_written w.old (fixed_bits_run 1 0 ▸ fixed_bits_run 1 0)) }
-    ensures kept { OnErr result (Keeps w.old w.new) }
+    ensures err { OnErr result (w.new ≡ w.old) }
 {
-    write_bits_fixed(w, 0, 1)?;
-    write_bits_fixed(w, 0, 1)
+    write_bits_fixed(w, 0, 2)
 }

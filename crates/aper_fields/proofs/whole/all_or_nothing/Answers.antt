@@ -17,3 +17,6 @@ pub returns-in-Err-clause-err : goal.returns-in-Err-clause-err
 returns-in-Err-clause-err g c =
     let kept : Keeps c.args.w.now c.write.new.arg2 = c.requires.kept (Err c.in-Err.error) c.write.new.arg2 (search rules) in
     c.back_to.ensures ∙ ap (λ n. take n c.write.new.arg2) c.mark-mark.ensures ∙ kept_front c.args.w.now c.write.new.arg2 kept
+
+pub returns-in-Err-clause-given : goal.returns-in-Err-clause-given
+returns-in-Err-clause-given g c = (c.write.new.arg2, search rules)
