@@ -84,6 +84,7 @@ pub fn put_counted(out: &mut Vec<u8>, octets: &[u8]) -> Result<(), AllocError>
 
 /// Puts what stands before the content of an IE, or of an item of a list.
 #[inline(always)]
+#[tactic(auto, unfolding(crate::specs::Usual::count_octets))]
 pub fn put_ie(
     out: &mut Vec<u8>,
     id: u16,
@@ -94,8 +95,12 @@ pub fn put_ie(
     requires len { len < 16384 }
     ensures { OnOk result (out.new.items ≡ out.old.items ++ 0 ∷ id ∷ 64 * named.criticality_number criticality ∷ count_octets len) }
 {
-    out.extend_from_slice(&[0, id as u8, 64 * criticality.number()])?;
-    put_count(out, len)
+    let criticality = 64 * criticality.number();
+    if len < 128 {
+        return out.extend_from_slice(&[0, id as u8, criticality, len as u8]);
+    }
+    let (high, low) = ((128 + len / 256) as u8, (len % 256) as u8);
+    out.extend_from_slice(&[0, id as u8, criticality, high, low])
 }
 
 /// How many octets a number needs.
