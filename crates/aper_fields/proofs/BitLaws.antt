@@ -1,4 +1,4 @@
--- Laws on runs of bits.
+-- Runs of bits: how long they are, the numbers that they are, and how they are joined and cut.
 use Rattle.std.proofs.Common.{◌≡◌, ℕ, zero, suc, ◌+◌, ◌*◌, ◌/◌, ◌%◌, ◌^◌, ◌<◌, Bool, true, false, cond, eqb, List, [], ◌∷◌, ◌++◌, length, take, drop, refl, sym, ap, append_assoc, arith}
 use Rattle.std.proofs.Math.Nat.{pow-suc, zero-div, mul-add-div_right, mul-add-mod_self_right}
 use Rattle.std.proofs.lemmas.Nat.{pow_pos, shr-shr, mod-pow-add, shr_high, mod_below}

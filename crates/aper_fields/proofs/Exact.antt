@@ -1,5 +1,5 @@
 -- Reading is exact: piece by piece, and one behind another.
-use Rattle.std.proofs.Common.{MatchBool, ◌≡◌, ℕ, ◌+◌, ◌/◌, ◌≤◌, Bool, true, false, cond, ltb, eqb, List, [], ◌++◌, length, take, Ok, Err, refl, sym, ap, ◌∙◌, subst, append_assoc, arith}
+use Rattle.std.proofs.Common.{◌≡◌, ℕ, ◌+◌, ◌/◌, ◌≤◌, Bool, true, false, cond, ltb, eqb, List, [], ◌++◌, length, take, Ok, Err, refl, sym, ap, ◌∙◌, subst, append_assoc, arith}
 use Rattle.std.proofs.Math.Nat.{mod-eq_of_lt}
 use Rattle.std.proofs.lemmas.Bool.{ltb-false, le-ltb, eqb-true, eqb-false}
 use Rattle.std.proofs.lemmas.Nat.{pow_pos}
@@ -91,10 +91,6 @@ same_exact P Q f there back p = record {
 pub if_exact : {A : Type 0} (b : Bool) (P : ℕ → A → List Bool → Type 0) (f g : Input → Read A) → (b ≡ true → IsExact P f) → (b ≡ false → IsExact P g) → IsExact P (λ i. cond b (f i) (g i))
 if_exact true P f g yes_f no_g = yes_f refl
 if_exact false P f g yes_f no_g = no_g refl
-
-pub choose_exact : {A : Type 0} (b : Bool) (P Q : ℕ → A → List Bool → Type 0) (f g : Input → Read A) → IsExact P f → IsExact Q g → IsExact (λ at v run. MatchBool b (P at v run) (Q at v run)) (λ i. cond b (f i) (g i))
-choose_exact true P Q f g p q = p
-choose_exact false P Q f g p q = q
 
 -- a value that is changed when it was read
 pub map_exact : {A B : Type 0} (h : A → B) (P : ℕ → A → List Bool → Type 0) (f : Input → Read A) → IsExact P f → IsExact (λ at b run. (a : A) × (b ≡ h a) × P at a run) (λ i. f i >>= λ x. Ok (h x.0, x.1))

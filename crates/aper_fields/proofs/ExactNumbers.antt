@@ -108,15 +108,20 @@ counted_shape at run front back pad rest first last whole behind padding is_firs
 counted_there : (low top most at v : ℕ) (run : List Bool) → most ≡ octet_count top → (counted_in low top most).Spells at v run → Spelled (InRange low top) (λ v. counted_run top (v - low)) at v run
 unfolding counted_in
 counted_there low top most at v run count s =
-    let n = s.5.5.0 in
-    let least = leb-true _ _ s.5.5.2.0 in
-    let e : n ≡ v - low = omega (arith, s.5.5.1) in
-    let all : s.0 ≡ octet_count n = sym (eqb-true _ _ s.5.5.2.1.0) in
-    let more : s.4.0 ≡ octet_count (v - low) - 1 = omega (arith, s.4.1, all, ap octet_count e) in (
-      (omega (arith, s.5.5.1), omega (arith, s.5.5.1, least)),
+    let counts = s.4 in
+    let number = s.5.5 in
+    let n = number.0 in
+    let tested = number.2 in
+    let least = leb-true _ _ tested.0 in
+    let e : n ≡ v - low = omega (arith, number.1) in
+    let all : s.0 ≡ octet_count n = sym (eqb-true _ _ tested.1.0) in
+    let more : counts.0 ≡ octet_count (v - low) - 1 = omega (arith, counts.1, all, ap octet_count e) in
+    let first_is = counts.2.1.1 in
+    let last_is = tested.1.1.1 in (
+      (omega (arith, number.1), omega (arith, number.1, least)),
       counted_shape at run s.1 s.2 s.5.1 s.5.2 _ _ s.3 s.5.3 s.5.4
-          (s.4.2.1.1 ∙ ap (λ m. bits (width (m - 1)) s.4.0) count ∙ ap (bits (width (octet_count top - 1))) more)
-          (s.5.5.2.1.1.1 ∙ ap (λ c. bits (8 * c) n) all ∙ ap (λ k. bits (8 * octet_count k) k) e),
+          (first_is ∙ ap (λ m. bits (width (m - 1)) counts.0) count ∙ ap (bits (width (octet_count top - 1))) more)
+          (last_is ∙ ap (λ c. bits (8 * c) n) all ∙ ap (λ k. bits (8 * octet_count k) k) e),
     )
 
 counted_back : (low top most at v : ℕ) (run : List Bool) → most ≡ octet_count top → 255 < top → top < 2 ^ 64 → Spelled (InRange low top) (λ v. counted_run top (v - low)) at v run → (counted_in low top most).Spells at v run

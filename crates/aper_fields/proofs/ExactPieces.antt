@@ -90,9 +90,6 @@ pub length_octets_exactly : IsExactly length_octets_in length_octets_at
 unfolding length_pieces_in
 length_octets_exactly = spelled_exactly LengthOctets length_pieces_in length_octets_at length_there length_back length_pieces_exactly
 
-pub length_octets_exact : IsExact LengthOctets length_octets_at
-length_octets_exact = length_octets_exactly.spells
-
 abbrev IsLength : ℕ → Type 0
 IsLength n = n < 2 ^ 14
 

@@ -1,7 +1,6 @@
 -- An item that is written in place, and counted then.
-use Rattle.std.proofs.Common.{◌≡◌, ℕ, ◌-◌, ◌*◌, ◌%◌, ◌^◌, ◌<◌, ◌≤◌, Bool, eqb, List, length, take, drop, sym, ap, ◌∙◌, inl, inr, arith}
+use Rattle.std.proofs.Common.{◌≡◌, ℕ, ◌-◌, ◌*◌, ◌%◌, ◌^◌, ◌<◌, ◌≤◌, Bool, eqb, List, length, take, drop, sym, ◌∙◌, inl, inr, arith}
 use Rattle.std.proofs.lemmas.Bool.{cases_Bool}
-use Rattle.std.proofs.lemmas.List.{length-append}
 use Rattle.aper_fields.specs.Run.{Run, then_written, ◌▸◌, number_run, fixed_bits_run, length_run, content_of, open_run}
 use Rattle.aper_fields.specs.Asn1.{item_run, item_start}
 use Rattle.aper_fields.proofs.Counted.{content_behind, open_in_place}
@@ -16,9 +15,6 @@ short_content body short =
       | inl none ↦ rw none (omega arith)
       | inr some ↦ rw some (omega (arith, length-filled body))
     ]
-
-pub place_within : (before all : List Bool) (f : Run) (start : ℕ) → start ≡ length before → all ≡ then_written before f → start ≤ length all
-place_within before all f start place e = omega (arith, place, ap length e, length-append before (f (length before)))
 
 pub content_short : (before all : List Bool) (f : Run) (start : ℕ) → IsPeriodic f → start ≡ length before → start % 8 ≡ 0 → all ≡ then_written before f → length (f 0) ≤ 8 * 16383 → length (content_of (drop start all)) < 8 * 2 ^ 14
 content_short before all f start periodic place whole e short = rw (content_behind before all f start periodic place whole e) (short_content (f 0) short)

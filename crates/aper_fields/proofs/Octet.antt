@@ -1,4 +1,4 @@
--- The bits of the first octets of a run.
+-- The bits of octets of which the first ones were read: those that are left, those that are taken and those behind octets that are cut off.
 use Rattle.std.proofs.Common.{◌≡◌, ℕ, zero, suc, ◌+◌, ◌-◌, ◌*◌, ◌/◌, ◌%◌, ◌^◌, ◌<◌, ◌≤◌, Bool, List, [], ◌∷◌, ◌++◌, length, get_or, take, drop, Result, Ok, refl, sym, ap, ◌∙◌, arith}
 use Rattle.std.proofs.lemmas.List.{drop_at, length-drop, drop-append-le, take-append-le, drop-drop, take_rest, drop_all, take_all}
 use Rattle.std.proofs.Math.Seq.{take-append-add}

@@ -35,6 +35,12 @@ open_offset at content run s =
     let c : content.offset ≡ at + length pad + length lens = s.5.5.0 in
     omega (arith, a, b, c)
 
+-- its content has a length
+pub open_small : (at : ℕ) (content : Input) (run : List Bool) → Open at content run → length content.left ≤ 8 * 16383
+open_small at content run s =
+    let octets = s.5 in
+    omega (arith, octets.4.0, octets.5.1)
+
 pub content_some : (body : List Bool) → 0 < length body → content_of body ≡ filled body
 content_some body some = let ne : eqb (length body) 0 ≡ false = ne_eqb _ _ (λ z. absurd (omega (arith, z))) in rw ne refl
 

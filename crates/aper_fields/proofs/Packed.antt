@@ -1,4 +1,4 @@
--- The octets that hold a run.
+-- The octets that hold a run: how many they are, and that their bits are the run, filled up with zeros.
 use Rattle.std.proofs.Common.{◌≡◌, ℕ, zero, suc, ◌+◌, ◌*◌, ◌/◌, ◌%◌, ◌^◌, ◌<◌, ◌≤◌, Bool, false, List, [], ◌∷◌, length, get_or, take, drop, refl, sym, ap, ◌∙◌, arith}
 use Rattle.std.proofs.lemmas.List.{take_at, drop_at, take_all, length-append, length-take, length-drop, length-replicate}
 use Rattle.std.proofs.Math.Nat.{mod-eq_of_lt}

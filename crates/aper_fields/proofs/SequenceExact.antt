@@ -1,4 +1,4 @@
--- The pieces are read exactly.
+-- The pieces that types share are read exactly: zero bits, criticalities, presence bits, indices of CHOICEs, items and iE-Extensions.
 use Rattle.std.proofs.Common.{ℕ, zero, suc, Bool, Ok, Err, Result, eqb, ltb, leb, arith}
 use Rattle.echo_base.specs.declared.reason.Reason.{Reason}
 use Rattle.echo_base.specs.declared.reason.Reason.TheVariants as reasons

@@ -1,6 +1,6 @@
 -- Runs written one behind another.
-use Rattle.std.proofs.Common.{◌≡◌, ℕ, ◌+◌, ◌≤◌, Bool, List, ◌++◌, length, take, refl, sym, ap, ◌∙◌, append_assoc, arith}
-use Rattle.std.proofs.lemmas.List.{length-append, take_at}
+use Rattle.std.proofs.Common.{◌≡◌, ◌+◌, Bool, List, ◌++◌, length, sym, ap, ◌∙◌, append_assoc}
+use Rattle.std.proofs.lemmas.List.{length-append}
 use Rattle.aper_fields.specs.Run.{Run, ◌▸◌, then_written}
 
 pub then_written-then : (before : List Bool) (f g : Run) → then_written before (f ▸ g) ≡ then_written (then_written before f) g
@@ -14,10 +14,3 @@ two_written old middle new f g e h = h ∙ ap (λ (l : List Bool). then_written 
 -- another run that is the same here
 pub same_written : (old new : List Bool) (f g : Run) → f (length old) ≡ g (length old) → new ≡ then_written old f → new ≡ then_written old g
 same_written old new f g same e = e ∙ ap (λ (l : List Bool). old ++ l) same
-
--- what was written behind a place is taken back
-pub taken_back : (old middle : List Bool) (f : Run) (mark : ℕ) → mark ≡ length old → middle ≡ then_written old f → take mark middle ≡ old
-taken_back old middle f mark here e = rw (e, here) (take_at old (f (length old)) (length old) refl)
-
-pub mark_within : (old middle : List Bool) (f : Run) (mark : ℕ) → mark ≡ length old → middle ≡ then_written old f → mark ≤ length middle
-mark_within old middle f mark here e = omega (arith, ap length e, length-append old (f (length old)))

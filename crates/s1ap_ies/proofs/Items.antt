@@ -33,7 +33,11 @@ setup_fits S v right strings = (omega (arith, right.0), ((omega (arith, right.1)
 
 pub setup_right : (S : List ℕ → Type 0) (v : ErabToSetup) → Fits S erab_to_setup v → IsErabToSetup v
 unfolding erab_to_setup erab_id address qos arp
-setup_right S v fits = (omega (arith, fits.0), omega (arith, fits.1.0.0), fits.1.0.1.0, fits.1.1.0.1, fits.1.1.1.0, few_of S v.nas fits.1.1.1.1)
+setup_right S v fits =
+    let quality = fits.1.0 in
+    let endpoint = fits.1.1.0 in
+    let behind = fits.1.1.1 in
+    (omega (arith, fits.0), omega (arith, quality.0), quality.1.0, endpoint.1, behind.0, few_of S v.nas behind.1)
 
 pub done_sound : IsSound erab_done
 unfolding erab_done erab_id address

@@ -26,9 +26,12 @@ use Rattle.s1ap_messages.proofs.Makes.{AreTyped, in_order_typed, Makes, makes, f
 spelled_typed : (at : ℕ) (x : MessageKind × List Ie) (run : List _) → pdu_in.Spells at x run → AreTyped x.1
 unfolding pdu_in ies_in
 spelled_typed at x run s =
-    let body = s.5.4.5.0.1 in
-    let same : x ≡ (s.0, s.5.0) = s.5.5.0 in
-    subst (λ (y : MessageKind × List Ie). AreTyped y.1) (sym same) (in_order_typed s.0 _ _ s.5.0 _ body.5.5.1)
+    let behind = s.5 in
+    let opened = behind.4 in
+    let held = opened.5.0 in
+    let counted = held.1.5 in
+    let same : x ≡ (s.0, behind.0) = behind.5.0 in
+    subst (λ (y : MessageKind × List Ie). AreTyped y.1) (sym same) (in_order_typed s.0 _ _ behind.0 _ counted.5.1)
 
 pub whole_typed : (octets : List ℕ) (kind : MessageKind) (ies : List Ie) → AreIes octets kind ies → AreTyped ies
 whole_typed octets kind ies h = spelled_typed 0 (kind, ies) h.0 h.1

@@ -12,7 +12,7 @@ use Rattle.aper_fields.specs.Reading.{Input}
 use Rattle.aper_fields.specs.Run.{number_run, fixed_bits_run, padding_run, open_run, closing}
 use Rattle.aper_fields.specs.Spelling.{Open}
 use Rattle.aper_fields.specs.Format as formats
-use Rattle.aper_fields.specs.Format.{◌>>=◌, either, just}
+use Rattle.aper_fields.specs.Format.{either, just}
 use Rattle.aper_fields.proofs.BitLaws.{length-bits}
 use Rattle.s1ap_messages.specs.declared.tables.IeRow.{IeRow}
 use Rattle.s1ap_messages.specs.declared.tables.MessageKind.{MessageKind}
@@ -28,7 +28,7 @@ use Rattle.s1ap_messages.specs.Grammar.{Ie, Named, Other, found, has_ie, fields_
 use Rattle.s1ap_messages.specs.Run.{value_run, fields_run, count_of, ies_run, IsShort, IsRightValue, IsRightField, IsRight, HasOctetsIn, HasOctets}
 use Rattle.echo_base.specs.Answer.{Answers}
 use Rattle.aper_fields.proofs.Ends.{EndsBy, front_ends, open_ends}
-use Rattle.aper_fields.proofs.Opens.{open_offset}
+use Rattle.aper_fields.proofs.Opens.{open_offset, open_small}
 use Rattle.aper_fields.proofs.Room.{HasRoom, open_room}
 use Rattle.aper_fields.proofs.Room.{head_ends}
 use Rattle.s1ap_messages.proofs.Ies.{right_value, value_octets, value_least}
@@ -83,7 +83,7 @@ ie_right kind before at ie run s =
     let opened = second.5 in
     let content = opened.0 in
     let room = content_room s.0 _ content opened.1 (has_ie kind s.0) 0 ie opened.2 opened.4 opened.5 in
-    let small : length content.left ≤ 8 * 16383 = omega (arith, opened.4.5.4.0, opened.4.5.5.1) in
+    let small : length content.left ≤ 8 * 16383 = open_small _ content opened.1 opened.4 in
     let ends : (body : List Bool) → HasRoom content body → EndsBy (item_run looked.0 0 body) at run = λ body wide. head_ends looked.0 0 second.0 body at s.1 second.1 run s.2 second.2 s.3 looked.2.1 second.3 second.4 (front_ends (open_run body) _ opened.1 opened.2 second.2 opened.3 (open_ends body _ content opened.1 opened.4 wide.1)) in
     right_of looked.0 at content ie run ends small room
 
@@ -154,7 +154,7 @@ pdu_right at x run s =
     let same : x ≡ (s.0, s.5.0) = s.5.5.0 in
     let whole : content.offset % 8 ≡ 0 = omega (arith, open_offset _ content opened.1 opened.4) in
     let right = ies_least s.0 content.offset s.5.0 held.0 whole held.1 in
-    let small : length content.left ≤ 8 * 16383 = omega (arith, opened.4.5.4.0, opened.4.5.5.1) in
+    let small : length content.left ≤ 8 * 16383 = open_small _ content opened.1 opened.4 in
     subst AreWritable (sym same) (right.0, right.1, omega (arith, right.2, small, ap length held.2, length-append held.0 (zeros (closing content.offset (content.offset + length held.0)))))
 
 -- what each value of a message is

@@ -138,8 +138,10 @@ nas_behind (Some nas) h = counted_behind nas h
 setup_behind : (v : ErabToSetup) → IsOctets (setup_octets v) → IfSome v.nas IsOctets
 unfolding setup_octets
 setup_behind v h =
-    let a = octets_behind (four_octets v.address) (four_octets v.teid ++ nas_octets v.nas) h.1.1.1.1.1.1 in
-    nas_behind v.nas (octets_behind (four_octets v.teid) (nas_octets v.nas) a.1).1
+    let fixed = (cond (is_some v.nas) 64 0 + v.id) ∷ 0 ∷ v.qci ∷ v.arp ∷ 15 ∷ 128 ∷ [] in
+    let behind = octets_behind fixed (four_octets v.address ++ (four_octets v.teid ++ nas_octets v.nas)) h in
+    let teid_on = octets_behind (four_octets v.address) (four_octets v.teid ++ nas_octets v.nas) behind.1 in
+    nas_behind v.nas (octets_behind (four_octets v.teid) (nas_octets v.nas) teid_on.1).1
 
 pub id_behind : (id criticality : ℕ) (content rest : List ℕ) → IsOctets (ie_octets id criticality content ++ rest) → id < 256
 unfolding ie_octets

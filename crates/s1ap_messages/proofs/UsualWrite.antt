@@ -56,10 +56,6 @@ pub two_put : (front head one all a b : List ℕ) (id criticality len : ℕ) →
 two_put front head one all a b id criticality len h o e l =
     ie_put front head all (a ++ b) id criticality len h (e ∙ rw o (append_assoc head a b)) (l ∙ sym (length-append a b))
 
-pub four_length : (n : ℕ) → length (four_octets n) ≡ 4
-unfolding four_octets
-four_length n = refl
-
 pub six_ies : (front a b c d e f : List ℕ) → (((((front ++ a) ++ b) ++ c) ++ d) ++ e) ++ f ≡ front ++ (a ++ (b ++ (c ++ (d ++ (e ++ (f ++ []))))))
 six_ies front a b c d e f = simp (append_assoc, append-nil)
 

@@ -3,7 +3,6 @@ use Rattle.std.proofs.Common.{◌≡◌}
 use Rattle.aper_fields.specs.SequenceReading.{entry_at, skipped_at}
 use Rattle.aper_fields.proofs.extension.skip_entries.Given as goal
 
--- the entries that are left, behind those that were passed over
 abbrev pub invariant-loop-left : goal.invariant-loop-left
 invariant-loop-left l = skipped_at entry_at l.left l.ahead ≡ skipped_at entry_at l.fn.count l.fn.r
 

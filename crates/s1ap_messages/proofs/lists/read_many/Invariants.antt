@@ -4,7 +4,6 @@ use Rattle.aper_fields.specs.Many.{many_at}
 use Rattle.aper_fields.specs.Asn1.{reading, contained_item_at}
 use Rattle.s1ap_messages.proofs.lists.read_many.Given as goal
 
--- the items that are left, behind those that were read
 abbrev pub invariant-loop-left : goal.invariant-loop-left
 invariant-loop-left g l = many_at (λ before. contained_item_at l.id (reading g.T.Erab.asn1)) l.left l.erabs l.ahead ≡ many_at (λ before. contained_item_at l.id (reading g.T.Erab.asn1)) l.fn.count [] l.fn.r
 

@@ -4,7 +4,6 @@ use Rattle.aper_fields.specs.SequenceReading.{skipping, skipped_at}
 use Rattle.aper_fields.specs.Asn1.{reading, contained_item_at}
 use Rattle.s1ap_messages.proofs.lists.skip_many.Given as goal
 
--- the items that are left, behind those that were passed over
 abbrev pub invariant-loop-left : goal.invariant-loop-left
 invariant-loop-left g l = skipped_at (contained_item_at l.id (skipping (reading g.T.Erab.asn1))) l.left l.ahead ≡ skipped_at (contained_item_at l.fn.id (skipping (reading g.T.Erab.asn1))) l.fn.count l.fn.r
 

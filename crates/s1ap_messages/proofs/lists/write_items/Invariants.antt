@@ -6,7 +6,6 @@ use Rattle.s1ap_ies.specs.Names.{criticality_number}
 use Rattle.aper_fields.specs.Asn1.{run, each_run, item_run, IsItem}
 use Rattle.s1ap_messages.proofs.lists.write_items.Given as goal
 
--- the items that are left, behind those that were written
 abbrev pub invariant-loop-left : goal.invariant-loop-left
 invariant-loop-left g l = record {
   goes_on : then_written l.w (each_run (λ a. item_run l.id (criticality_number l.criticality) (run g.T.Erab.asn1 a 0)) l.left) ≡ then_written l.fn.w (each_run (λ a. item_run l.fn.id (criticality_number l.fn.criticality) (run g.T.Erab.asn1 a 0)) l.fn.erabs);

@@ -3,7 +3,6 @@ use Rattle.std.proofs.Common.{◌≡◌}
 use Rattle.s1ap_messages.specs.Reading.{empty, fields_at}
 use Rattle.s1ap_messages.proofs.reading.read_fields.Given as goal
 
--- the IEs that are left, behind those that were read
 abbrev pub invariant-loop-left : goal.invariant-loop-left
 invariant-loop-left l = fields_at l.rows l.left l.slots l.ahead ≡ fields_at l.fn.rows l.fn.count empty l.fn.r
 

@@ -1,3 +1,4 @@
+-- What the reader of a kind found is the whole message in its usual form, header and length with it.
 use Rattle.s1ap_messages.proofs.UsualForm.{usual_body}
 use Rattle.s1ap_messages.proofs.usual.find_usual.Goals as goal
 

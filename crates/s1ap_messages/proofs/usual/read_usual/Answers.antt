@@ -1,3 +1,4 @@
+-- Octets in the usual form of a message are read as that message, since they are what is written for it.
 use Rattle.std.proofs.Common.{arith}
 use Rattle.s1ap_messages.proofs.UsualForm.{usual_reads}
 use Rattle.s1ap_messages.proofs.usual.read_usual.Goals as goal

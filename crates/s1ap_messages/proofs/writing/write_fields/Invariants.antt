@@ -6,7 +6,6 @@ use Rattle.s1ap_messages.specs.Lent.{all_seen}
 use Rattle.s1ap_messages.specs.Run.{fields_run, IsRightField}
 use Rattle.s1ap_messages.proofs.writing.write_fields.Given as goal
 
--- the IEs that are left, behind those that were written
 abbrev pub invariant-loop-rows : goal.invariant-loop-rows
 invariant-loop-rows l = record {
   goes_on : then_written l.w (fields_run l.rows (all_seen l.values)) ≡ then_written l.fn.w (fields_run l.fn.rows (all_seen l.fn.values));

@@ -3,7 +3,6 @@ use Rattle.std.proofs.Common.{◌≡◌, ◌+◌, ◌≤◌, length, drop}
 use Rattle.s1ap_messages.specs.Reading.{lacking}
 use Rattle.s1ap_messages.proofs.slots.Slots.lacking.Given as goal
 
--- the rows that are left, with the values from their place on
 abbrev pub invariant-loop-left : goal.invariant-loop-left
 invariant-loop-left l = record {
   goes_on : lacking l.left (drop l.place l.fn.self) ≡ lacking l.fn.rows l.fn.self;

@@ -1,3 +1,4 @@
+-- Octets behind their length are the front of what stands behind the length.
 use Rattle.s1ap_messages.proofs.UsualRead.{counted_front}
 use Rattle.s1ap_messages.proofs.usual.octets.counted.Goals as goal
 

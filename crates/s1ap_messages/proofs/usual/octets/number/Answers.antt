@@ -1,3 +1,4 @@
+-- A number stands in its least octets behind the octet that tells how many they are.
 use Rattle.s1ap_messages.proofs.UsualRead.{numbered}
 use Rattle.s1ap_messages.proofs.usual.octets.number.Goals as goal
 

@@ -1,3 +1,4 @@
+-- Two numbers behind the head of an IE are the octets of the bit rates.
 use Rattle.std.proofs.Common.{arith}
 use Rattle.s1ap_messages.specs.Usual.{number_octets, rates_octets}
 use Rattle.s1ap_messages.proofs.UsualWrite.{two_put, number_length}

@@ -1,3 +1,4 @@
+-- A counted string behind the head of an IE is the IE of that string.
 use Rattle.s1ap_messages.specs.Usual.{counted}
 use Rattle.s1ap_messages.proofs.UsualWrite.{ie_put}
 use Rattle.s1ap_messages.proofs.usual.put_values.put_text.Goals as goal

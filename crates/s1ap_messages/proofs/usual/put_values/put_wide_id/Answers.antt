@@ -1,3 +1,4 @@
+-- A number behind the head of an IE is the IE of that identity.
 use Rattle.std.proofs.Common.{arith}
 use Rattle.s1ap_messages.specs.Usual.{number_octets}
 use Rattle.s1ap_messages.proofs.UsualWrite.{ie_put, number_length}
