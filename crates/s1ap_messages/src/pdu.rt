@@ -1,6 +1,7 @@
 //! The messages.
 
-ghost use Rattle.std.specs.Prelude.{◌≡◌, ◌∷◌, [], Some, None};
+ghost use Rattle.std.specs.Prelude.{◌≡◌, ◌∷◌, [], Some, None, option_map};
+ghost use Rattle.s1ap_messages.specs.declared.value.IeValue.TheVariants as value;
 
 use crate::tables::MessageKind;
 use crate::value::{IeValue, LentValue};
@@ -136,6 +137,16 @@ fn with_ids<'a>(mme: u32, enb: u32, third: Option<LentValue<'a>>) -> [Option<Len
     ]
 }
 
+/// The value of an S-TMSI, where there is one.
+fn stmsi_value<'a>(stmsi: &Option<Stmsi>) -> Option<LentValue<'a>>
+    ensures { result ≡ option_map value.Stmsi stmsi.now }
+{
+    match stmsi {
+        Some(stmsi) => Some(IeValue::Stmsi(*stmsi)),
+        None => None,
+    }
+}
+
 impl Pdu {
     ghost use Rattle.s1ap_messages.specs.Messages.{kind_of};
     ghost use Rattle.std.specs.Prelude.{◌++◌, ◌-◌, replicate, None, length};
@@ -151,11 +162,7 @@ impl Pdu {
         use IeValue::*;
         match self {
             Pdu::InitialUeMessage { enb, nas, tai, cgi, rrc, stmsi } => {
-                let stmsi = match stmsi {
-                    Some(stmsi) => Some(Stmsi(*stmsi)),
-                    None => None,
-                };
-                [Some(Enb(*enb)), Some(Nas(nas)), Some(Tai(*tai)), Some(Cgi(*cgi)), Some(Rrc(*rrc)), stmsi]
+                [Some(Enb(*enb)), Some(Nas(nas)), Some(Tai(*tai)), Some(Cgi(*cgi)), Some(Rrc(*rrc)), stmsi_value(stmsi)]
             }
             Pdu::UplinkNasTransport { mme, enb, nas, cgi, tai } => {
                 [Some(Mme(*mme)), Some(Enb(*enb)), Some(Nas(nas)), Some(Cgi(*cgi)), Some(Tai(*tai)), None]

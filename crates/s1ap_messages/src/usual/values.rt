@@ -311,6 +311,22 @@ fn radio_cause(a: u8, b: u8) -> Option<Cause>
     Some(root(0, index))
 }
 
+/// The cause that the octets are, where it is a root of its group.
+#[inline(always)]
+fn cause_of(octets: &[u8]) -> Option<Cause>
+    ensures octets { IfSome result (λ c. octets.now ≡ cause_octets c) }
+    ensures right { IfSome result (λ c. IsCause c) }
+{
+    let (a, more) = one(octets)?;
+    if more.is_empty() {
+        return short_cause(a);
+    }
+    let [b] = more else {
+        return None;
+    };
+    radio_cause(a, *b)
+}
+
 /// A cause that is a root of its group, and what stands behind it.
 #[inline(always)]
 pub fn cause(octets: &[u8]) -> Option<(Cause, &[u8])>
@@ -318,14 +334,7 @@ pub fn cause(octets: &[u8]) -> Option<(Cause, &[u8])>
     ensures right { IfSome result (λ x. IsCause x.0) }
 {
     let (content, rest) = ie(octets, names::CAUSE, Criticality::Ignore)?;
-    let (a, more) = one(content)?;
-    if more.is_empty() {
-        return Some((short_cause(a)?, rest));
-    }
-    let [b] = more else {
-        return None;
-    };
-    Some((radio_cause(a, *b)?, rest))
+    Some((cause_of(content)?, rest))
 }
 
 /// Both identities of a device, where all of the octets are these.
