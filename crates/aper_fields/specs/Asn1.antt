@@ -305,7 +305,7 @@ abbrev mutual
   most_fields (absent reason) = 0
   most_fields (also p q) = most_fields p + most_fields q
 
--- it takes at least a bit, whatever its value
+-- it takes at least a bit, whatever its value (`only` and `container` are not asked)
 abbrev pub takes_some : {A : Type 0} → AsnType A → Bool
 takes_some (bit_string n) = nat_lt 0 n
 takes_some (integer low high bounds) = nat_lt low high

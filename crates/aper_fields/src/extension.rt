@@ -51,7 +51,7 @@ fn criticality(r: &mut BitReader) -> Result<u64, Refusal>
     Ok(criticality)
 }
 
-/// Reads a criticality (TS 36.413, 9.3): 0 reject, 1 ignore, 2 notify. It is refused as Truncated, and as BadCriticality where
+/// Reads a criticality (TS 36.413, 9.3.5): 0 reject, 1 ignore, 2 notify. It is refused as Truncated, and as BadCriticality where
 /// the two bits are 3.
 #[inline(always)]
 pub fn read_criticality(r: &mut BitReader) -> Result<u64, Refusal>
@@ -89,7 +89,9 @@ fn skip_entries(r: &mut BitReader, count: u64) -> Result<(), Refusal>
     Ok(())
 }
 
-/// Passes over the iE-Extensions, where they are present.
+/// Passes over the iE-Extensions, where they are present (TS 36.413, 9.3.7): a count of 1 to 65,535, and so many entries of an id, a
+/// criticality and an open type. They are refused for the first piece that is wrong: Truncated, NonZeroPadding, OutOfRange at the count,
+/// BadCriticality, LongLength, TooLong.
 #[tactic(auto, unfolding(crate::specs::SequenceReading::extensions_at))]
 #[inline(always)]
 pub fn skip_extensions(r: &mut BitReader, present: bool) -> Result<(), Refusal>

@@ -19,7 +19,7 @@ pub struct Ranged<const LOW: u64, const HIGH: u64>;
 
 impl<const LOW: u64, const HIGH: u64> Ranged<LOW, HIGH> {
     /// Reads a number: Truncated, NonZeroPadding, NotMinimal where its first octet of several is 0, and OutOfRange
-    /// above HIGH.
+    /// above HIGH, or at the count of its octets where HIGH - LOW has fewer.
     #[inline(always)]
     pub fn read(r: &mut BitReader) -> Result<u64, Refusal>
         requires order { LOW ≤ HIGH }

@@ -123,7 +123,7 @@ pub fn read_len(r: &mut BitReader) -> Result<usize, Refusal>
 }
 
 /// Reads an octet string of the fixed size `n` above 2 (ITU-T X.691, Encoding the octetstring type): padding and
-/// the octets. NonZeroPadding, or Truncated, at the first octet where they do not fit.
+/// the octets. NonZeroPadding; Truncated at the padding, or at the string's first octet where its octets do not fit.
 #[tactic(auto, unfolding(crate::specs::Reading::fixed_octets_at))]
 #[inline(always)]
 pub fn read_octets_fixed<'a>(r: &mut BitReader<'a>, n: usize) -> Result<&'a [u8], Refusal>

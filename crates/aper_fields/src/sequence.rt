@@ -12,7 +12,7 @@ use crate::writer::BitWriter;
 use crate::writing::write_bits_fixed;
 use echo_base::{OutOfMemory, Refusal};
 
-/// Reads a bit that says whether an optional part is there.
+/// Reads a bit that says whether an optional part is there (ITU-T X.691, Encoding the sequence type). It is refused as Truncated.
 #[tactic(auto, unfolding(crate::specs::SequenceReading::present_at))]
 #[inline(always)]
 pub fn read_present(r: &mut BitReader) -> Result<bool, Refusal>
@@ -21,7 +21,7 @@ pub fn read_present(r: &mut BitReader) -> Result<bool, Refusal>
     Ok(read_bits_fixed(r, 1)? == 1)
 }
 
-/// Writes a bit that says whether an optional part is there. Where memory runs out, nothing is written.
+/// Writes a bit that says whether an optional part is there (ITU-T X.691, Encoding the sequence type). Where memory runs out, nothing is written.
 #[tactic(auto, unfolding(crate::specs::Asn1::present_run))]
 pub fn write_present(w: &mut BitWriter, present: bool) -> Result<(), OutOfMemory>
     ensures ok { OnOk result (w.new ≡ then_written w.old (present_run present)) }
@@ -34,7 +34,7 @@ pub fn write_present(w: &mut BitWriter, present: bool) -> Result<(), OutOfMemory
     }
 }
 
-/// Writes the bits before the fields: no extension, no iE-Extensions. Where memory runs out, nothing is written.
+/// Writes the bits before the fields of a SEQUENCE without optional parts: no extension, no iE-Extensions (ITU-T X.691, Encoding the sequence type). Where memory runs out, nothing is written.
 pub fn write_preamble(w: &mut BitWriter) -> Result<(), OutOfMemory>
     ensures ok { OnOk result (w.new ≡ then_written w.old (fixed_bits_run 1 0 ▸ fixed_bits_run 1 0)) }
     ensures err { OnErr result (w.new ≡ w.old) }

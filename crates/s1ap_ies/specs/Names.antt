@@ -3,7 +3,7 @@ use Rattle.std.specs.Prelude.{ℕ}
 use Rattle.s1ap_ies.specs.declared.criticality.Criticality.{Criticality}
 use Rattle.s1ap_ies.specs.declared.criticality.Criticality.TheVariants.{Reject, Ignore, Notify}
 
--- ---- criticalities (9.3.3)
+-- ---- criticalities (9.3.5)
 
 abbrev pub reject : ℕ
 reject = 0
@@ -19,7 +19,7 @@ criticality_number Reject = reject
 criticality_number Ignore = ignore
 criticality_number Notify = notify
 
--- ---- ids of IEs (9.3.7)
+-- ---- ids of IEs (9.3.6)
 
 -- MME UE S1AP ID (9.2.3.3)
 abbrev pub mme_ue_s1ap_id : ℕ
@@ -65,7 +65,7 @@ radio_capability = 74
 abbrev pub stmsi : ℕ
 stmsi = 96
 
--- UE S1AP IDs (9.2.3.18)
+-- UE S1AP IDs (9.1.4.6)
 abbrev pub ue_ids : ℕ
 ue_ids = 99
 
@@ -81,7 +81,7 @@ sec_caps = 107
 abbrev pub rrc_cause : ℕ
 rrc_cause = 134
 
--- ---- ids of the items of lists (9.3.7)
+-- ---- ids of the items of lists (9.3.6)
 
 abbrev pub erab_setup_item : ℕ
 erab_setup_item = 50

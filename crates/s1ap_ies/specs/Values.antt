@@ -82,7 +82,7 @@ pub ids_again : (v : UeIds) → ids_of (parts_of v) ≡ v
 ids_again (Pair mme enb) = refl
 ids_again (Mme mme) = refl
 
--- UE S1AP IDs (9.2.3.18): a CHOICE of both identities, and that of the MME alone
+-- UE S1AP IDs (9.1.4.6): a CHOICE of both identities (9.2.3.18), and that of the MME alone
 abbrev pub ue_ids : AsnType UeIds
 ue_ids = named (record { make = ids_of; parts = parts_of; back = ids_back; again = ids_again })
     (choice (sequence (also (needed (integer 0 most_mme_ue_s1ap_id refl)) (needed (integer 0 most_enb_ue_s1ap_id refl)))) (integer 0 most_mme_ue_s1ap_id refl))

@@ -70,7 +70,7 @@ pub fn write_address(w: &mut BitWriter, number: u32) -> Result<(), OutOfMemory>
 pub struct Qos {
     /// QoS class identifier.
     pub qci: u8,
-    /// Allocation and retention priority: four bits of priority, one of capability, one of vulnerability.
+    /// Allocation and retention priority: four bits of priority, the highest, one of capability, one of vulnerability.
     pub arp: u8,
 }
 

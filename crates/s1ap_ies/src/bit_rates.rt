@@ -24,8 +24,8 @@ impl PlainValue for BitRates {
     ghost asn1 = { bit_rates };
 
     /// It is refused for the first piece that is wrong: Truncated, NonZeroPadding, SequenceExtension
-    /// where its extension bit is 1, NotMinimal and OutOfRange at a rate; in its iE-Extensions LongLength, TooLong,
-    /// BadCriticality too.
+    /// where its extension bit is 1, NotMinimal and OutOfRange at a rate; in its iE-Extensions OutOfRange at their count,
+    /// LongLength, TooLong, BadCriticality too.
     #[tactic(auto, unfolding(aper_fields::specs::Asn1::reading, aper_fields::specs::Asn1::flags_at, aper_fields::specs::Asn1::fields_at))]
     fn read_pieces(r: &mut BitReader) -> Result<BitRates, Refusal> {
         let mut ahead = r.ahead();

@@ -9,9 +9,9 @@ use echo_base::{OutOfMemory, Refusal};
 /// An E-UTRAN cell global identity (TS 36.413, 9.2.1.38).
 #[derive(Clone, Copy, Debug, PartialEq, Eq)]
 pub struct Cgi {
-    /// The three octets of the PLMN identity as one number.
+    /// The three octets of the PLMN identity as one number, the first octet highest, below 2^24.
     pub plmn: u32,
-    /// The cell identity, 28 bits.
+    /// The cell identity, 28 bits: below 2^28.
     pub cell: u32,
 }
 
@@ -21,7 +21,8 @@ impl PlainValue for Cgi {
     ghost asn1 = { cgi };
 
     /// It is refused for the first piece that is wrong: Truncated, NonZeroPadding, SequenceExtension
-    /// where its extension bit is 1; in its iE-Extensions LongLength, TooLong, BadCriticality too.
+    /// where its extension bit is 1; in its iE-Extensions OutOfRange at their count, LongLength, TooLong,
+    /// BadCriticality too.
     #[tactic(auto, unfolding(aper_fields::specs::Asn1::reading))]
     fn read_pieces(r: &mut BitReader) -> Result<Cgi, Refusal> {
         let (plmn, cell) = read_two(r, 24, 28)?;

@@ -1,4 +1,4 @@
-//! Criticalities (3GPP TS 36.413, 9.3.3).
+//! Criticalities (3GPP TS 36.413, 9.3.5).
 
 ghost use Rattle.std.specs.Prelude.{◌≡◌, ◌≤◌};
 ghost use Rattle.s1ap_ies.specs.Names.{criticality_number};

@@ -14,9 +14,9 @@ use echo_base::{OutOfMemory, Reason, Refusal};
 pub struct ErabDone {
     /// The E-RAB ID, below 16.
     pub id: u8,
-    /// The IPv4 address of the base station.
+    /// The IPv4 address of the base station, four octets as one number, the first octet highest.
     pub address: u32,
-    /// The tunnel endpoint identifier of the base station.
+    /// The tunnel endpoint identifier of the base station (9.2.2.2), four octets as one number, the first octet highest.
     pub teid: u32,
 }
 
@@ -27,7 +27,8 @@ impl PlainValue for ErabDone {
 
     /// It is refused for the first piece that is wrong: Truncated, NonZeroPadding, SequenceExtension
     /// where its extension bit is 1, OutOfRange where that of the E-RAB ID or of the address is 1 or the address has
-    /// not 32 bits; in its iE-Extensions LongLength, TooLong, BadCriticality too.
+    /// not 32 bits; in its iE-Extensions OutOfRange at their count, LongLength, TooLong,
+    /// BadCriticality too.
     #[tactic(auto, unfolding(aper_fields::specs::Asn1::reading, aper_fields::specs::Asn1::flags_at, aper_fields::specs::Asn1::fields_at, crate::specs::Values::erab_done))]
     fn read_pieces(r: &mut BitReader) -> Result<ErabDone, Refusal> {
         let mut ahead = r.ahead();

@@ -25,11 +25,11 @@ pub struct ErabToSetup {
     pub id: u8,
     /// QoS class identifier.
     pub qci: u8,
-    /// Allocation and retention priority, below 64: four bits of priority, one of capability, one of vulnerability.
+    /// Allocation and retention priority, below 64: four bits of priority, the highest, one of capability, one of vulnerability.
     pub arp: u8,
-    /// The IPv4 address of the serving gateway.
+    /// The IPv4 address of the serving gateway, four octets as one number, the first octet highest.
     pub address: u32,
-    /// The tunnel endpoint identifier of the serving gateway.
+    /// The tunnel endpoint identifier of the serving gateway (9.2.2.2), four octets as one number, the first octet highest.
     pub teid: u32,
     /// A NAS-PDU for the device, of at most 2,048 octets.
     pub nas: Option<Octets>,
@@ -132,8 +132,8 @@ impl OwnedValue for ErabToSetup {
     /// It is refused for the first piece that is wrong: Truncated, NonZeroPadding, SequenceExtension
     /// where an extension bit of the item, its QoS or its priority is 1, OutOfRange where one of the E-RAB ID or of the
     /// address is 1, where there is GBR QoS Information, or the address has not 32 bits; at the NAS-PDU LongLength, and
-    /// TooLong above 2,048 octets; in its iE-Extensions LongLength, TooLong, BadCriticality too. Where memory for the
-    /// NAS-PDU runs out, nothing is read.
+    /// TooLong above 2,048 octets; in its iE-Extensions OutOfRange at their count, LongLength, TooLong,
+    /// BadCriticality too. Where memory for the NAS-PDU runs out, nothing is read.
     fn read_pieces(alloc: Global, r: &mut BitReader) -> Result<ErabToSetup, Bad> {
         let mut ahead = r.ahead();
         let parts = read_parts(&mut ahead)?;

@@ -34,7 +34,7 @@ fn read_fields<'a>(r: &mut BitReader<'a>, id: u16) -> Result<BitReader<'a>, Refu
 
 /// Reads an item of the list whose items have that id, up to what it contains, which is a container of its own
 /// (TS 36.413, 9.1.4.1 and 9.1.4.3). It is refused for the first piece that is wrong: MissingIe with that id, at the
-/// id, where it has another; BadCriticality; as an open type is refused.
+/// id, where it has another; NonZeroPadding before the id; Truncated; BadCriticality; as an open type is refused.
 pub fn read_item<'a>(r: &mut BitReader<'a>, id: u16) -> Result<BitReader<'a>, Refusal>
     ensures read { Gives result r.old r.new (item_at id r.old) }
     ensures exact { ReadsExactly (item_in id) result r.old r.new }

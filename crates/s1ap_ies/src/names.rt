@@ -33,7 +33,7 @@ pub const RADIO_CAPABILITY: u16 = 74;
 /// The id of the IE S-TMSI (9.2.3.6).
 pub const STMSI: u16 = 96;
 
-/// The id of the IE UE S1AP IDs (9.2.3.18).
+/// The id of the IE UE S1AP IDs (9.1.4.6).
 pub const UE_IDS: u16 = 99;
 
 /// The id of the IE E-UTRAN CGI (9.2.1.38).
@@ -45,31 +45,31 @@ pub const SEC_CAPS: u16 = 107;
 /// The id of the IE RRC Establishment Cause (9.2.1.3a).
 pub const RRC_CAUSE: u16 = 134;
 
-/// The id of an item of an E-RAB Setup List.
+/// The id of an item of an E-RAB Setup List (9.1.4.3).
 pub const ERAB_SETUP_ITEM: u16 = 50;
 
-/// The id of an item of an E-RAB to Be Setup List.
+/// The id of an item of an E-RAB to Be Setup List (9.1.4.1).
 pub const ERAB_TO_SETUP_ITEM: u16 = 52;
 
 /// The procedure code of a downlink NAS transport (9.3.6).
 pub const DOWNLINK_NAS_TRANSPORT: u8 = 11;
 
-/// The procedure code of an initial UE message.
+/// The procedure code of an initial UE message (9.3.6).
 pub const INITIAL_UE_MESSAGE: u8 = 12;
 
-/// The procedure code of an uplink NAS transport.
+/// The procedure code of an uplink NAS transport (9.3.6).
 pub const UPLINK_NAS_TRANSPORT: u8 = 13;
 
-/// The procedure code of an initial context setup.
+/// The procedure code of an initial context setup (9.3.6).
 pub const INITIAL_CONTEXT_SETUP: u8 = 9;
 
-/// The procedure code of a request to release a UE context.
+/// The procedure code of a request to release a UE context (9.3.6).
 pub const UE_CONTEXT_RELEASE_REQUEST: u8 = 18;
 
-/// The procedure code of an indication of UE capabilities.
+/// The procedure code of an indication of UE capabilities (9.3.6).
 pub const UE_CAPABILITY_INFO_INDICATION: u8 = 22;
 
-/// The procedure code of the release of a UE context.
+/// The procedure code of the release of a UE context (9.3.6).
 pub const UE_CONTEXT_RELEASE: u8 = 23;
 
 /// The greatest MME UE S1AP ID (9.2.3.3).

@@ -51,8 +51,8 @@ impl PlainValue for SecCaps {
     ghost asn1 = { sec_caps };
 
     /// It is refused for the first piece that is wrong: Truncated, NonZeroPadding, SequenceExtension
-    /// where its extension bit is 1, OutOfRange where one of a bit string is 1; in its iE-Extensions LongLength,
-    /// TooLong, BadCriticality too.
+    /// where its extension bit is 1, OutOfRange where one of a bit string is 1; in its iE-Extensions OutOfRange at
+    /// their count, LongLength, TooLong, BadCriticality too.
     #[tactic(auto, unfolding(aper_fields::specs::Asn1::reading, aper_fields::specs::Asn1::flags_at, aper_fields::specs::Asn1::fields_at))]
     fn read_pieces(r: &mut BitReader) -> Result<SecCaps, Refusal> {
         let mut ahead = r.ahead();

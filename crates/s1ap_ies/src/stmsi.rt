@@ -9,9 +9,9 @@ use echo_base::{OutOfMemory, Refusal};
 /// An S-TMSI (TS 36.413, 9.2.3.6).
 #[derive(Clone, Copy, Debug, PartialEq, Eq)]
 pub struct Stmsi {
-    /// The MME code.
+    /// The MME code, an octet.
     pub mmec: u8,
-    /// The M-TMSI.
+    /// The M-TMSI, four octets as one number, the first octet highest.
     pub tmsi: u32,
 }
 
@@ -21,7 +21,8 @@ impl PlainValue for Stmsi {
     ghost asn1 = { stmsi };
 
     /// It is refused for the first piece that is wrong: Truncated, NonZeroPadding, SequenceExtension
-    /// where its extension bit is 1; in its iE-Extensions LongLength, TooLong, BadCriticality too.
+    /// where its extension bit is 1; in its iE-Extensions OutOfRange at their count, LongLength, TooLong,
+    /// BadCriticality too.
     #[tactic(auto, unfolding(aper_fields::specs::Asn1::reading))]
     fn read_pieces(r: &mut BitReader) -> Result<Stmsi, Refusal> {
         let (mmec, tmsi) = read_two(r, 8, 32)?;

@@ -9,9 +9,9 @@ use echo_base::{OutOfMemory, Refusal};
 /// A tracking area identity (TS 36.413, 9.2.3.16).
 #[derive(Clone, Copy, Debug, PartialEq, Eq)]
 pub struct Tai {
-    /// The three octets of the PLMN identity as one number.
+    /// The three octets of the PLMN identity as one number, the first octet highest, below 2^24.
     pub plmn: u32,
-    /// The tracking area code.
+    /// The tracking area code, two octets as one number.
     pub tac: u16,
 }
 
@@ -21,7 +21,8 @@ impl PlainValue for Tai {
     ghost asn1 = { tai };
 
     /// It is refused for the first piece that is wrong: Truncated, NonZeroPadding, SequenceExtension
-    /// where its extension bit is 1; in its iE-Extensions LongLength, TooLong, BadCriticality too.
+    /// where its extension bit is 1; in its iE-Extensions OutOfRange at their count, LongLength, TooLong,
+    /// BadCriticality too.
     #[tactic(auto, unfolding(aper_fields::specs::Asn1::reading))]
     fn read_pieces(r: &mut BitReader) -> Result<Tai, Refusal> {
         let (plmn, tac) = read_two(r, 24, 16)?;

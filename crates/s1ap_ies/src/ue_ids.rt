@@ -9,7 +9,7 @@ use aper_fields::{
 };
 use echo_base::{OutOfMemory, Reason, Refusal};
 
-/// The UE S1AP IDs (TS 36.413, 9.2.3.18).
+/// The UE S1AP IDs (TS 36.413, 9.1.4.6): both, as a UE S1AP ID pair (9.2.3.18), or that of the MME alone.
 #[derive(Clone, Copy, Debug, PartialEq, Eq)]
 pub enum UeIds {
     /// Both.
@@ -30,7 +30,8 @@ impl PlainValue for UeIds {
 
     /// It is refused for the first piece that is wrong: Truncated, NonZeroPadding, BadChoice where the
     /// extension bit of the choice is 1, SequenceExtension where that of the pair is 1, NotMinimal and OutOfRange at an
-    /// identity; in its iE-Extensions LongLength, TooLong, BadCriticality too.
+    /// identity; in its iE-Extensions OutOfRange at their count, LongLength, TooLong,
+    /// BadCriticality too.
     #[tactic(auto, unfolding(aper_fields::specs::Asn1::reading, aper_fields::specs::Asn1::flags_at, aper_fields::specs::Asn1::fields_at))]
     fn read_pieces(r: &mut BitReader) -> Result<UeIds, Refusal> {
         let mut ahead = r.ahead();

@@ -14,7 +14,7 @@ FieldValue = declared.IeValue (List ℕ) (List ErabToSetup) (List ErabDone)
 
 -- an IE
 pub record IeType : Type 1 where
-  -- its id (9.3.7)
+  -- its id (9.3.6)
   pub id : ℕ
   -- what it is a value of
   pub Value : Type 0
@@ -75,7 +75,7 @@ radio_capability = ie_type names.radio_capability (octet_string names.most_octet
 abbrev pub stmsi : IeType
 stmsi = ie_type names.stmsi types.stmsi value.Stmsi (elim [ value.Stmsi v ↦ Some v | _ ↦ None ]) (λ v. refl) (elim [ value.Stmsi v ↦ refl | _ ↦ tt ])
 
--- UE S1AP IDs (9.2.3.18)
+-- UE S1AP IDs (9.1.4.6)
 abbrev pub ue_ids : IeType
 ue_ids = ie_type names.ue_ids types.ue_ids value.Ids (elim [ value.Ids v ↦ Some v | _ ↦ None ]) (λ v. refl) (elim [ value.Ids v ↦ refl | _ ↦ tt ])
 

@@ -1,4 +1,4 @@
-//! Messages of the values that were read. Here alone reading takes memory.
+//! Messages of the values that were read piece by piece: of that way memory is taken here alone. The short way takes its own (`usual`).
 
 ghost use Rattle.std.specs.Prelude.{◌≡◌, IsOk, Ok};
 ghost use Rattle.s1ap_messages.specs.Messages.{initial_ue_message, uplink_nas_transport, downlink_nas_transport, initial_context_setup_request, initial_context_setup_response, initial_context_setup_failure, ue_context_release_request, ue_context_release_command, ue_context_release_complete, ue_capability_info_indication, made_from, message_from};

@@ -118,7 +118,7 @@ pub enum Pdu {
         mme: u32,
         /// eNB UE S1AP ID.
         enb: u32,
-        /// UE Radio Capability, of any length below 16,384 octets.
+        /// UE Radio Capability, as long as the IEs of the message have at most 16,383 octets.
         radio: Octets,
     },
 }

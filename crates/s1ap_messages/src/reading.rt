@@ -154,7 +154,7 @@ pub(crate) fn read_pieces(alloc: Global, bytes: &[u8]) -> Result<Pdu, Bad>
     Ok(message(alloc, kind, &mut slots)?)
 }
 
-/// Reads a message that is all of the octets: one in its usual form at once, and any other piece by piece.
+/// Reads a message that is all of the octets: one that the short way knows at once, and any other piece by piece.
 fn read_message(alloc: Global, bytes: &[u8]) -> Result<Pdu, Bad>
     ensures { IsRead (message_at bytes.now) result }
 {
@@ -179,7 +179,7 @@ fn receive_pieces(alloc: Global, bytes: &[u8]) -> Result<Pdu, Bad>
     Ok(message(alloc, kind, &mut slots)?)
 }
 
-/// Reads a message that an MME receives: one in its usual form at once, and any other piece by piece.
+/// Reads a message that an MME receives: one that the short way knows at once, and any other piece by piece.
 #[tactic(auto, unfolding(crate::specs::Built::uplink_at))]
 fn read_received(alloc: Global, bytes: &[u8]) -> Result<Pdu, Bad>
     ensures { IsRead (uplink_at bytes.now) result }
@@ -195,7 +195,7 @@ fn read_received(alloc: Global, bytes: &[u8]) -> Result<Pdu, Bad>
 /// Reads the message that all of the octets are. It is refused for the first piece that is wrong, at its octet: Truncated,
 /// LongLength, NonZeroPadding, NotMinimal, OutOfRange, TooLong, SequenceExtension, BadChoice, BadCriticality, TrailingBytes as
 /// the pieces are (ITU-T X.691); OtherProcedure at octet 1 for an outcome and procedure code of no message; RepeatedIe at the
-/// second id; and where no piece is wrong MissingIe at the end of the octets, for the first IE of the message's table that it
+/// second id; MissingIe at the id of an item that is not one of its list; and where no piece is wrong MissingIe at the end of the octets, for the first IE of the message's table that it
 /// needs. IEs may stand in any order and with any criticality, and other IEs are passed over. Memory is taken once
 /// the message is found right, for its NAS-PDU, key, radio capability and lists of E-RABs.
 pub fn read_pdu(alloc: Global, bytes: &[u8]) -> Result<Pdu, Bad>

@@ -95,7 +95,7 @@ const NO_ROW: IeRow = IeRow {
     needed: false,
 };
 
-/// The table of two to six rows.
+/// The table of two, three, five or six rows.
 macro_rules! table {
     ($a:expr, $b:expr) => {
         IeTable { rows: [$a, $b, NO_ROW, NO_ROW, NO_ROW, NO_ROW], len: 2 }

@@ -1,4 +1,4 @@
-//! Messages in their usual form: read and written octet by octet. Any other form goes piece by piece.
+//! Messages as they are written, with one E-RAB in a list: read and written octet by octet. Any other goes piece by piece.
 
 ghost use Rattle.std.specs.Prelude.{◌≡◌, ◌<◌, ◌∷◌, IfOk, IfSome, Ok, length};
 ghost use Rattle.s1ap_messages.specs.Built.{message_at};
@@ -37,7 +37,7 @@ fn parts(octets: &[u8]) -> Option<(u8, u8, u8, u8, &[u8])>
     Some((outcome, code, criticality, count, ies))
 }
 
-/// The message that the octets are, where they are in its usual form.
+/// The message that the octets are, where they are found to be its usual form.
 fn find_usual(alloc: Global, octets: &[u8]) -> Option<Pdu>
     ensures { IfSome result (λ p. (octets.now ≡ usual_octets p) × IsUsual p) }
 {
@@ -53,7 +53,7 @@ pub fn read_usual(alloc: Global, octets: &[u8]) -> Option<Pdu>
     find_usual(alloc, octets)
 }
 
-/// The octets that are written for a message, where it is of a usual kind.
+/// The octets that are written for a message whose lists have one item, and whose radio capability at most 16,000 octets.
 #[tactic(auto, using(crate::proofs::UsualForm::finished_is_written))]
 pub fn write_usual(alloc: Global, p: &Pdu) -> Result<Option<Octets>, AllocError>
     requires { IsRight p.now }

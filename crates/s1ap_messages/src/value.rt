@@ -43,7 +43,7 @@ pub enum IeValue<O, S, D> {
     Radio(O),
     /// S-TMSI (9.2.3.6), the IE 96.
     Stmsi(Stmsi),
-    /// UE S1AP IDs (9.2.3.18), the IE 99.
+    /// UE S1AP IDs (9.1.4.6), the IE 99.
     Ids(UeIds),
     /// E-UTRAN CGI (9.2.1.38), the IE 100.
     Cgi(Cgi),

@@ -135,7 +135,8 @@ pub(crate) fn write_pieces(alloc: Global, p: &Pdu) -> Result<Octets, OutOfMemory
 }
 
 /// Writes a message: its IEs in the order of its table (TS 36.413, 9.1), each with the criticality of the table, and no
-/// other.
+/// other. Its fields have to be in their ranges, and no open type, as it is written, may have more than 16,383 octets (`small_is_right` says of
+/// which messages this surely holds). It fails for want of memory alone.
 pub fn write_pdu(alloc: Global, p: &Pdu) -> Result<Octets, OutOfMemory>
     requires { IsRight p.now }
     ensures { IfOk result (λ octets. octets ≡ written p.now) }

@@ -28,7 +28,7 @@ fn item(octets: &[u8], id: u16, criticality: Criticality) -> Option<&[u8]>
     Some(item)
 }
 
-/// A list of one.
+/// A list of one, or None for want of memory.
 fn list_of<T: Drop>(alloc: Global, item: T) -> Option<ListOf<T>>
     ensures { IfSome result (λ list. list ≡ item ∷ []) }
 {

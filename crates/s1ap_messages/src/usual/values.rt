@@ -376,7 +376,7 @@ pub fn ids(octets: &[u8]) -> Option<(UeIds, &[u8])>
     Some((single(content)?, rest))
 }
 
-/// Octets in memory of their own.
+/// Octets in memory of their own, or None for want of memory.
 pub fn own(alloc: Global, octets: &[u8]) -> Option<Octets>
     ensures { IfSome result (λ o. o ≡ octets.now) }
 {
