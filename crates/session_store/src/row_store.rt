@@ -46,7 +46,7 @@ pub trait RowStore {
         ensures ok { IfOk result (λ seen. seen ≡ seen_of (known self.new d.0) asked) }
         ensures state { reads self.old self.new };
 
-    /// Writes an entry, where the row still has the version that was read. For want of memory it is not written, and given back.
+    /// Writes an entry, where the row still has the version that was read. For want of memory the entry is given back, and the store is left as a read may leave it.
     fn commit(&mut self, d: DeviceId, read: u64, entry: Entry) -> Result<Commit, NoRoom<Entry>>
         requires device { IsDevice (devices self.old) d.0 }
         requires version { read ≤ length (known self.old d.0) }
