@@ -1,13 +1,12 @@
 -- What follows of a sample.
-use Rattle.std.proofs.Common.{ℕ, ◌+◌, ◌<◌, List, [], ◌∷◌, length, Ok, Err, All, ◌≡◌, sym, subst, arith}
-use Rattle.std.proofs.lemmas.List.{length-append}
+use Rattle.std.proofs.Common.{ℕ, ◌<◌, List, [], ◌∷◌, length, Ok, Err, All, ◌≡◌, sym, subst, arith}
 use Rattle.std.proofs.lemmas.List.Elements.{All-append, All-from_recursion}
 use Rattle.echo_base.specs.declared.refusal.Bad.{Bad}
 use Rattle.echo_base.specs.declared.refusal.Bad.TheVariants.{Refused}
 use Rattle.echo_base.specs.declared.refusal.Refusal.{Refusal}
 use Rattle.s1ap_messages.specs.declared.pdu.Pdu.{Pdu}
-use Rattle.aper_fields.specs.Run.{Run, ◌▸◌, fixed_bits_run, number_run, open_run}
-use Rattle.aper_fields.proofs.BitLaws.{length-bits}
+use Rattle.aper_fields.specs.Run.{◌▸◌, fixed_bits_run, number_run, open_run}
+use Rattle.aper_fields.proofs.NotEmpty.{first_some, bit_some}
 use Rattle.aper_fields.proofs.Packed.{length-packed}
 use Rattle.s1ap_ies.specs.Names.{criticality_number}
 use Rattle.aper_fields.specs.Asn1.{index_run}
@@ -24,14 +23,6 @@ not_refused p _ e is answer = cc
 
 pub still_samples : (line : List ℕ) (old new : List Sample) → All IsSample old → IsMore line old new → All IsSample new
 still_samples line old new all more = subst (All IsSample) (sym more.2) (All-append IsSample old (more.0 ∷ []) all (All-from_recursion IsSample (more.0 ∷ []) (more.1.1, tt)))
-
--- what begins with something is something
-first_some : (f g : Run) (at : ℕ) → 0 < length (f at) → 0 < length ((f ▸ g) at)
-first_some f g at h = omega (arith, h, length-append (f at) (g (at + length (f at))))
-
-bit_some : 0 < length (fixed_bits_run 1 0 0)
-unfolding fixed_bits_run
-bit_some = omega (arith, length-bits 1 0)
 
 -- a message is written in some octets
 pub written_some : (p : Pdu) → 0 < length (written p)

@@ -17,8 +17,8 @@ pub fn bound_is_last()
 
 /// A pair is bound to at most one device, and a device to at most one pair.
 pub fn bound_once()
-    ensures device { (H : List Turn) (pair : Pair) (d e : DeviceId) → bound pair H ≡ Some d → bound pair H ≡ Some e → d ≡ e }
-    ensures pair { (H : List Turn) (p q : Pair) (d : DeviceId) → bound p H ≡ Some d → bound q H ≡ Some d → p ≡ q }
+    ensures device { (H : List Turn) (pair : Pair) (d e : DeviceId) → IsBound H pair d → IsBound H pair e → d ≡ e }
+    ensures pair { (H : List Turn) (p q : Pair) (d : DeviceId) → IsBound H p d → IsBound H q d → p ≡ q }
 {}
 
 /// A refused line stands behind the refused ones, adds no message and binds nothing.

@@ -2,7 +2,7 @@
 use Rattle.std.proofs.Common.{◌≡◌, ⊎_elim, ℕ, ◌+◌, ◌*◌, ◌≤◌, ◌<◌, List, [], ◌∷◌, ◌++◌, length, refl, sym, ap, ◌∙◌, subst, arith, add-one, length-append}
 use Rattle.std.proofs.lemmas.Bool.{cases_lt}
 use Rattle.device_types.specs.declared.event.Event.{Event}
-use Rattle.device_types.specs.declared.event.Event.TheVariants.{Reply}
+use Rattle.device_types.specs.declared.event.Event.TheVariants.{Reply, Settle}
 use Rattle.device_types.specs.declared.event.EventAnswer.{EventAnswer}
 use Rattle.device_types.specs.declared.event.Lane.{Lane}
 use Rattle.device_types.specs.declared.event.Lane.TheVariants.{Down, Gateway, Subscriber}
@@ -11,14 +11,14 @@ use Rattle.device_types.specs.Journal.{pushed_count, taken_count, effects_of}
 use Rattle.device_types.specs.Numbers.{IsWithin}
 use Rattle.device_types.proofs.Courses.{few_entries}
 use Rattle.schedule_laws.specs.Answer.{turn, history, Lawful}
-use Rattle.schedule_laws.specs.Counts.{Turn, acked, journal}
+use Rattle.schedule_laws.specs.Counts.{Turn, acked, settled, journal}
 use Rattle.schedule_laws.specs.Setting.{Setting, row_of, messages_of, message_count, entries_to, entries_of}
-use Rattle.link_schedule.specs.Settled.{turns_in, journal_in, commits_in, acked_in, accepts_in, GoesOn, IsWholeLane, IsDone, spent_in, Pays, PaysFor, cost, cost_to}
+use Rattle.link_schedule.specs.Settled.{turns_in, journal_in, commits_in, acked_in, accepts_in, settles_in, GoesOn, IsWholeLane, IsDone, IsClearLane, spent_in, Pays, PaysFor, cost, cost_to}
 use Rattle.link_schedule.specs.World.{WorldState, IsWorld, Answers}
 use Rattle.schedule_laws.proofs.EachAnswer.{history_more}
-use Rattle.schedule_laws.proofs.Laws.{version_is, accepted_bound}
+use Rattle.schedule_laws.proofs.Laws.{version_is, accepted_bound, settled_bound}
 use Rattle.schedule_laws.proofs.Runs.{Begins-refl, Begins-trans, Begins-length, effects_begin, to_alone}
-use Rattle.schedule_laws.proofs.Steps.{whole_stays, commits_behind, accepted_behind, reply_acknowledged}
+use Rattle.schedule_laws.proofs.Steps.{whole_stays, commits_behind, accepted_behind, settled_behind, reply_acknowledged, effect_settled}
 
 -- ---- one event more
 
@@ -55,6 +55,9 @@ commits_grow old new d g = rw (turns_later old new g) (commits_behind old.settin
 pub accepts_grow : (old new : WorldState) (d : ℕ) (l : Lane) → GoesOn old new → accepts_in old d l ≤ accepts_in new d l
 accepts_grow old new d l g = rw (turns_later old new g) (accepted_behind old.setting d l old.events g.events.0)
 
+pub settles_grow : (old new : WorldState) (d : ℕ) (l : Lane) → GoesOn old new → settles_in old d l ≤ settles_in new d l
+settles_grow old new d l g = rw (turns_later old new g) (settled_behind old.setting d l old.events g.events.0)
+
 -- ---- what is done stays done
 
 pub journal_same : (old new : WorldState) (d : ℕ) → GoesOn old new → commits_in new d ≡ commits_in old d → journal_in new d ≡ journal_in old d
@@ -79,14 +82,20 @@ done_stays old new d g is done =
     let j = journal_stays old new d g done.journal in
     record { journal = j; lanes = λ l. lane_stays old new d l g is j (done.lanes l) }
 
-pub whole_lanes : (w : WorldState) (d : ℕ) → IsWholeLane w d Down → IsWholeLane w d Gateway → IsWholeLane w d Subscriber → (l : Lane) → IsWholeLane w d l
+whole_lanes : (w : WorldState) (d : ℕ) → IsWholeLane w d Down → IsWholeLane w d Gateway → IsWholeLane w d Subscriber → (l : Lane) → IsWholeLane w d l
 whole_lanes w d down gateway subscriber Down = down
 whole_lanes w d down gateway subscriber Gateway = gateway
 whole_lanes w d down gateway subscriber Subscriber = subscriber
 
 -- a lane of which all that was made was accepted, of a whole journal
-pub lane_whole : (w : WorldState) (d : ℕ) (l : Lane) → journal_in w d ≡ entries_of w.setting d → accepts_in w d l ≡ pushed_count l (journal_in w d) → IsWholeLane w d l
+lane_whole : (w : WorldState) (d : ℕ) (l : Lane) → journal_in w d ≡ entries_of w.setting d → accepts_in w d l ≡ pushed_count l (journal_in w d) → IsWholeLane w d l
 lane_whole w d l j e = e ∙ ap (pushed_count l) j
+
+-- where each lane is so, the device is done
+pub done_of : (old new : WorldState) (d : ℕ) → GoesOn old new → journal_in old d ≡ entries_of old.setting d → accepts_in new d Down ≡ pushed_count Down (journal_in new d) → accepts_in new d Gateway ≡ pushed_count Gateway (journal_in new d) → accepts_in new d Subscriber ≡ pushed_count Subscriber (journal_in new d) → IsDone new d
+done_of old new d g whole down gateway subscriber =
+    let j = journal_stays old new d g whole in
+    record { journal = j; lanes = whole_lanes new d (lane_whole new d Down j down) (lane_whole new d Gateway j gateway) (lane_whole new d Subscriber j subscriber) }
 
 -- and where the journal stays, one of which all that was made was accepted stays such a one
 pub lane_kept : (old new : WorldState) (d : ℕ) (l : Lane) → GoesOn old new → IsWorld new → commits_in new d ≡ commits_in old d → accepts_in old d l ≡ pushed_count l (journal_in old d) → accepts_in new d l ≡ pushed_count l (journal_in new d)
@@ -179,6 +188,54 @@ done_more b e i g is before here d within =
     ⊎_elim
     (λ (gt : i < d). let high = within.1 in let same : i + 1 ≡ d = omega arith in subst (IsDone e) same here)
     (λ (le : d ≤ i). done_stays b e d g is (before d (within.0, le)))
+    (cases_lt i d)
+
+-- ---- what was accepted is settled
+
+-- by the acknowledgement of the last effect that was accepted
+pub settled_to : (old new : WorldState) (e : DeviceId) (l : Lane) (k : ℕ) (a : EventAnswer) → Answers old new (Settle e l k) a → IsWorld old → k ≡ accepts_in old e.0 l → 1 ≤ k → accepts_in old e.0 l ≤ settles_in new e.0 l
+settled_to old new e l k a x is last low =
+    let t = turned old new (Settle e l k) a old.setting (turns_in old) x refl refl in
+    let up = effect_settled old.setting (turns_in old) e l k is.lawful low (omega arith) in
+    let here = ap (λ (H : List Turn). settled e.0 l H) t.1 in
+    omega arith
+
+-- what was accepted before is settled later on too
+pub settled_still : (a b c e : WorldState) (d : ℕ) (l : Lane) → GoesOn a b → GoesOn c e → accepts_in b d l ≤ settles_in c d l → accepts_in a d l ≤ settles_in e d l
+settled_still a b c e d l g h up =
+    let before = accepts_grow a b d l g in
+    let behind = settles_grow c e d l h in
+    omega arith
+
+pub by_lane : (old new : WorldState) (d : ℕ) → accepts_in old d Down ≤ settles_in new d Down → accepts_in old d Gateway ≤ settles_in new d Gateway → accepts_in old d Subscriber ≤ settles_in new d Subscriber → (l : Lane) → accepts_in old d l ≤ settles_in new d l
+by_lane old new d down gateway subscriber Down = down
+by_lane old new d down gateway subscriber Gateway = gateway
+by_lane old new d down gateway subscriber Subscriber = subscriber
+
+-- a lane of which all was accepted, and all that was accepted is settled, is clear
+pub lane_clear : (old new : WorldState) (d : ℕ) (l : Lane) → GoesOn old new → IsWorld new → IsDone old d → IsDone new d → accepts_in old d l ≤ settles_in new d l → IsClearLane new d l
+lane_clear old new d l g is before done up =
+    let low = settled_bound new.setting d l (turns_in new) is.lawful in
+    let old_whole = before.lanes l in
+    let new_whole = done.lanes l in
+    let same : pushed_count l (entries_of new.setting d) ≡ pushed_count l (entries_of old.setting d) = ap (λ (s : Setting). pushed_count l (entries_of s d)) g.setting in
+    omega arith
+
+-- and stays so
+pub clear_stays : (old new : WorldState) (d : ℕ) (l : Lane) → GoesOn old new → IsWorld new → IsDone new d → IsClearLane old d l → IsClearLane new d l
+clear_stays old new d l g is done clear =
+    let low = settled_bound new.setting d l (turns_in new) is.lawful in
+    let up = settles_grow old new d l g in
+    let whole = done.lanes l in
+    let same : pushed_count l (entries_of new.setting d) ≡ pushed_count l (entries_of old.setting d) = ap (λ (s : Setting). pushed_count l (entries_of s d)) g.setting in
+    omega arith
+
+-- the devices up to the next one are clear
+pub clear_more : (b e : WorldState) (i : ℕ) → GoesOn b e → IsWorld e → ((d : ℕ) → IsWithin (i + 1) d → IsDone e d) → ((d : ℕ) (l : Lane) → IsWithin i d → IsClearLane b d l) → ((l : Lane) → IsClearLane e (i + 1) l) → (d : ℕ) (l : Lane) → IsWithin (i + 1) d → IsClearLane e d l
+clear_more b e i g is done before here d l within =
+    ⊎_elim
+    (λ (gt : i < d). let high = within.1 in let same : i + 1 ≡ d = omega arith in subst (λ (n : ℕ). IsClearLane e n l) same (here l))
+    (λ (le : d ≤ i). clear_stays b e d l g is (done d within) (before d l (within.0, le)))
     (cases_lt i d)
 
 -- ---- an acknowledged reply

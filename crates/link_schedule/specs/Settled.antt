@@ -6,7 +6,7 @@ use Rattle.device_types.specs.declared.step.Entry.{Entry}
 use Rattle.device_types.specs.Journal.{pushed_count}
 use Rattle.device_types.specs.Numbers.{IsWithin}
 use Rattle.schedule_laws.specs.Answer.{history}
-use Rattle.schedule_laws.specs.Counts.{Turn, commits, acked, accepted, journal}
+use Rattle.schedule_laws.specs.Counts.{Turn, commits, acked, accepted, settled, journal}
 use Rattle.schedule_laws.specs.Lists.{Begins}
 use Rattle.schedule_laws.specs.Setting.{Setting, message_count, entries_of}
 use Rattle.link_schedule.specs.World.{WorldState}
@@ -19,7 +19,7 @@ turns_in w = history w.setting w.events
 abbrev pub journal_in : WorldState → ℕ → List Entry
 journal_in w d = journal w.setting d (turns_in w)
 
--- steps that were committed, messages that its agent learnt to be taken, effects of a lane that were accepted
+-- steps that were committed, messages that its agent learnt to be taken, effects of a lane that were accepted, and settled
 abbrev pub commits_in : WorldState → ℕ → ℕ
 commits_in w d = commits d (turns_in w)
 
@@ -28,6 +28,9 @@ acked_in w d = acked d (turns_in w)
 
 abbrev pub accepts_in : WorldState → ℕ → Lane → ℕ
 accepts_in w d l = accepted d l (turns_in w)
+
+abbrev pub settles_in : WorldState → ℕ → Lane → ℕ
+settles_in w d l = settled d l (turns_in w)
 
 -- ---- more events
 
@@ -55,6 +58,14 @@ pub record IsDone (w : WorldState) (d : ℕ) : Type 0 where
 -- each has
 abbrev pub IsSettled : WorldState → Type 0
 IsSettled w = (d : ℕ) → IsWithin (length w.setting.rows) d → IsDone w d
+
+-- every effect of that lane of the machine that never fails is settled: none is left in the row
+abbrev pub IsClearLane : WorldState → ℕ → Lane → Type 0
+IsClearLane w d l = settles_in w d l ≡ pushed_count l (entries_of w.setting d)
+
+-- so it is with each device
+abbrev pub IsClear : WorldState → Type 0
+IsClear w = (d : ℕ) (l : Lane) → IsWithin (length w.setting.rows) d → IsClearLane w d l
 
 -- ---- what settling takes
 

@@ -43,7 +43,8 @@ pub trait Floor {
         ensures setting { OnOk result (setting self.new ≡ Some (setting_of table.now book.now replicas)) }
         ensures given { OnOk result (given self.new ≡ []) }
         ensures setting_err { OnErr result (setting self.new ≡ setting self.old) }
-        ensures given_err { OnErr result (given self.new ≡ given self.old) };
+        ensures given_err { OnErr result (given self.new ≡ given self.old) }
+        ensures ends_err { OnErr result (ends self.new ≡ ends self.old) };
 
     /// Gives the floor an event, and tells what it comes to. For want of memory the event was not given.
     fn apply(&mut self, event: Event) -> Result<EventAnswer, AllocError>

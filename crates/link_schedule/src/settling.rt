@@ -1,9 +1,10 @@
 //! A world settles: by events of its own it goes on until each device has done all that the machine that never fails does.
 ghost use Rattle.std.specs.Prelude.{◌≡◌, ◌+◌, ◌<◌, ◌≤◌, ℕ, length, None, Some, IfOk, OnOk};
+ghost use Rattle.device_types.specs.declared.event.Lane.{Lane as TheLane};
 ghost use Rattle.device_types.specs.Journal.{awaited_call, pushed_count, taken_count};
 ghost use Rattle.device_types.specs.Numbers.{IsWithin};
 ghost use Rattle.schedule_laws.specs.Setting.{message_count};
-ghost use Rattle.link_schedule.specs.Settled.{journal_in, commits_in, acked_in, accepts_in, GoesOn, Advances, IsDone, IsSettled, Pays, PaysFor, cost_to};
+ghost use Rattle.link_schedule.specs.Settled.{journal_in, commits_in, acked_in, accepts_in, settles_in, GoesOn, Advances, IsDone, IsSettled, IsClearLane, IsClear, Pays, PaysFor, cost_to};
 ghost use Rattle.link_schedule.specs.World.{IsWorld};
 
 use crate::world::World;
@@ -204,12 +205,14 @@ impl World {
     fn clear(&mut self, d: DeviceId, lane: Lane) -> Result<(), AllocError>
         requires { IsWithin (length self.old.setting.rows) d.0 }
         ensures goes_on { GoesOn self.old self.new }
+        ensures ok { OnOk result (accepts_in self.old d.0 lane ≤ settles_in self.new d.0 lane) }
         ensures few { OnOk result (length self.new.events ≤ length self.old.events + 1) }
     {
         let k = self.accepted(d, lane);
         if k == 0 {
             return Ok(());
         }
+        self.events();
         self.settle(d, lane, k)?;
         Ok(())
     }
@@ -235,6 +238,7 @@ impl World {
     fn clear_all(&mut self, d: DeviceId) -> Result<(), AllocError>
         requires { IsWithin (length self.old.setting.rows) d.0 }
         ensures goes_on { GoesOn self.old self.new }
+        ensures ok { OnOk result ((lane : TheLane) → accepts_in self.old d.0 lane ≤ settles_in self.new d.0 lane) }
         ensures few { OnOk result (length self.new.events ≤ length self.old.events + 3) }
     {
         self.clear(d, Lane::Down)?;
@@ -243,11 +247,12 @@ impl World {
         Ok(())
     }
 
-    /// The device does all that the machine that never fails does.
+    /// The device does all that the machine that never fails does, and no effect of it is left in its row.
     fn settle_device(&mut self, d: DeviceId) -> Result<(), AllocError>
         requires { IsWithin (length self.old.setting.rows) d.0 }
         ensures goes_on { GoesOn self.old self.new }
         ensures ok { OnOk result (IsDone self.new d.0) }
+        ensures clear { OnOk result ((lane : TheLane) → IsClearLane self.new d.0 lane) }
         ensures pays { OnOk result (PaysFor self.old self.new d.0 3) }
     {
         while self.advance(d)? {}
@@ -261,6 +266,7 @@ impl World {
     fn settle_each(&mut self) -> Result<(), AllocError>
         ensures goes_on { GoesOn self.old self.new }
         ensures ok { OnOk result (IsSettled self.new) }
+        ensures clear { OnOk result (IsClear self.new) }
         ensures linear { OnOk result (length self.new.events ≤ length self.old.events + cost_to self.old.setting (length self.old.setting.rows)) }
     {
         for index in 0..self.device_count() {
@@ -277,6 +283,7 @@ impl World {
         ensures goes_on { GoesOn self.old self.new }
         ensures world { IsWorld self.new }
         ensures ok { OnOk result (IsSettled self.new) }
+        ensures clear { OnOk result (IsClear self.new) }
         ensures linear { OnOk result (length self.new.events ≤ length self.old.events + cost_to self.old.setting (length self.old.setting.rows)) }
     {
         let settled = self.settle_each();

@@ -1,6 +1,6 @@
 -- What is promised of every list of events.
 use Rattle.std.proofs.Common.{◌≡◌, ◌==◌, ◌⊎◌, ⊎_elim, inl, inr, ℕ, suc, ◌+◌, ◌-◌, ◌≤◌, ◌<◌, Bool, true, false, cond, ◌&&◌, List, [], ◌∷◌, ◌++◌, length, take, Option, Some, None, All, refl, sym, ap, ◌∙◌, subst, arith, append_assoc, append-nil, length-append}
-use Rattle.std.specs.Prelude.{◌≢◌, ◌↔◌, slice_get, option_map, nat_le, nat_lt, IsSome}
+use Rattle.std.specs.Prelude.{◌≢◌, ◌↔◌, slice_get, option_map, nat_le, nat_lt, IsSome, IsSomeAnd}
 use Rattle.std.specs.List.{fold}
 use Rattle.std.proofs.lemmas.Bool.{cases_eq, cases_lt}
 use Rattle.std.proofs.lemmas.List.Elements.{All-head, All-tail}
@@ -26,6 +26,7 @@ use Rattle.schedule_laws.specs.Counts.Held.{Nothing, Taken, Ready}
 use Rattle.device_types.specs.declared.effect.Effect.TheVariants as effects
 use Rattle.device_types.specs.declared.effect.SubCall.TheVariants as calls
 use Rattle.schedule_laws.specs.Input.{IsArrival, no_message, input_of, IsHand}
+use Rattle.schedule_laws.specs.Packets.{if_so, message_packet, reply_packet, effect_packet}
 use Rattle.schedule_laws.specs.Promise.{is_void, HasSameCounts, IsAsBefore, Holds}
 use Rattle.schedule_laws.specs.Setting.{Setting, row_of, messages_of, entries_to, entries_of}
 use Rattle.schedule_laws.proofs.Laws.{answer_made, sent_bound, pushed_bound, version_is, accepted_bound, received_is, reply_is, hand_ok, taken_bound, read_nothing, read_again}
@@ -501,12 +502,22 @@ pushed_more d l k (_, a) H h = h
 
 -- ---- what is on a link
 
-pub message_there : (s : Setting) (d n : ℕ) (H : List Turn) → Lawful s H → message_sent d n H ≡ true → IsSome (slice_get (messages_of s d) (n - 1))
-message_there s d n H L h =
+-- what there is is itself
+itself : {X : Type 0} → (o : Option X) → IsSome o → IsSomeAnd o (λ x. o ≡ Some x)
+itself None h = absurd (cc)
+itself (Some x) h = refl
+
+-- on the link, where it was sent
+carried : {X : Type 0} → (sent : Bool) (o : Option X) → sent ≡ true → IsSome o → IsSomeAnd (if_so sent o) (λ x. o ≡ Some x)
+carried true o on h = itself o h
+carried false o on h = absurd (cc)
+
+pub message_carried : (s : Setting) (d n : ℕ) (H : List Turn) → Lawful s H → message_sent d n H ≡ true → IsSomeAnd (message_packet s H d n) (λ m. slice_get (messages_of s d) (n - 1) ≡ Some m)
+message_carried s d n H L h =
     let b = sent_bound s d n H L h in
     let low = b.1 in
     let high = b.2 in
-    subst IsSome (sym (slice_get-get_or (messages_of s d) (n - 1) no_message (omega arith))) refl
+    rw h (slice_get-get_or (messages_of s d) (n - 1) no_message (omega arith))
 
 pub effect_there : (s : Setting) (d : ℕ) (l : Lane) (k : ℕ) (H : List Turn) → Lawful s H → effect_pushed d l k H ≡ true → IsSome (slice_get (effects_of l (entries_of s d)) (k - 1))
 effect_there s d l k H L h =
@@ -516,10 +527,21 @@ effect_there s d l k H L h =
     let long = Begins-length (effects_of l (journal s d H)) (effects_of l (entries_of s d)) (effects_begin l (journal s d H) (entries_of s d) (to_alone (row_of s d) (messages_of s d) (commits d H))) in
     subst IsSome (sym (slice_get-get_or (effects_of l (entries_of s d)) (k - 1) (effects.Subscriber calls.Purge) (omega arith))) refl
 
-pub reply_on_link : (s : Setting) (d n : ℕ) (H : List Turn) → Lawful s H → 1 ≤ n → reply_sent d n H ≡ true → IsSome (reply_of (entries_of s d) n)
-reply_on_link s d n H L low h =
+pub effect_carried : (s : Setting) (d : ℕ) (l : Lane) (k : ℕ) (H : List Turn) → Lawful s H → effect_pushed d l k H ≡ true → IsSomeAnd (effect_packet s H d l k) (λ x. slice_get (effects_of l (entries_of s d)) (k - 1) ≡ Some x)
+effect_carried s d l k H L h = carried (effect_pushed d l k H) (slice_get (effects_of l (entries_of s d)) (k - 1)) h (effect_there s d l k H L h)
+
+pub reply_carried : (s : Setting) (d n : ℕ) (H : List Turn) → Lawful s H → 1 ≤ n → reply_sent d n H ≡ true → IsSomeAnd (reply_packet s H d n) (λ x. reply_of (entries_of s d) n ≡ Some x)
+reply_carried s d n H L low h =
     let high = le_of n (taken_count (journal s d H)) (sym (reply_is s d n H L low) ∙ h) in
-    subst IsSome (reply_alone s d n H low high) (reply_there s d n H low high)
+    carried (reply_sent d n H) (reply_of (entries_of s d) n) h (subst IsSome (reply_alone s d n H low high) (reply_there s d n H low high))
+
+-- an answer is to a call that was made
+pub answer_carried : (s : Setting) (d : ℕ) (l : Lane) (k : ℕ) (H : List Turn) → Lawful s H → 1 ≤ k → effect_received d l k H ≡ true → k ≤ pushed_count l (entries_of s d)
+answer_carried s d l k H L low h =
+    let here = le_of k (accepted d l H) (sym (received_is s d l k H L low) ∙ h) in
+    let made = accepted_bound s d l H L in
+    let more = Begins-length (effects_of l (journal s d H)) (effects_of l (entries_of s d)) (effects_begin l (journal s d H) (entries_of s d) (to_alone (row_of s d) (messages_of s d) (commits d H))) in
+    omega arith
 
 -- ---- answers to calls
 
@@ -551,6 +573,23 @@ answer_not_ahead s H r d l k m L low i = λ h.
 
 read_void : (s : Setting) (H : List Turn) (r : ℕ) → s.replicas < r → answer s H (Read r) ≡ told.VoidReplica
 read_void s H r above = rw (le_false r s.replicas above) refl
+
+-- a replica whose read is not void is there
+there : (s : Setting) (H : List Turn) (r : ℕ) → is_void (answer s H (Read r)) ≡ false → r ≤ s.replicas
+there s H r h =
+    ⊎_elim
+    (λ (above : s.replicas < r). let f = ap is_void (read_void s H r above) in absurd (cc))
+    (λ (low : r ≤ s.replicas). low)
+    (cases_lt s.replicas r)
+
+-- the reply on the link of a message that is answered as a repeat is the stored one
+pub repeat_carried : (s : Setting) (H : List Turn) (r d n : ℕ) → Lawful s H → Holds d (TheMessage n) (hand r H) → answer s H (Read r) ≡ told.Repeat n → IsSomeAnd (reply_packet s H d n) (λ x. reply_of (journal s d H) n ≡ Some x)
+repeat_carried s H r d n L i a =
+    let low = there s H r (ap is_void a) in
+    let arrived = arrival_of s H d (TheMessage n) (hand r H) i (hand_ok s r H L) in
+    let kept = (repeats s H r d n low i).0 a in
+    let sent = (reply_where s d n H L arrived.0).1 kept.0 in
+    rw (reply_alone s d n H arrived.0 kept.0) (reply_carried s d n H L arrived.0 sent)
 
 pub never_settled : (s : Setting) (H : List Turn) (r d n : ℕ) → Lawful s H → Holds d (TheMessage n) (hand r H) → acked d H < n → answer s H (Read r) ≢ told.Settled n
 never_settled s H r d n L i more = λ h.

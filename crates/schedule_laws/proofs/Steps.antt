@@ -8,7 +8,7 @@ use Rattle.std.proofs.lemmas.List.Sums.{fold-append}
 use Rattle.std.proofs.lemmas.Option.{slice_get_past, some_pair_parts}
 use Rattle.device_types.specs.declared.effect.Effect.{Effect as EffectValue}
 use Rattle.device_types.specs.declared.event.Event.{Event}
-use Rattle.device_types.specs.declared.event.Event.TheVariants.{Send, Take, Answer, Read, Write, Reply, Push, Effect}
+use Rattle.device_types.specs.declared.event.Event.TheVariants.{Send, Take, Answer, Read, Write, Reply, Push, Effect, Settle}
 use Rattle.device_types.specs.declared.event.EventAnswer.{EventAnswer}
 use Rattle.device_types.specs.declared.event.EventAnswer.TheVariants as told
 use Rattle.device_types.specs.declared.event.Lane.{Lane}
@@ -30,9 +30,9 @@ use Rattle.schedule_laws.specs.Answer.{look_at, answer, turn, history, Lawful}
 use Rattle.schedule_laws.specs.Counts.{Turn, commits, acked, accepted, settled, effect_received, journal}
 use Rattle.schedule_laws.specs.Counts.Arrival.{TheMessage, TheAnswer}
 use Rattle.schedule_laws.specs.Setting.{Setting, row_of, messages_of, message_count}
-use Rattle.schedule_laws.proofs.EachAnswer.{reply_new}
+use Rattle.schedule_laws.proofs.EachAnswer.{reply_new, settle_new}
 use Rattle.schedule_laws.proofs.Laws.{acked_bound, settled_bound, received_is, commits_more}
-use Rattle.schedule_laws.proofs.Promises.{accepted_more}
+use Rattle.schedule_laws.proofs.Promises.{accepted_more, settled_more}
 use Rattle.schedule_laws.proofs.Comparisons.{here, lane_here, le_true, le_false, lt_true, lt_false}
 
 -- ---- a message is sent, taken, read and written
@@ -104,6 +104,19 @@ reply_acknowledged s H e n is L more =
     let done : acked e.0 ((Reply e n, told.Acked n) ∷ H) ≡ n = rw (here e.0) most in
     subst (λ (a : EventAnswer). acked e.0 ((Reply e n, a) ∷ H) ≡ n) says done
 
+-- ---- an acknowledgement arrives
+
+pub effect_settled : (s : Setting) (H : List Turn) (e : DeviceId) (l : Lane) (k : ℕ) → Lawful s H → 1 ≤ k → k ≤ accepted e.0 l H → k ≤ settled e.0 l (turn s H (Settle e l k))
+effect_settled s H e l k L low high =
+    ⊎_elim
+    (λ (new : settled e.0 l H < k).
+    let done : k ≤ settled e.0 l ((Settle e l k, told.Settled k) ∷ H) = rw (here e.0, lane_here l) (omega arith) in
+    subst (λ (a : EventAnswer). k ≤ settled e.0 l ((Settle e l k, a) ∷ H)) (settle_new s H e l k L low high new) done)
+    (λ (old : k ≤ settled e.0 l H).
+    let more = settled_more e.0 l (Settle e l k, answer s H (Settle e l k)) H in
+    omega arith)
+    (cases_lt (settled e.0 l H) k)
+
 -- ---- the end of a device
 
 -- a journal behind which no input comes is whole
@@ -131,26 +144,26 @@ whole_stays row ms v w more whole =
 pub history_behind : (s : Setting) (es rest : List Event) → history s (es ++ rest) ≡ fold (turn s) (history s es) rest
 history_behind s es rest = fold-append (turn s) [] es rest
 
-commits_later : (s : Setting) (d : ℕ) (H : List Turn) (es : List Event) → commits d H ≤ commits d (fold (turn s) H es)
-commits_later s d H [] = omega arith
-commits_later s d H (e ∷ es) =
-    let one = commits_more d (e, answer s H e) H in
-    let rest = commits_later s d (turn s H e) es in
+-- a count that no turn makes smaller is no smaller behind more events
+later : (count : List Turn → ℕ) → ((t : Turn) (H : List Turn) → count H ≤ count (t ∷ H)) → (s : Setting) (H : List Turn) (es : List Event) → count H ≤ count (fold (turn s) H es)
+later count more s H [] = omega arith
+later count more s H (e ∷ es) =
+    let one = more (e, answer s H e) H in
+    let rest = later count more s (turn s H e) es in
     omega arith
 
-accepted_later : (s : Setting) (d : ℕ) (l : Lane) (H : List Turn) (es : List Event) → accepted d l H ≤ accepted d l (fold (turn s) H es)
-accepted_later s d l H [] = omega arith
-accepted_later s d l H (e ∷ es) =
-    let one = accepted_more d l (e, answer s H e) H in
-    let rest = accepted_later s d l (turn s H e) es in
-    omega arith
+behind : (count : List Turn → ℕ) → ((t : Turn) (H : List Turn) → count H ≤ count (t ∷ H)) → (s : Setting) (es rest : List Event) → count (history s es) ≤ count (history s (es ++ rest))
+behind count more s es rest = rw (history_behind s es rest) (later count more s (history s es) rest)
 
--- commits and accepted effects are no fewer behind more events
+-- commits, accepted and settled effects are no fewer behind more events
 pub commits_behind : (s : Setting) (d : ℕ) (es rest : List Event) → commits d (history s es) ≤ commits d (history s (es ++ rest))
-commits_behind s d es rest = rw (history_behind s es rest) (commits_later s d (history s es) rest)
+commits_behind s d es rest = behind (commits d) (commits_more d) s es rest
 
 pub accepted_behind : (s : Setting) (d : ℕ) (l : Lane) (es rest : List Event) → accepted d l (history s es) ≤ accepted d l (history s (es ++ rest))
-accepted_behind s d l es rest = rw (history_behind s es rest) (accepted_later s d l (history s es) rest)
+accepted_behind s d l es rest = behind (accepted d l) (accepted_more d l) s es rest
+
+pub settled_behind : (s : Setting) (d : ℕ) (l : Lane) (es rest : List Event) → settled d l (history s es) ≤ settled d l (history s (es ++ rest))
+settled_behind s d l es rest = behind (settled d l) (settled_more d l) s es rest
 
 -- ---- the awaited call
 

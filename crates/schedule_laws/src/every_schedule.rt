@@ -1,6 +1,6 @@
 //! Laws of every list of events, as clauses of functions that do nothing. The answer to each event is that of the definition; a
 //! device is named by its number, from 1.
-ghost use Rattle.std.specs.Prelude.{◌≡◌, ◌≢◌, ◌↔◌, ◌≤◌, ◌<◌, ◌+◌, ◌-◌, ℕ, true, length, take, slice_get, All, Some, IsSome};
+ghost use Rattle.std.specs.Prelude.{◌≡◌, ◌≢◌, ◌↔◌, ◌≤◌, ◌<◌, ◌+◌, ◌-◌, ℕ, true, length, take, slice_get, All, Some, IsSome, IsSomeAnd};
 ghost use Rattle.device_types.specs.declared.event.Event.{Event};
 ghost use Rattle.device_types.specs.declared.event.Event.TheVariants as happens;
 ghost use Rattle.device_types.specs.declared.event.EventAnswer.TheVariants as told;
@@ -13,6 +13,7 @@ ghost use Rattle.schedule_laws.specs.Counts.Arrival.{TheMessage, TheAnswer};
 ghost use Rattle.schedule_laws.specs.Counts.Held.{Ready};
 ghost use Rattle.schedule_laws.specs.Input.{input_of};
 ghost use Rattle.schedule_laws.specs.Lists.{Begins};
+ghost use Rattle.schedule_laws.specs.Packets.{message_packet, reply_packet, effect_packet};
 ghost use Rattle.schedule_laws.specs.Promise.{setting, is_void, Holds, IsAsBefore};
 ghost use Rattle.schedule_laws.specs.Setting.{window, row_of, messages_of, message_count, entries_to, entries_of};
 
@@ -63,7 +64,7 @@ pub fn one_replica_is_never_stale(_rows: &[Subscriber], _book: &Book, _events: &
 {}
 
 /// A message that was taken, and is among the last four that were, is answered as a repeat, and no other message is; its reply is
-/// stored, and is that of the machine that never fails.
+/// stored, and is that of the machine that never fails; and the reply that is on the link then is the stored one.
 pub fn repeat_gets_stored_reply(
     _rows: &[Subscriber],
     _book: &Book,
@@ -79,6 +80,9 @@ pub fn repeat_gets_stored_reply(
         (d n : ℕ) → 1 ≤ n → n ≤ taken_count (journal s d turns) → IsSome (reply_of (journal s d turns) n) }
     ensures reply { let s = setting _rows.now _book.now _replicas in let turns = history s _events.now in
         (d n : ℕ) → 1 ≤ n → n ≤ taken_count (journal s d turns) → reply_of (journal s d turns) n ≡ reply_of (entries_of s d) n }
+    ensures gets { let s = setting _rows.now _book.now _replicas in let turns = history s _events.now in
+        (r d n : ℕ) → Holds d (TheMessage n) (hand r turns) → answer s turns (happens.Read r) ≡ told.Repeat n
+        → IsSomeAnd (reply_packet s turns d n) (λ reply. reply_of (journal s d turns) n ≡ Some reply) }
 {}
 
 /// A message that its agent has not seen acknowledged is never answered as settled.
@@ -136,15 +140,21 @@ pub fn nothing_is_taken_back(_rows: &[Subscriber], _book: &Book, _replicas: u32,
         (d : ℕ) (l : Lane) (k : ℕ) (e : Event) → effect_received d l k turns ≡ true → effect_received d l k (turn s turns e) ≡ true }
 {}
 
-/// What is on a link is a message of the book, an effect of the machine that never fails, or its reply.
+/// What is on a link has its content: a message is that of the book with its number, a reply and an effect are those of the machine
+/// that never fails, and an answer is to a call that the machine makes.
 pub fn links_carry_contents(_rows: &[Subscriber], _book: &Book, _replicas: u32, _events: &[Event])
     requires { All (IsEvent (setting _rows.now _book.now _replicas)) _events.now }
     ensures messages { let s = setting _rows.now _book.now _replicas in let turns = history s _events.now in
-        (d n : ℕ) → message_sent d n turns ≡ true → IsSome (slice_get (messages_of s d) (n - 1)) }
+        (d n : ℕ) → message_sent d n turns ≡ true
+        → IsSomeAnd (message_packet s turns d n) (λ message. slice_get (messages_of s d) (n - 1) ≡ Some message) }
     ensures replies { let s = setting _rows.now _book.now _replicas in let turns = history s _events.now in
-        (d n : ℕ) → 1 ≤ n → reply_sent d n turns ≡ true → IsSome (reply_of (entries_of s d) n) }
+        (d n : ℕ) → 1 ≤ n → reply_sent d n turns ≡ true
+        → IsSomeAnd (reply_packet s turns d n) (λ reply. reply_of (entries_of s d) n ≡ Some reply) }
     ensures effects { let s = setting _rows.now _book.now _replicas in let turns = history s _events.now in
-        (d : ℕ) (l : Lane) (k : ℕ) → effect_pushed d l k turns ≡ true → IsSome (slice_get (effects_of l (entries_of s d)) (k - 1)) }
+        (d : ℕ) (l : Lane) (k : ℕ) → effect_pushed d l k turns ≡ true
+        → IsSomeAnd (effect_packet s turns d l k) (λ effect. slice_get (effects_of l (entries_of s d)) (k - 1) ≡ Some effect) }
+    ensures answers { let s = setting _rows.now _book.now _replicas in let turns = history s _events.now in
+        (d : ℕ) (l : Lane) (k : ℕ) → 1 ≤ k → effect_received d l k turns ≡ true → k ≤ pushed_count l (entries_of s d) }
 {}
 
 /// No answer arrives to a call that was not made: a read of an answer is never told that calls are missing.

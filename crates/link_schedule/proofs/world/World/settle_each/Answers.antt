@@ -1,4 +1,4 @@
-use Rattle.link_schedule.proofs.Goes.{goes_trans, cost_more, done_more}
+use Rattle.link_schedule.proofs.Goes.{goes_trans, cost_more, done_more, clear_more}
 use Rattle.link_schedule.proofs.world.World.settle_each.Goals as goal
 
 pub loop-index-preserved : goal.loop-index-preserved
@@ -10,8 +10,10 @@ loop-index-preserved c =
     let g = c.loop-index.invariant.goes_on in
     let h = c.in_ok-settle_device.ensures.goes_on in
     let is = c.events.ensures.world in
+    let done = done_more b e i h is c.loop-index.invariant.done c.in_ok-settle_device.ensures.ok in
     record {
       goes_on = goes_trans a b e g h;
       few = cost_more a b e i g h is c.in_ok-settle_device.ensures.pays c.loop-index.invariant.few;
-      done = done_more b e i h is c.loop-index.invariant.done c.in_ok-settle_device.ensures.ok;
+      done = done;
+      clear = clear_more b e i h is done c.loop-index.invariant.clear c.in_ok-settle_device.ensures.clear;
     }
