@@ -96,8 +96,12 @@ abbrev pub among : List IeType → IeType → ℕ → AsnType FieldValue
 among [] last id = type_of last
 among (e ∷ others) last id = by_test (id == e.id) (type_of e) (among others last id)
 
+-- in the order of their ids: those behind TAI, and all, but for the last
+abbrev pub later_ies : List IeType
+later_ies = security_key ∷ radio_capability ∷ stmsi ∷ ue_ids ∷ cgi ∷ sec_caps ∷ []
+
 abbrev pub ies_before_last : List IeType
-ies_before_last = mme ∷ cause ∷ enb ∷ erabs_to_setup ∷ nas_pdu ∷ erabs_done ∷ bit_rates ∷ tai ∷ security_key ∷ radio_capability ∷ stmsi ∷ ue_ids ∷ cgi ∷ sec_caps ∷ []
+ies_before_last = mme ∷ cause ∷ enb ∷ erabs_to_setup ∷ nas_pdu ∷ erabs_done ∷ bit_rates ∷ tai ∷ later_ies
 
 -- what the open type of the IE with an id contains
 unfoldable pub value_type : ℕ → AsnType FieldValue

@@ -11,166 +11,192 @@ use crate::value::IeValue;
 use echo_base::OutOfMemory;
 use std::alloc::Global;
 
-/// Takes a value that is there out of its slot.
-macro_rules! take {
+/// Finds a value that is there in its slot.
+macro_rules! find {
     ($slots:ident, $place:literal, $variant:ident($name:ident)) => {
-        let Some(IeValue::$variant($name)) = $slots.take($place) else {
+        let Some(IeValue::$variant($name)) = $slots.at($place) else {
             unreachable!()
         };
     };
 }
 
 #[tactic(auto, unfolding(crate::specs::Rows::fields_from))]
-fn initial_ue_message(alloc: Global, slots: &mut Slots) -> Result<Pdu, OutOfMemory>
-    requires { IsOk (made_from initial_ue_message slots.old) }
-    ensures { IsMade (made_from initial_ue_message slots.old) result }
+fn initial_ue_message(alloc: Global, slots: &Slots) -> Result<Pdu, OutOfMemory>
+    requires { IsOk (made_from initial_ue_message slots.now) }
+    ensures { IsMade (made_from initial_ue_message slots.now) result }
 {
-    take!(slots, 0, Enb(enb));
-    take!(slots, 1, Nas(nas));
-    take!(slots, 2, Tai(tai));
-    take!(slots, 3, Cgi(cgi));
-    take!(slots, 4, Rrc(rrc));
-    let stmsi = match slots.take(5) {
-        Some(IeValue::Stmsi(stmsi)) => Some(stmsi),
+    find!(slots, 0, Enb(enb));
+    find!(slots, 1, Nas(nas));
+    find!(slots, 2, Tai(tai));
+    find!(slots, 3, Cgi(cgi));
+    find!(slots, 4, Rrc(rrc));
+    let stmsi = match slots.at(5) {
+        Some(IeValue::Stmsi(stmsi)) => Some(*stmsi),
         _ => None,
     };
     let nas = nas.own(alloc)?;
     Ok(Pdu::InitialUeMessage {
-        enb,
+        enb: *enb,
         nas,
-        tai,
-        cgi,
-        rrc,
+        tai: *tai,
+        cgi: *cgi,
+        rrc: *rrc,
         stmsi,
     })
 }
 
 #[tactic(auto, unfolding(crate::specs::Rows::fields_from))]
-fn uplink_nas_transport(alloc: Global, slots: &mut Slots) -> Result<Pdu, OutOfMemory>
-    requires { IsOk (made_from uplink_nas_transport slots.old) }
-    ensures { IsMade (made_from uplink_nas_transport slots.old) result }
+fn uplink_nas_transport(alloc: Global, slots: &Slots) -> Result<Pdu, OutOfMemory>
+    requires { IsOk (made_from uplink_nas_transport slots.now) }
+    ensures { IsMade (made_from uplink_nas_transport slots.now) result }
 {
-    take!(slots, 0, Mme(mme));
-    take!(slots, 1, Enb(enb));
-    take!(slots, 2, Nas(nas));
-    take!(slots, 3, Cgi(cgi));
-    take!(slots, 4, Tai(tai));
+    find!(slots, 0, Mme(mme));
+    find!(slots, 1, Enb(enb));
+    find!(slots, 2, Nas(nas));
+    find!(slots, 3, Cgi(cgi));
+    find!(slots, 4, Tai(tai));
     let nas = nas.own(alloc)?;
     Ok(Pdu::UplinkNasTransport {
-        mme,
-        enb,
+        mme: *mme,
+        enb: *enb,
         nas,
-        cgi,
-        tai,
+        cgi: *cgi,
+        tai: *tai,
     })
 }
 
 #[tactic(auto, unfolding(crate::specs::Rows::fields_from))]
-fn downlink_nas_transport(alloc: Global, slots: &mut Slots) -> Result<Pdu, OutOfMemory>
-    requires { IsOk (made_from downlink_nas_transport slots.old) }
-    ensures { IsMade (made_from downlink_nas_transport slots.old) result }
+fn downlink_nas_transport(alloc: Global, slots: &Slots) -> Result<Pdu, OutOfMemory>
+    requires { IsOk (made_from downlink_nas_transport slots.now) }
+    ensures { IsMade (made_from downlink_nas_transport slots.now) result }
 {
-    take!(slots, 0, Mme(mme));
-    take!(slots, 1, Enb(enb));
-    take!(slots, 2, Nas(nas));
+    find!(slots, 0, Mme(mme));
+    find!(slots, 1, Enb(enb));
+    find!(slots, 2, Nas(nas));
     let nas = nas.own(alloc)?;
-    Ok(Pdu::DownlinkNasTransport { mme, enb, nas })
+    Ok(Pdu::DownlinkNasTransport {
+        mme: *mme,
+        enb: *enb,
+        nas,
+    })
 }
 
 #[tactic(auto, unfolding(crate::specs::Rows::fields_from))]
-fn initial_context_setup_request(alloc: Global, slots: &mut Slots) -> Result<Pdu, OutOfMemory>
-    requires { IsOk (made_from initial_context_setup_request slots.old) }
-    ensures { IsMade (made_from initial_context_setup_request slots.old) result }
+fn initial_context_setup_request(alloc: Global, slots: &Slots) -> Result<Pdu, OutOfMemory>
+    requires { IsOk (made_from initial_context_setup_request slots.now) }
+    ensures { IsMade (made_from initial_context_setup_request slots.now) result }
 {
-    take!(slots, 0, Mme(mme));
-    take!(slots, 1, Enb(enb));
-    take!(slots, 2, Rates(rates));
-    take!(slots, 3, Bearers(bearers));
-    take!(slots, 4, Caps(caps));
-    take!(slots, 5, Key(key));
+    find!(slots, 0, Mme(mme));
+    find!(slots, 1, Enb(enb));
+    find!(slots, 2, Rates(rates));
+    find!(slots, 3, Bearers(bearers));
+    find!(slots, 4, Caps(caps));
+    find!(slots, 5, Key(key));
     let bearers = bearers.own(alloc)?;
     let key = key.own(alloc)?;
     Ok(Pdu::InitialContextSetupRequest {
-        mme,
-        enb,
-        rates,
+        mme: *mme,
+        enb: *enb,
+        rates: *rates,
         bearers,
-        caps,
+        caps: *caps,
         key,
     })
 }
 
 #[tactic(auto, unfolding(crate::specs::Rows::fields_from))]
-fn initial_context_setup_response(alloc: Global, slots: &mut Slots) -> Result<Pdu, OutOfMemory>
-    requires { IsOk (made_from initial_context_setup_response slots.old) }
-    ensures { IsMade (made_from initial_context_setup_response slots.old) result }
+fn initial_context_setup_response(alloc: Global, slots: &Slots) -> Result<Pdu, OutOfMemory>
+    requires { IsOk (made_from initial_context_setup_response slots.now) }
+    ensures { IsMade (made_from initial_context_setup_response slots.now) result }
 {
-    take!(slots, 0, Mme(mme));
-    take!(slots, 1, Enb(enb));
-    take!(slots, 2, Done(done));
+    find!(slots, 0, Mme(mme));
+    find!(slots, 1, Enb(enb));
+    find!(slots, 2, Done(done));
     let done = done.own(alloc)?;
-    Ok(Pdu::InitialContextSetupResponse { mme, enb, done })
+    Ok(Pdu::InitialContextSetupResponse {
+        mme: *mme,
+        enb: *enb,
+        done,
+    })
 }
 
 #[tactic(auto, unfolding(crate::specs::Rows::fields_from))]
-fn initial_context_setup_failure(slots: &mut Slots) -> Pdu
-    requires { IsOk (made_from initial_context_setup_failure slots.old) }
-    ensures { made_from initial_context_setup_failure slots.old ≡ Ok result }
+fn initial_context_setup_failure(slots: &Slots) -> Pdu
+    requires { IsOk (made_from initial_context_setup_failure slots.now) }
+    ensures { made_from initial_context_setup_failure slots.now ≡ Ok result }
 {
-    take!(slots, 0, Mme(mme));
-    take!(slots, 1, Enb(enb));
-    take!(slots, 2, Cause(cause));
-    Pdu::InitialContextSetupFailure { mme, enb, cause }
+    find!(slots, 0, Mme(mme));
+    find!(slots, 1, Enb(enb));
+    find!(slots, 2, Cause(cause));
+    Pdu::InitialContextSetupFailure {
+        mme: *mme,
+        enb: *enb,
+        cause: *cause,
+    }
 }
 
 #[tactic(auto, unfolding(crate::specs::Rows::fields_from))]
-fn ue_context_release_request(slots: &mut Slots) -> Pdu
-    requires { IsOk (made_from ue_context_release_request slots.old) }
-    ensures { made_from ue_context_release_request slots.old ≡ Ok result }
+fn ue_context_release_request(slots: &Slots) -> Pdu
+    requires { IsOk (made_from ue_context_release_request slots.now) }
+    ensures { made_from ue_context_release_request slots.now ≡ Ok result }
 {
-    take!(slots, 0, Mme(mme));
-    take!(slots, 1, Enb(enb));
-    take!(slots, 2, Cause(cause));
-    Pdu::UeContextReleaseRequest { mme, enb, cause }
+    find!(slots, 0, Mme(mme));
+    find!(slots, 1, Enb(enb));
+    find!(slots, 2, Cause(cause));
+    Pdu::UeContextReleaseRequest {
+        mme: *mme,
+        enb: *enb,
+        cause: *cause,
+    }
 }
 
 #[tactic(auto, unfolding(crate::specs::Rows::fields_from))]
-fn ue_context_release_command(slots: &mut Slots) -> Pdu
-    requires { IsOk (made_from ue_context_release_command slots.old) }
-    ensures { made_from ue_context_release_command slots.old ≡ Ok result }
+fn ue_context_release_command(slots: &Slots) -> Pdu
+    requires { IsOk (made_from ue_context_release_command slots.now) }
+    ensures { made_from ue_context_release_command slots.now ≡ Ok result }
 {
-    take!(slots, 0, Ids(ids));
-    take!(slots, 1, Cause(cause));
-    Pdu::UeContextReleaseCommand { ids, cause }
+    find!(slots, 0, Ids(ids));
+    find!(slots, 1, Cause(cause));
+    Pdu::UeContextReleaseCommand {
+        ids: *ids,
+        cause: *cause,
+    }
 }
 
 #[tactic(auto, unfolding(crate::specs::Rows::fields_from))]
-fn ue_context_release_complete(slots: &mut Slots) -> Pdu
-    requires { IsOk (made_from ue_context_release_complete slots.old) }
-    ensures { made_from ue_context_release_complete slots.old ≡ Ok result }
+fn ue_context_release_complete(slots: &Slots) -> Pdu
+    requires { IsOk (made_from ue_context_release_complete slots.now) }
+    ensures { made_from ue_context_release_complete slots.now ≡ Ok result }
 {
-    take!(slots, 0, Mme(mme));
-    take!(slots, 1, Enb(enb));
-    Pdu::UeContextReleaseComplete { mme, enb }
+    find!(slots, 0, Mme(mme));
+    find!(slots, 1, Enb(enb));
+    Pdu::UeContextReleaseComplete {
+        mme: *mme,
+        enb: *enb,
+    }
 }
 
 #[tactic(auto, unfolding(crate::specs::Rows::fields_from))]
-fn ue_capability_info_indication(alloc: Global, slots: &mut Slots) -> Result<Pdu, OutOfMemory>
-    requires { IsOk (made_from ue_capability_info_indication slots.old) }
-    ensures { IsMade (made_from ue_capability_info_indication slots.old) result }
+fn ue_capability_info_indication(alloc: Global, slots: &Slots) -> Result<Pdu, OutOfMemory>
+    requires { IsOk (made_from ue_capability_info_indication slots.now) }
+    ensures { IsMade (made_from ue_capability_info_indication slots.now) result }
 {
-    take!(slots, 0, Mme(mme));
-    take!(slots, 1, Enb(enb));
-    take!(slots, 2, Radio(radio));
+    find!(slots, 0, Mme(mme));
+    find!(slots, 1, Enb(enb));
+    find!(slots, 2, Radio(radio));
     let radio = radio.own(alloc)?;
-    Ok(Pdu::UeCapabilityInfoIndication { mme, enb, radio })
+    Ok(Pdu::UeCapabilityInfoIndication {
+        mme: *mme,
+        enb: *enb,
+        radio,
+    })
 }
 
 /// The message of that kind with the values in the slots, none of which is missing, its octets and lists in memory of their own.
 #[tactic(auto, unfolding(crate::specs::Messages::message_from))]
-pub fn message(alloc: Global, kind: MessageKind, slots: &mut Slots) -> Result<Pdu, OutOfMemory>
-    requires { IsOk (message_from kind slots.old) }
-    ensures { IsMade (message_from kind slots.old) result }
+pub fn message(alloc: Global, kind: MessageKind, slots: &Slots) -> Result<Pdu, OutOfMemory>
+    requires { IsOk (message_from kind slots.now) }
+    ensures { IsMade (message_from kind slots.now) result }
 {
     match kind {
         MessageKind::InitialUeMessage => initial_ue_message(alloc, slots),

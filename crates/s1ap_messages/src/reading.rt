@@ -150,8 +150,8 @@ fn find_message(bytes: &[u8]) -> Result<(MessageKind, Slots<'_>), Refusal>
 pub(crate) fn read_pieces(alloc: Global, bytes: &[u8]) -> Result<Pdu, Bad>
     ensures { IsRead (message_at bytes.now) result }
 {
-    let (kind, mut slots) = find_message(bytes)?;
-    Ok(message(alloc, kind, &mut slots)?)
+    let (kind, slots) = find_message(bytes)?;
+    Ok(message(alloc, kind, &slots)?)
 }
 
 /// Reads a message that is all of the octets: one that the short way knows at once, and any other piece by piece.
@@ -169,14 +169,14 @@ fn read_message(alloc: Global, bytes: &[u8]) -> Result<Pdu, Bad>
 fn receive_pieces(alloc: Global, bytes: &[u8]) -> Result<Pdu, Bad>
     ensures { IsRead (uplink_at bytes.now) result }
 {
-    let (kind, mut slots) = find_message(bytes)?;
+    let (kind, slots) = find_message(bytes)?;
     if is_downlink(kind) {
         return Err(Bad::Refused(Refusal {
             reason: Reason::WrongDirection,
             place: 1,
         }));
     }
-    Ok(message(alloc, kind, &mut slots)?)
+    Ok(message(alloc, kind, &slots)?)
 }
 
 /// Reads a message that an MME receives: one that the short way knows at once, and any other piece by piece.

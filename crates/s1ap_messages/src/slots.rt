@@ -1,6 +1,6 @@
 //! A slot for each row of a message's table.
 
-ghost use Rattle.std.specs.Prelude.{◌≡◌, ◌<◌, ◌≤◌, ◌&&◌, IfSome, None, is_none, length, slice_set, slice_index_or};
+ghost use Rattle.std.specs.Prelude.{◌≡◌, ◌<◌, ◌≤◌, ◌&&◌, IfSome, None, is_none, length, slice_index_or};
 ghost use Rattle.s1ap_messages.specs.Reading.{empty, is_filled, noted, lacking};
 
 use crate::tables::IeRow;
@@ -43,7 +43,7 @@ impl<'a> Slots<'a> {
     }
 
     /// What stands in that place.
-    fn at(&self, place: usize) -> &Option<FoundValue<'a>>
+    pub fn at(&self, place: usize) -> &Option<FoundValue<'a>>
         requires { place < 6 }
         ensures value { result.now ≡ slice_index_or self.now place None }
         ensures places { length self.now ≡ 6 }
@@ -113,21 +113,5 @@ impl<'a> Slots<'a> {
             place += 1;
         }
         None
-    }
-
-    /// Takes the value in that place out.
-    pub fn take(&mut self, place: usize) -> Option<FoundValue<'a>>
-        requires { place < 6 }
-        ensures value { result ≡ slice_index_or self.old place None }
-        ensures rest { self.new ≡ slice_set self.old place None }
-    {
-        match place {
-            0 => self.first.take(),
-            1 => self.second.take(),
-            2 => self.third.take(),
-            3 => self.fourth.take(),
-            4 => self.fifth.take(),
-            _ => self.sixth.take(),
-        }
     }
 }

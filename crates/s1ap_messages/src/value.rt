@@ -4,7 +4,7 @@ ghost use Rattle.std.specs.Prelude.{◌≡◌, IfOk};
 ghost use Rattle.echo_base.specs.Reading.{Gives};
 ghost use Rattle.aper_fields.specs.Reading.{octet_string_at, fixed_octets_at};
 ghost use Rattle.aper_fields.specs.Asn1.{reading};
-ghost use Rattle.s1ap_messages.specs.Values.{value_type};
+ghost use Rattle.s1ap_messages.specs.Values.{value_type, among, later_ies, rrc_cause};
 
 use crate::lists::{FoundErabs, find_erabs_done, find_erabs_to_setup};
 use crate::pdu::{ErabsDone, ErabsToSetup};
@@ -102,7 +102,24 @@ fn find_key<'a>(r: &mut BitReader<'a>) -> Result<FoundOctets<'a>, Refusal>
     Ok(FoundOctets { octets })
 }
 
-/// Finds the value of the IE with that id; the last is an RRC Establishment Cause.
+/// Finds the value of the IE with that id, of those behind TAI in the order of ids; the last is an RRC Establishment Cause.
+#[inline(always)]
+#[tactic(auto, unfolding(aper_fields::specs::Asn1::reading))]
+fn find_later_value<'a>(r: &mut BitReader<'a>, id: u16) -> Result<FoundValue<'a>, Refusal>
+    ensures { Gives result r.old r.new (reading (among later_ies rrc_cause id) r.old) }
+{
+    match id {
+        names::SECURITY_KEY => Ok(IeValue::Key(find_key(r)?)),
+        names::RADIO_CAPABILITY => Ok(IeValue::Radio(find_text(r, names::MOST_OCTETS)?)),
+        names::STMSI => Ok(IeValue::Stmsi(Stmsi::read(r)?)),
+        names::UE_IDS => Ok(IeValue::Ids(UeIds::read(r)?)),
+        names::CGI => Ok(IeValue::Cgi(Cgi::read(r)?)),
+        names::SEC_CAPS => Ok(IeValue::Caps(SecCaps::read(r)?)),
+        _ => Ok(IeValue::Rrc(read_enum(r, names::RRC_CAUSE_ROOTS, true)?)),
+    }
+}
+
+/// Finds the value of the IE with that id.
 #[tactic(auto, unfolding(aper_fields::specs::Asn1::reading, crate::specs::Values::value_type))]
 pub fn find_value<'a>(r: &mut BitReader<'a>, id: u16) -> Result<FoundValue<'a>, Refusal>
     ensures { Gives result r.old r.new (reading (value_type id) r.old) }
@@ -120,12 +137,6 @@ pub fn find_value<'a>(r: &mut BitReader<'a>, id: u16) -> Result<FoundValue<'a>, 
         names::ERABS_DONE => Ok(IeValue::Done(find_erabs_done(r)?)),
         names::BIT_RATES => Ok(IeValue::Rates(BitRates::read(r)?)),
         names::TAI => Ok(IeValue::Tai(Tai::read(r)?)),
-        names::SECURITY_KEY => Ok(IeValue::Key(find_key(r)?)),
-        names::RADIO_CAPABILITY => Ok(IeValue::Radio(find_text(r, names::MOST_OCTETS)?)),
-        names::STMSI => Ok(IeValue::Stmsi(Stmsi::read(r)?)),
-        names::UE_IDS => Ok(IeValue::Ids(UeIds::read(r)?)),
-        names::CGI => Ok(IeValue::Cgi(Cgi::read(r)?)),
-        names::SEC_CAPS => Ok(IeValue::Caps(SecCaps::read(r)?)),
-        _ => Ok(IeValue::Rrc(read_enum(r, names::RRC_CAUSE_ROOTS, true)?)),
+        _ => find_later_value(r, id),
     }
 }
