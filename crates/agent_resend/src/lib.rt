@@ -2,8 +2,6 @@
 #![tactic(auto)]
 
 mod taken;
-#[cfg(test)]
-mod tests;
 mod window;
 
 pub use taken::{DownTaken, Taken};

@@ -5,13 +5,9 @@ mod case;
 mod event;
 mod lane_word;
 mod laws;
-#[cfg(test)]
-mod line_tests;
 mod number;
 mod reading;
 mod section;
-#[cfg(test)]
-mod tests;
 mod trace;
 mod words;
 

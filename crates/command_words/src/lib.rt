@@ -4,7 +4,5 @@
 mod command;
 mod matches;
 mod options;
-#[cfg(test)]
-mod words_tests;
 
 pub use command::{Command, command_of};

@@ -5,8 +5,6 @@ mod awaiting;
 mod course;
 mod ends;
 mod stepping;
-#[cfg(test)]
-mod tests;
 
 pub use awaiting::awaited;
 pub use course::alone;

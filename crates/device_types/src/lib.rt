@@ -21,8 +21,6 @@ mod state;
 mod step;
 mod step_laws;
 mod subscriber;
-#[cfg(test)]
-mod tests;
 mod try_copy;
 
 pub use alone_laws::{alone_is_ready, alone_is_sound, alone_is_the_only, alone_takes_each};

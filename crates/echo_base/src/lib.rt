@@ -11,8 +11,6 @@ mod refusal;
 mod sink;
 mod source;
 mod status;
-#[cfg(test)]
-mod tests;
 mod whole;
 
 pub use hexadecimal::decode_hex;

@@ -5,8 +5,6 @@ mod outbox;
 mod queue;
 mod queues;
 mod settled;
-#[cfg(test)]
-mod tests;
 
 pub use outbox::Outbox;
 pub use settled::Settled;

@@ -8,8 +8,6 @@ mod check;
 mod down;
 mod laws;
 mod sent;
-#[cfg(test)]
-mod tests;
 
 pub use admission::{Admitted, RefusedLine, admit};
 pub use check::decode;

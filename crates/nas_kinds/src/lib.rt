@@ -8,11 +8,7 @@ mod laws;
 mod nas_in;
 mod reader;
 mod reading;
-#[cfg(test)]
-mod tests;
 mod writing;
-#[cfg(test)]
-mod writing_tests;
 
 pub use laws::{one_answer, readings_are_exact, types_stand_in_place};
 pub use nas_in::NasIn;

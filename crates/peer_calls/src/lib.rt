@@ -3,8 +3,6 @@
 
 mod accepted;
 mod arrival;
-#[cfg(test)]
-mod tests;
 
 pub use accepted::Accepted;
 pub use arrival::Arrival;

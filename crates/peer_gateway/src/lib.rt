@@ -3,7 +3,5 @@
 
 mod counted;
 mod gateway;
-#[cfg(test)]
-mod tests;
 
 pub use gateway::Gateway;

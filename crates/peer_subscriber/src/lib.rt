@@ -2,7 +2,5 @@
 #![tactic(auto)]
 
 mod server;
-#[cfg(test)]
-mod tests;
 
 pub use server::SubscriberPeer;

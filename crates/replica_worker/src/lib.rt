@@ -5,8 +5,6 @@ mod hand;
 mod laws;
 mod replica;
 mod replies;
-#[cfg(test)]
-mod tests;
 
 pub use hand::Hand;
 pub use laws::more_known_keeps;

@@ -6,13 +6,7 @@ mod session;
 mod show;
 mod status;
 mod summary;
-#[cfg(test)]
-mod summary_tests;
-#[cfg(test)]
-mod tests;
 mod transcript;
-#[cfg(test)]
-mod transcript_tests;
 mod whole;
 
 pub use show::show_text;

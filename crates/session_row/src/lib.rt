@@ -5,8 +5,6 @@ mod awaited;
 mod commit;
 mod prepared;
 mod row;
-#[cfg(test)]
-mod tests;
 
 pub use commit::Commit;
 pub use prepared::downs_of;

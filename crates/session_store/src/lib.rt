@@ -7,8 +7,6 @@ mod echo_law;
 mod row_law;
 mod row_store;
 mod store;
-#[cfg(test)]
-mod tests;
 
 pub use asked::{Asked, Seen};
 pub use charter::Charter;

@@ -4,10 +4,6 @@
 mod columns;
 mod row;
 mod table;
-#[cfg(test)]
-mod table_tests;
-#[cfg(test)]
-mod tests;
 
 pub use row::read_row;
 pub use table::SubsTable;

@@ -10,8 +10,6 @@ mod nas;
 mod schedule;
 mod script;
 mod subscribers;
-#[cfg(test)]
-mod tests;
 mod trace;
 
 pub use made::make_case;

@@ -1,0 +1,392 @@
+//! The copy of a value of every type, and the calls of the lists, as lines of text that the values print.
+ghost use Rattle.std.specs.Prelude.{IfOk};
+ghost use Rattle.device_types.specs.Line.{IsLine};
+
+use device_types::{
+    Accept, Answer, Areas, Bearer, Body, Book, CauseCode, DeviceEnd, Down, Effect, GwCall, Input,
+    Key, Lane, Link, ListOf, Message, Messages, NasOut, Octets, Reply, Session, Stage, Step,
+    SubCall, Subscriber, TryCopy,
+};
+use std::alloc::{AllocError, Global};
+use std::fmt::{Debug, Write};
+use std::test::Fail;
+
+const COPIES: &str = "\
+ListOf { items: [7, 0, 255] }
+ListOf { items: [9, 65535] }
+Key { octets: ListOf { items: [] } }
+Key { octets: ListOf { items: [17] } }
+CauseCode { group: 2, extended: false, index: 3 }
+Subscriber { number: 1, imsi: 208930000000001, tmsi: 2, rand: ListOf { items: [1] }, autn: ListOf { items: [2] }, res: ListOf { items: [3] }, \
+key: ListOf { items: [4] }, apn: ListOf { items: [97] }, ip: 5, sgw: 6, teid: 7, ambr_dl: 8, ambr_ul: 9, forbidden: ListOf { items: [10] } }
+AuthRequest { rand: ListOf { items: [1] }, autn: ListOf { items: [2] } }
+AttachAccept { plmn: 1, tac: 2, pti: 3, apn: ListOf { items: [97] }, ip: 4 }
+Message { number: 1, station: 2, enb: 3, body: Response { res: ListOf { items: [160, 161] } } }
+Message { number: 2, station: 2, enb: 3, body: ReleaseAsked { cause: CauseCode { group: 0, extended: true, index: 63 } } }
+Answer { lane: Subscriber, k: 1, answer: Vectors(ListOf { items: [1] }, ListOf { items: [2] }, ListOf { items: [3] }, ListOf { items: [4] }) }
+Created(1, 2, 3)
+Nas { station: 1, enb: 2, nas: SecurityCommand { eea: 224, eia: 192 } }
+Setup { station: 1, enb: 2, dl: 3, ul: 4, sgw: 5, teid: 6, eea: 7, eia: 8, key: Key { octets: ListOf { items: [17] } }, accept: Yes { plmn: 9, tac: 10, pti: 11, ip: 12 } }
+Release { station: 1, enb: 2, cause: CauseCode { group: 2, extended: false, index: 1 } }
+Modify(1, 2)
+Purge
+Session { stage: Detached, link: Off, plmn: 0, tac: 0, eea: 0, eia: 0, pti: 0, res: ListOf { items: [] }, key: Key { octets: ListOf { items: [] } }, \
+dl: 0, ul: 0, sgw: 0, teid: 0, ip: 0, side_addr: 0, side_teid: 0, bearer: None, registered: false, off: false, \
+cause: CauseCode { group: 0, extended: false, index: 0 }, radio: 0 }
+Session { stage: Connected, link: On { station: 1, enb: 2 }, plmn: 3, tac: 4, eea: 5, eia: 6, pti: 7, res: ListOf { items: [8] }, \
+key: Key { octets: ListOf { items: [9] } }, dl: 10, ul: 11, sgw: 12, teid: 13, ip: 14, side_addr: 15, side_teid: 16, bearer: Active, \
+registered: true, off: true, cause: CauseCode { group: 1, extended: false, index: 1 }, radio: 17 }
+Reply { number: 1, version: 2, downs: ListOf { items: [Gateway(Create)] } }
+Step { session: Session { stage: Detached, link: Off, plmn: 0, tac: 0, eea: 0, eia: 0, pti: 0, res: ListOf { items: [] }, key: Key { octets: ListOf { items: [] } }, \
+dl: 0, ul: 0, sgw: 0, teid: 0, ip: 0, side_addr: 0, side_teid: 0, bearer: None, registered: false, off: false, \
+cause: CauseCode { group: 0, extended: false, index: 0 }, radio: 0 }, effects: ListOf { items: [Gateway(Create)] } }
+DeviceEnd { messages: 1, steps: 2, downs: ListOf { items: [Release { station: 1, enb: 2, cause: CauseCode { group: 2, extended: false, index: 1 } }] }, \
+gateway: ListOf { items: [Modify(1, 2)] }, subscriber: ListOf { items: [Purge] }, session: Session { stage: Detached, link: Off, plmn: 0, tac: 0, eea: 0, eia: 0, pti: 0, res: ListOf { items: [] }, key: Key { octets: ListOf { items: [] } }, \
+dl: 0, ul: 0, sgw: 0, teid: 0, ip: 0, side_addr: 0, side_teid: 0, bearer: None, registered: false, off: false, \
+cause: CauseCode { group: 0, extended: false, index: 0 }, radio: 0 } }
+";
+
+const LISTS: &str = "\
+3 [7, 7, 9]
+3 [7, 7, 9]
+3 [Create, Create, Modify(1, 2)]
+3 [Vectors, Vectors, Purge]
+3 [Gateway(Create), Gateway(Create), Subscriber(Purge)]
+";
+
+/// Adds a line with the copy of a value.
+fn put<T: TryCopy + Debug>(text: &mut String, value: Result<T, AllocError>) -> Result<(), Fail> {
+    let copy = copied(value?)?;
+    writeln!(text, "{copy:?}")?;
+    Ok(())
+}
+
+/// The copy of a value.
+fn copied<T: TryCopy>(value: T) -> Result<T, AllocError> {
+    value.copy()
+}
+
+/// A list of one value.
+fn list<T: Drop>(alloc: Global, item: T) -> Result<ListOf<T>, AllocError> {
+    let mut list = ListOf::new(alloc);
+    list.push(item)?;
+    Ok(list)
+}
+
+fn octets(alloc: Global, items: &[u8]) -> Result<Octets, AllocError> {
+    Ok(Octets::from(Vec::from_slice(alloc, items)?))
+}
+
+fn areas(alloc: Global, items: &[u16]) -> Result<Areas, AllocError> {
+    Ok(Areas::from(Vec::from_slice(alloc, items)?))
+}
+
+fn key(alloc: Global, octet: u8) -> Result<Key, AllocError> {
+    Ok(Key::new(list(alloc, octet)?))
+}
+
+fn cause(group: u8, extended: bool, index: u8) -> CauseCode {
+    CauseCode {
+        group,
+        extended,
+        index,
+    }
+}
+
+/// A row whose lists are empty yet.
+fn row(alloc: Global) -> Subscriber {
+    Subscriber {
+        number: 1,
+        imsi: 208_930_000_000_001,
+        tmsi: 2,
+        rand: Octets::new(alloc),
+        autn: Octets::new(alloc),
+        res: Octets::new(alloc),
+        key: Octets::new(alloc),
+        apn: Octets::new(alloc),
+        ip: 5,
+        sgw: 6,
+        teid: 7,
+        ambr_dl: 8,
+        ambr_ul: 9,
+        forbidden: Areas::new(alloc),
+    }
+}
+
+/// Puts a value into each list of a row.
+fn fill(row: &mut Subscriber) -> Result<(), AllocError> {
+    row.rand.push(1)?;
+    row.autn.push(2)?;
+    row.res.push(3)?;
+    row.key.push(4)?;
+    row.apn.push(97)?;
+    row.forbidden.push(10)
+}
+
+fn subscriber(alloc: Global) -> Result<Subscriber, AllocError> {
+    let mut row = row(alloc);
+    fill(&mut row)?;
+    Ok(row)
+}
+
+fn auth_request(alloc: Global) -> Result<NasOut, AllocError> {
+    let rand = list(alloc, 1)?;
+    let autn = list(alloc, 2)?;
+    Ok(NasOut::AuthRequest { rand, autn })
+}
+
+fn attach_accept(alloc: Global) -> Result<NasOut, AllocError> {
+    let apn = list(alloc, 97)?;
+    Ok(NasOut::AttachAccept {
+        plmn: 1,
+        tac: 2,
+        pti: 3,
+        apn,
+        ip: 4,
+    })
+}
+
+fn message(number: u64, body: Body) -> Message {
+    Message {
+        number,
+        station: 2,
+        enb: 3,
+        body,
+    }
+}
+
+fn response(alloc: Global) -> Result<Message, AllocError> {
+    let res = octets(alloc, &[0xa0, 0xa1])?;
+    Ok(message(1, Body::Response { res }))
+}
+
+/// The vectors of the subscriber.
+fn vectors(alloc: Global) -> Result<Input, AllocError> {
+    let Subscriber {
+        rand,
+        autn,
+        res,
+        key,
+        ..
+    } = subscriber(alloc)?;
+    Ok(Input::Answer {
+        lane: Lane::Subscriber,
+        k: 1,
+        answer: Answer::Vectors(rand, autn, res, key),
+    })
+}
+
+fn setup(alloc: Global) -> Result<Down, AllocError> {
+    let key = key(alloc, 17)?;
+    Ok(Down::Setup {
+        station: 1,
+        enb: 2,
+        dl: 3,
+        ul: 4,
+        sgw: 5,
+        teid: 6,
+        eea: 7,
+        eia: 8,
+        key,
+        accept: Accept::Yes {
+            plmn: 9,
+            tac: 10,
+            pti: 11,
+            ip: 12,
+        },
+    })
+}
+
+fn release() -> Down {
+    Down::Release {
+        station: 1,
+        enb: 2,
+        cause: cause(2, false, 1),
+    }
+}
+
+fn connected(alloc: Global) -> Result<Session, AllocError> {
+    let res = list(alloc, 8)?;
+    let key = key(alloc, 9)?;
+    Ok(Session {
+        stage: Stage::Connected,
+        link: Link::On { station: 1, enb: 2 },
+        plmn: 3,
+        tac: 4,
+        eea: 5,
+        eia: 6,
+        pti: 7,
+        res,
+        key,
+        dl: 10,
+        ul: 11,
+        sgw: 12,
+        teid: 13,
+        ip: 14,
+        side_addr: 15,
+        side_teid: 16,
+        bearer: Bearer::Active,
+        registered: true,
+        off: true,
+        cause: cause(1, false, 1),
+        radio: 17,
+    })
+}
+
+fn reply(alloc: Global) -> Result<Reply, AllocError> {
+    let downs = list(alloc, Effect::Gateway(GwCall::Create))?;
+    Ok(Reply {
+        number: 1,
+        version: 2,
+        downs,
+    })
+}
+
+fn step(alloc: Global) -> Result<Step, AllocError> {
+    let effects = list(alloc, Effect::Gateway(GwCall::Create))?;
+    let session = Session::opening(alloc);
+    Ok(Step { session, effects })
+}
+
+fn end(alloc: Global) -> Result<DeviceEnd, AllocError> {
+    let downs = list(alloc, release())?;
+    let gateway = list(alloc, GwCall::Modify(1, 2))?;
+    let subscriber = list(alloc, SubCall::Purge)?;
+    let session = Session::opening(alloc);
+    Ok(DeviceEnd {
+        messages: 1,
+        steps: 2,
+        downs,
+        gateway,
+        subscriber,
+        session,
+    })
+}
+
+/// The copies of the values that a device is made of, and of what comes in.
+fn put_inputs(alloc: Global, text: &mut String) -> Result<(), Fail> {
+    put(text, octets(alloc, &[7, 0, 255]))?;
+    put(text, areas(alloc, &[9, 65535]))?;
+    put(text, Ok(Key::zeros(alloc)))?;
+    put(text, key(alloc, 17))?;
+    put(text, Ok(cause(2, false, 3)))?;
+    put(text, subscriber(alloc))?;
+    put(text, auth_request(alloc))?;
+    put(text, attach_accept(alloc))?;
+    put(text, response(alloc))?;
+    let cause = cause(0, true, 63);
+    put(text, Ok(message(2, Body::ReleaseAsked { cause })))?;
+    put(text, vectors(alloc))?;
+    put(text, Ok(Answer::Created(1, 2, 3)))
+}
+
+/// The copies of what goes out, and of what is kept of steps.
+fn put_effects(alloc: Global, text: &mut String) -> Result<(), Fail> {
+    let (station, enb) = (1, 2);
+    let nas = NasOut::SecurityCommand { eea: 224, eia: 192 };
+    put(text, Ok(Down::Nas { station, enb, nas }))?;
+    put(text, setup(alloc))?;
+    put(text, Ok(release()))?;
+    put(text, Ok(GwCall::Modify(1, 2)))?;
+    put(text, Ok(SubCall::Purge))?;
+    put(text, Ok(Session::opening(alloc)))?;
+    put(text, connected(alloc))?;
+    put(text, reply(alloc))?;
+    put(text, step(alloc))?;
+    put(text, end(alloc))
+}
+
+#[test]
+fn copies_are_equal(rt: HostRuntime) -> Result<(), Fail> {
+    let alloc = rt.alloc();
+    let mut text = String::new(alloc);
+    put_inputs(alloc, &mut text)?;
+    put_effects(alloc, &mut text)?;
+    assert_eq!(rt; text.as_str(), COPIES);
+    Ok(())
+}
+
+/// Puts the copy of a list behind it.
+fn double<T: TryCopy>(list: &mut ListOf<T>) -> Result<(), AllocError> {
+    let copy = list.copy()?;
+    list.append(copy)
+}
+
+/// A list of the first value twice and the second.
+fn doubled<T: TryCopy>(alloc: Global, first: T, second: T) -> Result<ListOf<T>, AllocError> {
+    let mut list = list(alloc, first)?;
+    double(&mut list)?;
+    list.push(second)?;
+    Ok(list)
+}
+
+/// Adds a line with the count of a list, and its values.
+fn put_list<T: Debug + Drop>(
+    text: &mut String,
+    list: Result<ListOf<T>, AllocError>,
+) -> Result<(), Fail> {
+    let list = list?;
+    let count = list.items().len();
+    let items = list.into_items();
+    writeln!(text, "{count} {items:?}")?;
+    Ok(())
+}
+
+#[test]
+fn lists_keep_their_items(rt: HostRuntime) -> Result<(), Fail> {
+    let alloc = rt.alloc();
+    let mut text = String::new(alloc);
+    put_list(&mut text, doubled(alloc, 7u8, 9))?;
+    put_list(&mut text, doubled(alloc, 7u16, 9))?;
+    put_list(
+        &mut text,
+        doubled(alloc, GwCall::Create, GwCall::Modify(1, 2)),
+    )?;
+    put_list(&mut text, doubled(alloc, SubCall::Vectors, SubCall::Purge))?;
+    let first = Effect::Gateway(GwCall::Create);
+    let second = Effect::Subscriber(SubCall::Purge);
+    put_list(&mut text, doubled(alloc, first, second))?;
+    assert_eq!(rt; text.as_str(), LISTS);
+    Ok(())
+}
+
+#[test]
+fn octets_are_lent(rt: HostRuntime) -> Result<(), Fail> {
+    let alloc = rt.alloc();
+    let octets = octets(alloc, &[3, 2])?;
+    assert_eq!(rt; octets.octets(), [3, 2].as_slice());
+    assert_eq!(rt; Key::zeros(alloc).octets().len(), 32);
+    Ok(())
+}
+
+/// A line of one message.
+fn line(alloc: Global) -> Result<Messages, AllocError>
+    ensures { IfOk result IsLine }
+{
+    let mut line = Messages::new(alloc);
+    line.push(Message {
+        number: 1,
+        station: 2,
+        enb: 3,
+        body: Body::Service,
+    })?;
+    Ok(line)
+}
+
+#[test]
+fn book_keeps_its_lines(rt: HostRuntime) -> Result<(), Fail> {
+    let alloc = rt.alloc();
+    let mut book = Book::new(alloc);
+    book.push(line(alloc)?)?;
+    let copy = book.copy()?;
+    book.append(copy)?;
+    let count = book.items().len();
+    let lines = book.into_items();
+    let text = format!(in alloc; "{count} {lines:?}")?;
+    assert_eq!(rt;
+        text.as_str(),
+        "2 [ListOf { items: [Message { number: 1, station: 2, enb: 3, body: Service }] }, \
+ListOf { items: [Message { number: 1, station: 2, enb: 3, body: Service }] }]"
+    );
+    Ok(())
+}

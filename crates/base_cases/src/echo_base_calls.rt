@@ -1,0 +1,342 @@
+//! Whole reads and writes over concrete sources and sinks, and the printed texts.
+use echo_base::{
+    Bad, Column, Give, Identity, MemSink, MemSource, OutOfMemory, ReadAll, RealSink, RealSource,
+    Reason, Refusal, Status, SureSource, WriteFault, decode_hex, read_all, refused, write_all,
+};
+use std::alloc::Global;
+use std::fmt::Write as _;
+use std::io::{self, ErrorKind, Read, Write};
+use std::test::Fail;
+
+fn source(alloc: Global, bytes: &[u8], plan: &[Give]) -> Result<MemSource, OutOfMemory> {
+    Ok(MemSource::new(bytes.to_vec(alloc)?, plan.to_vec(alloc)?))
+}
+
+#[test]
+fn reads_up_to_the_limit(rt: HostRuntime) -> Result<(), Fail> {
+    let pieces = [Give::Piece(2), Give::Piece(0), Give::Piece(9)];
+    for (limit, want) in [
+        (6, None),
+        (7, None),
+        (5, Some(ReadAll::TooLong)),
+        (0, Some(ReadAll::TooLong)),
+    ] {
+        for plan in [&pieces[..0], &pieces[..]] {
+            let mut from = source(rt.alloc(), b"abcdef", plan)?;
+            let read = read_all(rt.alloc(), &mut from, limit);
+            if let Ok(bytes) = &read {
+                assert_eq!(rt; bytes.as_slice(), b"abcdef".as_slice(), "limit {limit}");
+            }
+            assert_eq!(rt; read.err(), want, "limit {limit}");
+        }
+    }
+    Ok(())
+}
+
+#[test]
+fn reads_on_after_a_fault(rt: HostRuntime) -> Result<(), Fail> {
+    let mut from = source(
+        rt.alloc(),
+        b"abcdef",
+        &[Give::Piece(2), Give::Piece(0), Give::Fail],
+    )?;
+    assert_eq!(rt;
+        read_all(rt.alloc(), &mut from, 10).err(),
+        Some(ReadAll::ReadFault)
+    );
+    let rest = read_all(rt.alloc(), &mut from, 10)?;
+    assert_eq!(rt; rest.as_slice(), b"def".as_slice());
+    let nothing = read_all(rt.alloc(), &mut from, 0)?;
+    assert_eq!(rt; nothing.len(), 0);
+    Ok(())
+}
+
+#[test]
+fn reads_many_octets(rt: HostRuntime) -> Result<(), Fail> {
+    let many = vec![in rt.alloc(); 7u8; 10_000]?;
+    let mut sure = SureSource::new(many.clone()?);
+    let bytes = read_all(rt.alloc(), &mut sure, 10_000)?;
+    assert!(rt; bytes.as_slice() == many.as_slice());
+    Ok(())
+}
+
+#[test]
+fn writes_what_there_is_room_for(rt: HostRuntime) -> Result<(), Fail> {
+    let pieces = [Give::Piece(3), Give::Piece(0)];
+    let fails = [Give::Piece(2), Give::Fail];
+    for (room, plan, want, is_whole) in [
+        (6, &pieces[..], "abcdef", true),
+        (9, &pieces[..0], "abcdef", true),
+        (5, &pieces[..], "abcde", false),
+        (9, &fails[..], "ab", false),
+        (0, &pieces[..0], "", false),
+    ] {
+        let mut to = MemSink::new(rt.alloc(), room, plan.to_vec(rt.alloc())?)?;
+        let written = write_all(&mut to, b"abcdef");
+        assert_eq!(rt; written.is_ok(), is_whole, "room {room}");
+        assert_eq!(rt; to.held(), want.as_bytes(), "room {room}");
+    }
+    Ok(())
+}
+
+#[test]
+fn writes_nothing_to_a_full_sink(rt: HostRuntime) -> Result<(), Fail> {
+    let mut to = MemSink::new(rt.alloc(), 0, vec![in rt.alloc(); Give::Fail]?)?;
+    assert_eq!(rt; write_all(&mut to, b""), Ok(()));
+    Ok(())
+}
+
+/// A reader and a writer that fail at each call, or take nothing.
+#[derive(Drop)]
+struct Broken {
+    takes_nothing: bool,
+}
+
+impl Read for Broken {
+    fn read(&mut self, _buf: &mut [u8]) -> io::Result<usize> {
+        Err(io::Error::from(ErrorKind::TimedOut))
+    }
+}
+
+impl Write for Broken {
+    fn write(&mut self, _buf: &[u8]) -> io::Result<usize> {
+        if self.takes_nothing {
+            return Ok(0);
+        }
+        Err(io::Error::from(ErrorKind::BrokenPipe))
+    }
+
+    fn flush(&mut self) -> io::Result<()> {
+        Ok(())
+    }
+}
+
+/// A writer that takes all, and cannot flush.
+#[derive(Drop)]
+struct Unflushed;
+
+impl Write for Unflushed {
+    fn write(&mut self, buf: &[u8]) -> io::Result<usize> {
+        Ok(buf.len())
+    }
+
+    fn flush(&mut self) -> io::Result<()> {
+        Err(io::Error::from(ErrorKind::TimedOut))
+    }
+}
+
+#[test]
+fn reads_a_reader(rt: HostRuntime) -> Result<(), Fail> {
+    let mut from = RealSource::new(b"abc".as_slice());
+    let bytes = read_all(rt.alloc(), &mut from, 3)?;
+    assert_eq!(rt; bytes.as_slice(), b"abc".as_slice());
+    let mut broken = RealSource::new(Broken {
+        takes_nothing: false,
+    });
+    assert_eq!(rt;
+        read_all(rt.alloc(), &mut broken, 3).err(),
+        Some(ReadAll::ReadFault)
+    );
+    Ok(())
+}
+
+#[test]
+fn writes_to_a_writer(rt: HostRuntime) -> Result<(), Fail> {
+    let mut held = Vec::new(rt.alloc());
+    assert_eq!(rt; write_all(&mut RealSink::new(&mut held), b"abc"), Ok(()));
+    assert_eq!(rt; held.as_slice(), b"abc".as_slice());
+    for takes_nothing in [false, true] {
+        let mut broken = RealSink::new(Broken { takes_nothing });
+        assert_eq!(rt; write_all(&mut broken, b"abc"), Err(WriteFault));
+    }
+    assert_eq!(rt;
+        write_all(&mut RealSink::new(Unflushed), b"abc"),
+        Err(WriteFault)
+    );
+    Ok(())
+}
+
+/// Every reason as it is printed, with a place where it lies in octets.
+const REFUSALS: &str = "\
+1 Truncated at 0
+2 LongLength at 1
+3 NonZeroPadding at 9
+4 NotMinimal at 12
+5 OutOfRange at 3
+6 TooLong at 10
+7 SequenceExtension at 18446744073709551615
+8 BadChoice at 0
+9 OtherProcedure 17 at 1
+10 BadCriticality at 4
+11 MissingIe 96 at 20
+12 RepeatedIe 0 at 8
+13 TrailingBytes at 30
+14 WrongDirection at 1
+15 NasShort
+16 NasDiscriminator
+17 NasKind 5e
+17 NasKind 07
+18 NasIdentity
+19 BadJson
+20 MissingColumn
+21 BadColumn
+22 RepeatedImsi
+23 RepeatedTmsi
+24 TableFull
+25 BadSection
+26 BadLine
+27 TooManyLines
+28 LineTooLong
+29 BadHex
+30 UnknownDevice tmsi 2
+30 UnknownDevice imsi 000000000000007
+30 UnknownDevice imsi 262019876543210
+31 UnknownPair 1 1
+32 BadSession
+";
+
+/// Adds a line with a refusal as it is printed.
+fn put(text: &mut String, reason: Reason, place: u64) -> Result<(), Fail> {
+    let refusal = Refusal { reason, place };
+    writeln!(text, "{refusal}")?;
+    Ok(())
+}
+
+/// What is refused in aligned PER and in S1AP.
+fn put_s1ap(text: &mut String) -> Result<(), Fail> {
+    put(text, Reason::Truncated, 0)?;
+    put(text, Reason::LongLength, 1)?;
+    put(text, Reason::NonZeroPadding, 9)?;
+    put(text, Reason::NotMinimal, 12)?;
+    put(text, Reason::OutOfRange, 3)?;
+    put(text, Reason::TooLong, 10)?;
+    put(text, Reason::SequenceExtension, u64::MAX)?;
+    put(text, Reason::BadChoice, 0)?;
+    put(text, Reason::OtherProcedure(17), 1)?;
+    put(text, Reason::BadCriticality, 4)?;
+    put(text, Reason::MissingIe(96), 20)?;
+    put(text, Reason::RepeatedIe(0), 8)?;
+    put(text, Reason::TrailingBytes, 30)?;
+    put(text, Reason::WrongDirection, 1)
+}
+
+/// What is refused in NAS and in case texts, and of devices and sessions.
+fn put_others(text: &mut String) -> Result<(), Fail> {
+    put(text, Reason::NasShort, 0)?;
+    put(text, Reason::NasDiscriminator, 0)?;
+    put(text, Reason::NasKind(0x5e), 0)?;
+    put(text, Reason::NasKind(7), 0)?;
+    put(text, Reason::NasIdentity, 0)?;
+    put(text, Reason::BadJson, 0)?;
+    put(text, Reason::MissingColumn(Column::Imsi), 0)?;
+    put(text, Reason::BadColumn(Column::Forbidden), 0)?;
+    put(text, Reason::RepeatedImsi, 0)?;
+    put(text, Reason::RepeatedTmsi, 0)?;
+    put(text, Reason::TableFull, 0)?;
+    put(text, Reason::BadSection, 0)?;
+    put(text, Reason::BadLine, 0)?;
+    put(text, Reason::TooManyLines, 0)?;
+    put(text, Reason::LineTooLong, 0)?;
+    put(text, Reason::BadHex, 0)?;
+    put(text, Reason::UnknownDevice(Identity::Tmsi(2)), 0)?;
+    put(text, Reason::UnknownDevice(Identity::Imsi(7)), 0)?;
+    let identity = Identity::Imsi(262019876543210);
+    put(text, Reason::UnknownDevice(identity), 0)?;
+    put(text, Reason::UnknownPair(1, 1), 0)?;
+    put(text, Reason::BadSession, 0)
+}
+
+#[test]
+fn prints_refusals(rt: HostRuntime) -> Result<(), Fail> {
+    let mut text = String::new(rt.alloc());
+    put_s1ap(&mut text)?;
+    put_others(&mut text)?;
+    assert_eq!(rt; text.as_str(), REFUSALS);
+    Ok(())
+}
+
+/// The exit code of each status, and the line that is printed.
+const STATUSES: &str = "\
+0 echo: done
+1 echo: usage
+2 echo: case refused 26 BadLine line 7
+2 echo: case refused 33 line 1
+2 echo: case refused 0 line 1
+3 echo: read fault
+4 echo: write fault
+5 echo: out of memory
+";
+
+/// Adds a line with the exit code of a status, and what is printed of it.
+fn put_status(text: &mut String, status: Status) -> Result<(), Fail> {
+    let code = status.code();
+    writeln!(text, "{code} {status}")?;
+    Ok(())
+}
+
+/// Adds a line of a case that is refused.
+fn put_refused(text: &mut String, number: u8, line: u32) -> Result<(), Fail> {
+    put_status(text, Status::CaseRefused { number, line })
+}
+
+#[test]
+fn prints_statuses(rt: HostRuntime) -> Result<(), Fail> {
+    let mut text = String::new(rt.alloc());
+    put_status(&mut text, Status::Done)?;
+    put_status(&mut text, Status::Usage)?;
+    put_refused(&mut text, 26, 7)?;
+    put_refused(&mut text, 33, 1)?;
+    put_refused(&mut text, 0, 1)?;
+    put_status(&mut text, Status::ReadFault)?;
+    put_status(&mut text, Status::WriteFault)?;
+    put_status(&mut text, Status::OutOfMemory)?;
+    assert_eq!(rt; text.as_str(), STATUSES);
+    Ok(())
+}
+
+/// One item of a list, or why there is none.
+fn single(alloc: Global, refusal: Option<Refusal>) -> Result<Vec<u8>, Bad> {
+    if let Some(refusal) = refusal {
+        return Err(refusal.into());
+    }
+    let mut items = Vec::with_capacity(alloc, 0)?;
+    items.push(1)?;
+    Ok(items)
+}
+
+#[test]
+fn converts_into_bad(rt: HostRuntime) -> Result<(), Fail> {
+    let refusal = Refusal {
+        reason: Reason::BadHex,
+        place: 0,
+    };
+    assert_eq!(rt;
+        single(rt.alloc(), Some(refusal)).err(),
+        Some(Bad::Refused(refusal))
+    );
+    assert_eq!(rt; single(rt.alloc(), None)?.len(), 1);
+    Ok(())
+}
+
+/// Texts, and the octets that their hexadecimal digits are (RFC 4648, 8), in either case.
+const HEXADECIMAL: &str = "\
+00 Some([0])
+0aFF Some([10, 255])
+0 None
+0g None
++1 None
+0a0 None
+";
+
+#[test]
+fn decodes_hexadecimal_digits(rt: HostRuntime) -> Result<(), Fail> {
+    for line in HEXADECIMAL.lines() {
+        let (digits, want) = line.split_once(' ').ok_or("no octets")?;
+        let octets = decode_hex(rt.alloc(), digits.as_bytes())?;
+        let text = format!(in rt.alloc(); "{octets:?}")?;
+        assert_eq!(rt; text.as_str(), want, "for {digits}");
+    }
+    let nothing = decode_hex(rt.alloc(), b"")?;
+    assert!(rt; nothing.is_some());
+    Ok(())
+}

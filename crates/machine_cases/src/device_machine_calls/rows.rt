@@ -1,0 +1,311 @@
+//! One small case for each row of the step table, and for each way in which a row can fit; then what does not fit, in each stage.
+//!
+//! A line is `SESSION | INPUT | FIELDS | EFFECTS`. A session is its stage, its S1 connection, its bearer, and what holds of it; its other
+//! fields are those of `session`. An input is a message or an answer. The fields are those that the step changes.
+
+use super::{message, octets, pair, subscriber, write_cause, write_effects};
+use device_machine::step;
+use device_types::{
+    Answer, Bearer, CauseCode, Input, Key, Lane, Link, Session, Stage, Step, Subscriber,
+};
+use std::alloc::{AllocError, Global};
+use std::fmt::Debug;
+use std::test::Fail;
+
+/// Attach (5.3.2.1), service request (5.3.4.1) and S1 release (5.3.5), tracking area update (5.3.3) and detach (5.3.8.2), row by row: the
+/// subscriber is not served in area 9, and is in area 7. Then what fits no row: first a message in each stage, then others, and answers.
+const STEPS: &str = "\
+Detached none None | 2/5 Attach 9 | stage=Releasing link=2/5 cause=2/0 | nas 2/5 AttachReject { cause: 12 }; release 2/5 2/0;
+Securing 1/1 None | 1/1 Attach 9 | stage=Releasing cause=2/0 | nas 1/1 AttachReject { cause: 12 }; release 1/1 2/0;
+Idle none Made registered | 2/5 Attach 9 | stage=AwaitDelete link=2/5 registered=false off=true cause=2/0 | nas 2/5 AttachReject { cause: 12 }; gateway Delete;
+Connected 1/1 Active registered | 1/2 Attach 9 | stage=AwaitDelete link=1/2 registered=false off=true cause=2/0 | release 1/1 2/0; nas 1/2 AttachReject { cause: 12 }; gateway Delete;
+Detached none None | 2/5 Attach 7 | stage=AwaitVectors link=2/5 area=(31, 7) algorithms=(32, 33) pti=34 | subscriber Vectors;
+Authenticating 1/1 None | 1/1 Attach 7 | stage=AwaitVectors area=(31, 7) algorithms=(32, 33) pti=34 | subscriber Vectors;
+Connected 1/1 Active registered | 2/1 Attach 7 | stage=AwaitVectors link=2/1 registered=false area=(31, 7) algorithms=(32, 33) pti=34 | release 1/1 2/0; subscriber Vectors;
+AwaitVectors 1/1 None | answer Vectors | stage=Authenticating vector=([53], [54]) | nas 1/1 AuthRequest { rand: ListOf { items: [51] }, autn: ListOf { items: [52] } };
+Authenticating 1/1 None | 1/1 Response 16 | stage=Securing | nas 1/1 SecurityCommand { eea: 13, eia: 14 };
+Authenticating 1/1 None | 1/1 Response 17 | stage=Releasing cause=2/1 | nas 1/1 AuthReject; release 1/1 2/1;
+Authenticating 1/1 Made | 1/1 Response 17 | stage=AwaitDelete off=true cause=2/1 | nas 1/1 AuthReject; gateway Delete;
+Authenticating 1/1 Active | 1/1 Response 17 | stage=AwaitDelete off=true cause=2/1 | nas 1/1 AuthReject; gateway Delete;
+Securing 1/1 None | 1/1 Secured | stage=AwaitLocation | subscriber Location;
+Securing 1/1 None | 1/1 SecurityRefused | stage=Releasing cause=2/3 | release 1/1 2/3;
+Securing 1/1 Made | 1/1 SecurityRefused | stage=AwaitDelete off=true cause=2/3 | gateway Delete;
+AwaitLocation 1/1 None | answer Located | stage=AwaitCreate rates=(55, 56) | gateway Create;
+AwaitCreate 1/1 None | answer Created | stage=Accepting bearer=Made tunnel=(57, 58) ip=59 | setup 1/1 18 19 57 58 13 14 [17] Yes { plmn: 11, tac: 12, pti: 15, ip: 59 };
+Accepting 1/1 Made | 1/1 ContextDone | stage=AcceptingContext side=(41, 42) |
+AcceptingDone 1/1 Made | 1/1 ContextDone | stage=AwaitModify side=(41, 42) | gateway Modify(41, 42);
+Accepting 1/1 Made | 1/1 AttachDone | stage=AcceptingDone |
+AcceptingContext 1/1 Made | 1/1 AttachDone | stage=AwaitModify | gateway Modify(23, 24);
+Accepting 1/1 Made | 1/1 ContextFailed | stage=AwaitDelete off=true cause=2/3 | gateway Delete;
+AcceptingDone 1/1 Made | 1/1 ContextFailed | stage=AwaitDelete off=true cause=2/3 | gateway Delete;
+Authenticating 1/1 None | 1/1 ReleaseAsked | stage=Releasing cause=0/20+ | release 1/1 0/20+;
+Securing 1/1 Active | 1/1 ReleaseAsked | stage=AwaitDelete off=true cause=0/20+ | gateway Delete;
+Accepting 1/1 Made | 1/1 ReleaseAsked | stage=AwaitDelete off=true cause=0/20+ | gateway Delete;
+AcceptingContext 1/1 Made | 1/1 ReleaseAsked | stage=AwaitDelete off=true cause=0/20+ | gateway Delete;
+AcceptingDone 1/1 Made | 1/1 ReleaseAsked | stage=AwaitDelete off=true cause=0/20+ | gateway Delete;
+AwaitModify 1/1 Made | answer Modified | stage=Connected bearer=Active registered=true |
+Idle none Made registered | 2/5 Service | stage=Connecting link=2/5 | setup 2/5 18 19 20 21 13 14 [17] No;
+Connecting 1/1 Made registered | 1/1 Service | | setup 1/1 18 19 20 21 13 14 [17] No;
+Connected 1/1 Active registered | 1/2 Service | stage=Connecting link=1/2 | release 1/1 2/0; setup 1/2 18 19 20 21 13 14 [17] No;
+Releasing 1/1 Made registered | 2/1 Service | stage=Connecting link=2/1 | release 1/1 2/0; setup 2/1 18 19 20 21 13 14 [17] No;
+Detached none None | 2/5 Service | | nas 2/5 ServiceReject { cause: 10 };
+Releasing 1/1 None | 2/5 Service | | nas 2/5 ServiceReject { cause: 10 };
+Authenticating 1/1 None | 1/1 Service | | nas 1/1 ServiceReject { cause: 10 };
+Securing 1/1 None | 2/5 Service | | nas 2/5 ServiceReject { cause: 10 };
+Accepting 1/1 Made | 2/5 Service | | nas 2/5 ServiceReject { cause: 10 };
+AcceptingContext 1/1 Made | 2/5 Service | | nas 2/5 ServiceReject { cause: 10 };
+AcceptingDone 1/1 Made | 2/5 Service | | nas 2/5 ServiceReject { cause: 10 };
+Connecting 1/1 Made registered | 1/1 ContextDone | stage=AwaitModify side=(41, 42) | gateway Modify(41, 42);
+AwaitModify 1/1 Made registered | answer Modified | stage=Connected bearer=Active |
+Connecting 1/1 Made registered | 1/1 ContextFailed | stage=Releasing cause=2/3 | release 1/1 2/3;
+Connecting 1/1 Active registered | 1/1 ContextFailed | stage=AwaitRelease cause=2/3 | gateway Release;
+Connecting 1/1 None registered | 1/1 ReleaseAsked | stage=Releasing cause=0/20+ | release 1/1 0/20+;
+Connecting 1/1 Made registered | 1/1 ReleaseAsked | stage=Releasing cause=0/20+ | release 1/1 0/20+;
+Connected 1/1 Active registered | 1/1 ReleaseAsked | stage=AwaitRelease cause=0/20+ | gateway Release;
+AwaitRelease 1/1 Active registered | answer Freed | stage=Releasing bearer=Made | release 1/1 3/5;
+Releasing 1/1 Made registered | 1/1 Released | stage=Idle link=none |
+Releasing 1/1 None | 1/1 Released | stage=Detached link=none |
+Connected 1/1 Active registered | 1/1 Capability | radio=3 |
+Securing 1/1 None | 1/1 Capability | radio=3 |
+Idle none Made registered | 2/5 Area first 9 | stage=Releasing link=2/5 cause=2/0 | nas 2/5 AreaReject { cause: 12 }; release 2/5 2/0;
+Connecting 1/1 None registered | 1/1 Area first 9 | stage=Releasing cause=2/0 | nas 1/1 AreaReject { cause: 12 }; release 1/1 2/0;
+Connected 1/1 Active registered | 2/1 Area first 9 | stage=AwaitRelease link=2/1 cause=2/0 | release 1/1 2/0; nas 2/1 AreaReject { cause: 12 }; gateway Release;
+Idle none Made registered | 2/5 Area first 7 | stage=Releasing link=2/5 area=(35, 7) cause=2/0 | nas 2/5 AreaAccept; release 2/5 2/0;
+Connected 1/1 Active registered | 1/1 Area first 7 | stage=AwaitRelease area=(35, 7) cause=2/0 | nas 1/1 AreaAccept; gateway Release;
+Connecting 1/1 Active registered | 1/2 Area first 7 | stage=AwaitRelease link=1/2 area=(35, 7) cause=2/0 | release 1/1 2/0; nas 1/2 AreaAccept; gateway Release;
+Releasing 1/1 Made registered | 2/5 Area first 7 | link=2/5 area=(35, 7) cause=2/0 | release 1/1 2/0; nas 2/5 AreaAccept; release 2/5 2/0;
+Detached none None | 2/5 Area first 7 | | nas 2/5 AreaReject { cause: 9 };
+Detached none None | 2/5 Area first 9 | | nas 2/5 AreaReject { cause: 9 };
+Releasing 1/1 None | 1/1 Area first 7 | | nas 1/1 AreaReject { cause: 9 };
+Accepting 1/1 Made | 2/5 Area first 7 | | nas 2/5 AreaReject { cause: 9 };
+Connected 1/1 Active registered | 1/1 Area later 9 | | nas 1/1 AreaReject { cause: 12 };
+Connected 1/1 Active registered | 1/1 Area later 7 | area=(35, 7) | nas 1/1 AreaAccept;
+Detached none None | 2/5 Detach first | | nas 2/5 DetachAccept;
+Detached none None | 2/5 Detach first off | |
+Releasing 1/1 None | 2/5 Detach first | | nas 2/5 DetachAccept;
+Releasing 1/1 None | 1/1 Detach first off | |
+Securing 1/1 None | 2/5 Detach first | stage=Releasing link=2/5 cause=2/2 | release 1/1 2/0; nas 2/5 DetachAccept; release 2/5 2/2;
+Securing 1/1 None | 1/1 Detach first off | stage=Releasing cause=2/2 | release 1/1 2/2;
+Idle none Made registered | 2/5 Detach first | stage=AwaitDelete link=2/5 registered=false cause=2/2 | gateway Delete;
+Idle none Made registered | 2/5 Detach first off | stage=AwaitDelete link=2/5 registered=false off=true cause=2/2 | gateway Delete;
+Releasing 1/1 Made registered | 1/1 Detach first | stage=AwaitDelete registered=false cause=2/2 | gateway Delete;
+Connected 1/1 Active registered | 1/2 Detach first | stage=AwaitDelete link=1/2 registered=false cause=2/2 | release 1/1 2/0; gateway Delete;
+Authenticating 1/1 None | 1/1 Detach later | stage=Releasing cause=2/2 | nas 1/1 DetachAccept; release 1/1 2/2;
+Securing 1/1 None | 1/1 Detach later off | stage=Releasing cause=2/2 | release 1/1 2/2;
+Accepting 1/1 Made | 1/1 Detach later | stage=AwaitDelete cause=2/2 | gateway Delete;
+AcceptingContext 1/1 Made | 1/1 Detach later off | stage=AwaitDelete off=true cause=2/2 | gateway Delete;
+AcceptingDone 1/1 Made | 1/1 Detach later | stage=AwaitDelete cause=2/2 | gateway Delete;
+Connecting 1/1 None registered | 1/1 Detach later | stage=Releasing registered=false cause=2/2 | nas 1/1 DetachAccept; release 1/1 2/2;
+Connected 1/1 Active registered off | 1/1 Detach later | stage=AwaitDelete registered=false off=false cause=2/2 | gateway Delete;
+Connected 1/1 Active registered | 1/1 Detach later off | stage=AwaitDelete registered=false off=true cause=2/2 | gateway Delete;
+AwaitDelete 1/1 Active | answer Deleted | stage=Releasing bearer=None | subscriber Purge; nas 1/1 DetachAccept; release 1/1 3/5;
+AwaitDelete 1/1 Made off | answer Deleted | stage=Releasing bearer=None | subscriber Purge; release 1/1 3/5;
+Detached none None | 1/1 Released | |
+AwaitVectors 1/1 None | 1/1 Attach 7 | |
+Authenticating 1/1 None | 1/2 Response 16 | |
+Securing 1/1 None | 1/1 Response 16 | |
+AwaitLocation 1/1 None | 2/5 Service | |
+AwaitCreate 1/1 None | 1/1 Detach later | |
+Accepting 1/1 Made | 1/1 Area later 7 | |
+AcceptingContext 1/1 Made | 1/1 ContextFailed | |
+AcceptingDone 1/1 Made | 1/1 AttachDone | |
+AwaitModify 1/1 Made | 1/1 ReleaseAsked | |
+Connecting 1/1 Made registered | 1/1 Area later 7 | |
+Connected 1/1 Active registered | 2/1 Area later 7 | |
+AwaitRelease 1/1 Active registered | 1/1 Capability | |
+Releasing 1/1 Made registered | 1/1 Detach later | |
+Idle none Made registered | 1/1 Capability | |
+AwaitDelete 1/1 Made | 2/5 Detach first | |
+Idle none Made registered | 1/1 ReleaseAsked | |
+Connected 1/1 Active registered | 2/1 ReleaseAsked | |
+Securing 1/1 None | 1/2 Secured | |
+Authenticating 1/1 None | answer Vectors | |
+AwaitCreate 1/1 None | answer Located | |
+AwaitLocation 1/1 None | answer Created | |
+Connected 1/1 Active registered | answer Modified | |
+AwaitDelete 1/1 Active | answer Freed | |
+AwaitRelease 1/1 Active registered | answer Deleted | |
+AwaitVectors 1/1 None | answer Purged | |
+";
+
+fn stage(word: &str) -> Stage {
+    match word {
+        "Detached" => Stage::Detached,
+        "AwaitVectors" => Stage::AwaitVectors,
+        "Authenticating" => Stage::Authenticating,
+        "Securing" => Stage::Securing,
+        "AwaitLocation" => Stage::AwaitLocation,
+        "AwaitCreate" => Stage::AwaitCreate,
+        "Accepting" => Stage::Accepting,
+        "AcceptingContext" => Stage::AcceptingContext,
+        "AcceptingDone" => Stage::AcceptingDone,
+        "AwaitModify" => Stage::AwaitModify,
+        "Connecting" => Stage::Connecting,
+        "Connected" => Stage::Connected,
+        "AwaitRelease" => Stage::AwaitRelease,
+        "Releasing" => Stage::Releasing,
+        "Idle" => Stage::Idle,
+        _ => Stage::AwaitDelete,
+    }
+}
+
+fn link(word: &str) -> Result<Link, Fail> {
+    if word == "none" {
+        return Ok(Link::Off);
+    }
+    let (station, enb) = pair(word)?;
+    Ok(Link::On { station, enb })
+}
+
+fn bearer(rest: &str) -> Bearer {
+    if rest.starts_with("Made") {
+        return Bearer::Made;
+    }
+    if rest.starts_with("Active") {
+        return Bearer::Active;
+    }
+    Bearer::None
+}
+
+/// The session of the words. Its other fields are numbers that differ.
+fn session(alloc: Global, words: &str) -> Result<Session, Fail> {
+    let (stage_word, rest) = words.split_once(" ").ok_or("no connection")?;
+    let (link_word, rest) = rest.split_once(" ").ok_or("no bearer")?;
+    Ok(Session {
+        stage: stage(stage_word),
+        link: link(link_word)?,
+        plmn: 11,
+        tac: 12,
+        eea: 13,
+        eia: 14,
+        pti: 15,
+        res: octets(alloc, 16)?,
+        key: Key::new(octets(alloc, 17)?),
+        dl: 18,
+        ul: 19,
+        sgw: 20,
+        teid: 21,
+        ip: 22,
+        side_addr: 23,
+        side_teid: 24,
+        bearer: bearer(rest),
+        registered: rest.contains("registered"),
+        off: rest.ends_with("off"),
+        cause: CauseCode {
+            group: 3,
+            extended: false,
+            index: 5,
+        },
+        radio: 25,
+    })
+}
+
+fn answer(alloc: Global, word: &str) -> Result<Answer, AllocError> {
+    Ok(match word {
+        "Vectors" => Answer::Vectors(
+            octets(alloc, 51)?,
+            octets(alloc, 52)?,
+            octets(alloc, 53)?,
+            octets(alloc, 54)?,
+        ),
+        "Located" => Answer::Located(55, 56),
+        "Created" => Answer::Created(57, 58, 59),
+        "Modified" => Answer::Modified,
+        "Freed" => Answer::Freed,
+        "Deleted" => Answer::Deleted,
+        _ => Answer::Purged,
+    })
+}
+
+fn input(alloc: Global, words: &str) -> Result<Input, Fail> {
+    match words.split_once("answer ") {
+        Some((_, word)) => Ok(Input::Answer {
+            lane: Lane::Gateway,
+            k: 1,
+            answer: answer(alloc, word)?,
+        }),
+        None => Ok(Input::Message(message(alloc, words)?)),
+    }
+}
+
+fn write_change<T: Debug + PartialEq>(
+    text: &mut String,
+    name: &str,
+    before: &T,
+    after: &T,
+) -> Result<(), AllocError> {
+    if before != after {
+        write!(text, " {name}={after:?}")?;
+    }
+    Ok(())
+}
+
+/// Each field that a step has changed; some of them in pairs.
+fn write_changes(text: &mut String, old: &Session, new: &Session) -> Result<(), AllocError> {
+    write_change(text, "stage", &old.stage, &new.stage)?;
+    write_link(text, old.link, new.link)?;
+    write_change(text, "bearer", &old.bearer, &new.bearer)?;
+    write_change(text, "registered", &old.registered, &new.registered)?;
+    write_change(text, "off", &old.off, &new.off)?;
+    write_change(text, "area", &(old.plmn, old.tac), &(new.plmn, new.tac))?;
+    write_change(text, "algorithms", &(old.eea, old.eia), &(new.eea, new.eia))?;
+    write_change(text, "pti", &old.pti, &new.pti)?;
+    write_change(text, "vector", &vector(old), &vector(new))?;
+    write_change(text, "rates", &(old.dl, old.ul), &(new.dl, new.ul))?;
+    write_change(text, "tunnel", &(old.sgw, old.teid), &(new.sgw, new.teid))?;
+    write_change(text, "ip", &old.ip, &new.ip)?;
+    write_change(text, "side", &side(old), &side(new))?;
+    write_change(text, "radio", &old.radio, &new.radio)?;
+    if old.cause != new.cause {
+        text.push_str(" cause=")?;
+        write_cause(text, new.cause)?;
+    }
+    Ok(())
+}
+
+fn vector(session: &Session) -> (&[u8], &[u8]) {
+    (session.res.octets(), session.key.octets())
+}
+
+fn side(session: &Session) -> (u32, u32) {
+    (session.side_addr, session.side_teid)
+}
+
+fn write_link(text: &mut String, old: Link, new: Link) -> Result<(), AllocError> {
+    if old == new {
+        return Ok(());
+    }
+    match new {
+        Link::Off => text.push_str(" link=none"),
+        Link::On { station, enb } => write!(text, " link={station}/{enb}"),
+    }
+}
+
+/// What a step changes, and what it makes.
+fn step_text(alloc: Global, old: &Session, step: &Step) -> Result<String, AllocError> {
+    let mut text = String::new(alloc);
+    write_changes(&mut text, old, &step.session)?;
+    text.push_str(" |")?;
+    write_effects(&mut text, step.effects.items())?;
+    Ok(text)
+}
+
+fn what_follows(alloc: Global, row: &Subscriber, before: &str, came: &str) -> Result<String, Fail> {
+    let session = session(alloc, before)?;
+    let input = input(alloc, came)?;
+    let step = step(row, &session, &input)?;
+    Ok(step_text(alloc, &session, &step)?)
+}
+
+#[test]
+fn each_row_is_the_standards(rt: HostRuntime) -> Result<(), Fail> {
+    let alloc = rt.alloc();
+    let row = subscriber(alloc)?;
+    for line in STEPS.lines() {
+        let (before, rest) = line.split_once(" | ").ok_or("no input")?;
+        let (came, want) = rest.split_once(" |").ok_or("no step")?;
+        let got = what_follows(alloc, &row, before, came)?;
+        assert_eq!(rt; got.as_str(), want, "{line}");
+    }
+    Ok(())
+}

@@ -1,0 +1,96 @@
+//! The machine alone on a worked run: a device gives a wrong response; then it attaches, is released, asks for service, is released,
+//! updates its tracking area where it is not served, and detaches.
+ghost use Rattle.std.specs.Prelude.{◌≤◌, length};
+
+use super::{message, subscriber, write_effects};
+use device_machine::alone;
+use device_types::{Message, Subscriber};
+use std::alloc::{AllocError, Global};
+use std::test::Fail;
+
+/// A line a message.
+const MESSAGES: &str = "\
+1/1 Attach 7
+1/1 Response 17
+1/1 Released
+1/1 Attach 7
+1/1 Response
+1/1 Secured
+1/1 ContextDone
+1/1 Capability
+1/1 AttachDone
+1/1 ReleaseAsked
+1/1 Released
+1/2 Service
+1/2 ContextDone
+1/2 ReleaseAsked
+1/2 Released
+1/3 Area first 9
+1/3 Released
+1/4 Detach first
+1/4 Released
+";
+
+/// A line a step: the stage that it leads to, and what it makes. The steps on answers stand among them.
+const STEPS: &str = "\
+AwaitVectors | subscriber Vectors;
+Authenticating | nas 1/1 AuthRequest { rand: ListOf { items: [] }, autn: ListOf { items: [] } };
+Releasing | nas 1/1 AuthReject; release 1/1 2/1;
+Detached |
+AwaitVectors | subscriber Vectors;
+Authenticating | nas 1/1 AuthRequest { rand: ListOf { items: [] }, autn: ListOf { items: [] } };
+Securing | nas 1/1 SecurityCommand { eea: 32, eia: 33 };
+AwaitLocation | subscriber Location;
+AwaitCreate | gateway Create;
+Accepting | setup 1/1 55 56 57 58 32 33 [0, 0, 0, 0, 0, 0, 0, 0, 0, 0, 0, 0, 0, 0, 0, 0, 0, 0, 0, 0, 0, 0, 0, 0, 0, 0, 0, 0, 0, 0, 0, 0] Yes { plmn: 31, tac: 7, pti: 34, ip: 59 };
+AcceptingContext |
+AcceptingContext |
+AwaitModify | gateway Modify(41, 42);
+Connected |
+AwaitRelease | gateway Release;
+Releasing | release 1/1 0/20+;
+Idle |
+Connecting | setup 1/2 55 56 57 58 32 33 [0, 0, 0, 0, 0, 0, 0, 0, 0, 0, 0, 0, 0, 0, 0, 0, 0, 0, 0, 0, 0, 0, 0, 0, 0, 0, 0, 0, 0, 0, 0, 0] No;
+AwaitModify | gateway Modify(41, 42);
+Connected |
+AwaitRelease | gateway Release;
+Releasing | release 1/2 0/20+;
+Idle |
+Releasing | nas 1/3 AreaReject { cause: 12 }; release 1/3 2/0;
+Idle |
+AwaitDelete | gateway Delete;
+Releasing | subscriber Purge; nas 1/4 DetachAccept; release 1/4 2/2;
+Detached |
+";
+
+fn messages(alloc: Global) -> Result<Vec<Message>, Fail> {
+    let mut messages = Vec::new(alloc);
+    for line in MESSAGES.lines() {
+        messages.push(message(alloc, line)?)?;
+    }
+    Ok(messages)
+}
+
+fn steps(alloc: Global, row: &Subscriber, messages: &[Message]) -> Result<String, AllocError>
+    requires tunnel { row.now.teid ≤ 4000000000 }
+    requires count { length messages.now ≤ 100000 }
+{
+    let mut text = String::new(alloc);
+    for step in alone(row, messages)? {
+        write!(text, "{:?} |", step.session.stage)?;
+        write_effects(&mut text, step.effects.items())?;
+        text.push('\n')?;
+    }
+    Ok(text)
+}
+
+#[test]
+fn a_device_comes_and_goes(rt: HostRuntime) -> Result<(), Fail> {
+    let alloc = rt.alloc();
+    let row = subscriber(alloc)?;
+    let messages = messages(alloc)?;
+    assert!(rt; messages.len() < 20);
+    let steps = steps(alloc, &row, &messages)?;
+    assert_eq!(rt; steps.as_str(), STEPS);
+    Ok(())
+}

@@ -1,0 +1,170 @@
+//! The words of every command, as the grammar has them.
+
+use command_words::command_of;
+use std::alloc::{AllocError, Global};
+use std::test::Fail;
+
+/// Words, and the command that they are.
+const COMMANDS: &str = "\
+plain: Plain
+show: Show
+replay: Replay { replicas: 2 }
+replay --replicas=1: Replay { replicas: 1 }
+replay --replicas 1: Replay { replicas: 1 }
+replay --replicas=16: Replay { replicas: 16 }
+replay --replicas 16: Replay { replicas: 16 }
+replay --replicas=02: Replay { replicas: 2 }
+replay --replicas 0000000010: Replay { replicas: 10 }
+make --number=7 --devices=40 --rounds=19: Make { number: 7, devices: 40, rounds: 19, text: false }
+make --number 7 --devices 40 --rounds 19: Make { number: 7, devices: 40, rounds: 19, text: false }
+make --rounds 19 --number=7 --devices 40: Make { number: 7, devices: 40, rounds: 19, text: false }
+make --devices=40 --rounds=19 --number 7: Make { number: 7, devices: 40, rounds: 19, text: false }
+make --text --number=7 --devices=40 --rounds=19: Make { number: 7, devices: 40, rounds: 19, text: true }
+make --number 7 --text --devices=40 --rounds 19: Make { number: 7, devices: 40, rounds: 19, text: true }
+make --number=7 --devices=40 --rounds=19 --text: Make { number: 7, devices: 40, rounds: 19, text: true }
+make --number=0 --devices=1 --rounds=0: Make { number: 0, devices: 1, rounds: 0, text: false }
+make --number=4294967295 --devices=1 --rounds=799: Make { number: 4294967295, devices: 1, rounds: 799, text: false }
+make --number=0000000001 --devices 0800 --rounds 00: Make { number: 1, devices: 800, rounds: 0, text: false }
+make --number=1 --devices=400 --rounds=1: Make { number: 1, devices: 400, rounds: 1, text: false }
+make --number=1 --devices=266 --rounds=2: Make { number: 1, devices: 266, rounds: 2, text: false }
+";
+
+/// Words that are no command, a line each. The first line has none.
+const USAGES: &str = "
+ plain
+Plain
+--plain
+--
+plain --
+plain plain
+plain --replicas=2
+plain --text
+show show
+show --replicas 2
+show --number=1
+run
+load
+--replicas=2 replay
+replay plain
+replay 2
+replay -2
+replay replicas=2
+replay -replicas=2
+replay -r 2
+replay --replica=2
+replay --replicas2
+replay --Replicas=2
+replay --
+replay -- --replicas=2
+replay --replicas=2 --
+replay --=2
+replay --help
+replay -h
+replay --version
+replay --text
+replay --workers=2
+replay --number=2
+replay --replicas
+replay --replicas=
+replay --replicas --
+replay --replicas=0
+replay --replicas 0
+replay --replicas=17
+replay --replicas 17
+replay --replicas==2
+replay --replicas=+2
+replay --replicas +2
+replay --replicas=-2
+replay --replicas -2
+replay --replicas=2x
+replay --replicas=0x2
+replay --replicas=2.0
+replay --replicas=4294967298
+replay --replicas=9999999999
+replay --replicas=00000000002
+replay --replicas 00000000002
+replay --replicas=2 2
+replay --replicas 2 2
+replay --replicas = 2
+replay --replicas=2 --replicas=2
+replay --replicas 2 --replicas 2
+replay --replicas --replicas=2
+make
+make --text
+make --number=7
+make --devices=40 --rounds=19
+make --number=7 --rounds=19
+make --number=7 --devices=40
+make --devices=40 --rounds=19 --text
+make --number=7 --devices=40 --rounds=19 --number=7
+make --number=7 --number 8 --devices=40 --rounds=19
+make --number=7 --devices=40 --devices=40 --rounds=19
+make --number=7 --devices=40 --rounds 19 --rounds=19
+make --text --number=7 --devices=40 --rounds=19 --text
+make --number --devices=40 --rounds=19
+make --number= --devices=40 --rounds=19
+make --number=7 --devices --rounds=19
+make --number=7 --devices=40 --rounds
+make --number=7 --devices=40 --rounds=
+make --number=4294967296 --devices=40 --rounds=19
+make --number=9999999999 --devices=40 --rounds=19
+make --number=00000000007 --devices=40 --rounds=19
+make --number=-7 --devices=40 --rounds=19
+make --number=+7 --devices=40 --rounds=19
+make --number=7 --devices=0 --rounds=19
+make --number=7 --devices=801 --rounds=0
+make --number=7 --devices=1 --rounds=800
+make --number=7 --devices=2 --rounds=400
+make --number=7 --devices=800 --rounds=1
+make --number=7 --devices=267 --rounds=2
+make --number=7 --devices=40 --rounds=20
+make --number=7 --devices=40 --rounds=19 --text=
+make --number=7 --devices=40 --rounds=19 --text=1
+make --number=7 --devices=40 --rounds=19 --text 1
+make --number=7 --devices=40 --rounds=19 --text true
+make --number=7 --devices=40 --rounds=19 -t
+make --number=7 --devices=40 --rounds=19 --
+make -- --number=7 --devices=40 --rounds=19
+make --number=7 -- --devices=40 --rounds=19
+make --number=7 --devices=40 --rounds=19 19
+make --number=7 --devices=40 --rounds=19 --replicas=2
+make --number=7 --devices=40 --rounds=19 --workers=2
+make --number=7 --devices=40 --rounds=19 --help
+make --num=7 --devices=40 --rounds=19
+make --Number=7 --devices=40 --rounds=19
+make -number=7 --devices=40 --rounds=19
+make 7 40 19
+--number=7 make --devices=40 --rounds=19
+";
+
+/// What the words of a line are, in print. A space parts the words, and an empty line has none.
+fn told(alloc: Global, line: &str) -> Result<String, AllocError> {
+    let mut words = Vec::new(alloc);
+    if !line.is_empty() {
+        for word in line.split(' ') {
+            words.push(String::from_str(alloc, word)?)?;
+        }
+    }
+    match command_of(alloc, &words)? {
+        Some(command) => format!(in alloc; "{command:?}"),
+        None => String::from_str(alloc, "usage"),
+    }
+}
+
+#[test]
+fn words_are_commands(rt: HostRuntime) -> Result<(), Fail> {
+    for line in COMMANDS.lines() {
+        if let Some((words, command)) = line.split_once(": ") {
+            assert_eq!(rt; told(rt.alloc(), words)?.as_str(), command, "for {words}");
+        }
+    }
+    Ok(())
+}
+
+#[test]
+fn other_words_are_none(rt: HostRuntime) -> Result<(), Fail> {
+    for words in USAGES.lines() {
+        assert_eq!(rt; told(rt.alloc(), words)?.as_str(), "usage", "for {words}");
+    }
+    Ok(())
+}

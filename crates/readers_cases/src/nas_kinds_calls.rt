@@ -1,0 +1,110 @@
+//! Octets worked out by hand from 3GPP TS 24.301: the messages that they are, or why they are refused. A line each: the octets in
+//! hexadecimal, and behind a space the message type and the message, or the refusal.
+
+use echo_base::Bad;
+use nas_kinds::read_nas;
+use std::alloc::{AllocError, Global};
+use std::test::Fail;
+
+/// Messages with nothing behind them.
+const MESSAGES: &str = "\
+07417108298039000000001002e0e000040201d011 41 AttachRequest { identity: Imsi(208930000000001), eea: 224, eia: 224, pti: 1 }\n\
+07417108298039000000001003e0f0c000030207d0 41 AttachRequest { identity: Imsi(208930000000001), eea: 224, eia: 240, pti: 7 }\n\
+0741720bf602f8390001010000000703f070c000030205d0 41 AttachRequest { identity: Tmsi(7), eea: 240, eia: 112, pti: 5 }\n\
+074300035200c2 43 AttachComplete\n\
+07430000 43 AttachComplete\n\
+0745710bf602f83900010100000001 45 DetachRequest { off: false, identity: Tmsi(1) }\n\
+074579082980390000000010 45 DetachRequest { off: true, identity: Imsi(208930000000001) }\n\
+0748700bf600f1108001fffffffffe 48 AreaRequest { identity: Tmsi(4294967294) }\n\
+074870089999999999999999 48 AreaRequest { identity: Imsi(999999999999999) }\n\
+074870080910325476981032 48 AreaRequest { identity: Imsi(1234567890123) }\n\
+075304a0a1a2a3 53 AuthResponse { res: ListOf { items: [160, 161, 162, 163] } }\n\
+075300 53 AuthResponse { res: ListOf { items: [] } }\n\
+075e 5e SecurityComplete\n\
+075f17 5f SecurityReject { cause: 23 }\n\
+c7000000 c7 ServiceRequest\n\
+17ffffffffff075301a0 53 AuthResponse { res: ListOf { items: [160] } }\n\
+270000000001074300035200c2 43 AttachComplete\n\
+370000000000075f17 5f SecurityReject { cause: 23 }\n\
+470000000000075e 5e SecurityComplete\n\
+";
+
+/// Octets that are no message: their first octets, message types, identities, capabilities and containers.
+const REFUSED: &str = "\
+570000000000075e 16 NasDiscriminator\n\
+02 16 NasDiscriminator\n\
+c8000000 16 NasDiscriminator\n\
+270000000000175e 16 NasDiscriminator\n\
+0742 17 NasKind 42\n\
+27000000000007c7 17 NasKind c7\n\
+07487008a980390000000010 18 NasIdentity\n\
+07487008298a390000000010 18 NasIdentity\n\
+0748700829a0390000000010 18 NasIdentity\n\
+07487008298039000000001a 18 NasIdentity\n\
+0748700829803900000000f0 18 NasIdentity\n\
+074870082180390000000010 18 NasIdentity\n\
+074870082a80390000000010 18 NasIdentity\n\
+0748700729803900000000 18 NasIdentity\n\
+07487009298039000000001032 18 NasIdentity\n\
+0748700af600f1108001ffffffff 18 NasIdentity\n\
+0748700cf600f1108001fffffffffe00 18 NasIdentity\n\
+0748700bf700f1108001fffffffffe 18 NasIdentity\n\
+07487000 18 NasIdentity\n\
+07487001f6 18 NasIdentity\n\
+0741710129 18 NasIdentity\n\
+0741710229 15 NasShort\n\
+074870090000000000 15 NasShort\n\
+0741710829803900000000100000030207d00000 15 NasShort\n\
+07417108298039000000001001e000030207d00000 15 NasShort\n\
+07417108298039000000001002e0f000000207d00000 15 NasShort\n\
+07417108298039000000001002e0f000020207d00000 15 NasShort\n\
+07417108298039000000001002e0f001030207d011 15 NasShort\n\
+";
+
+/// What is read, as the tables write it.
+fn answer(alloc: Global, octets: &[u8]) -> Result<String, AllocError> {
+    match read_nas(alloc, octets) {
+        Ok(message) => {
+            let kind = message.message_type();
+            format!(in alloc; "{kind:x} {message:?}")
+        }
+        Err(Bad::Refused(refusal)) => format!(in alloc; "{refusal}"),
+        Err(Bad::OutOfMemory) => Err(AllocError),
+    }
+}
+
+/// Each message is read with and without two octets behind it, and cut anywhere before its end it is short.
+#[test]
+fn reads_messages(rt: HostRuntime) -> Result<(), Fail> {
+    let alloc = rt.alloc();
+    for line in MESSAGES.lines() {
+        let (text, want) = line.split_once(' ').ok_or("no answer")?;
+        let mut octets = hex::decode(alloc, text)?;
+        assert_eq!(rt; answer(alloc, &octets)?.as_str(), want, "for {text}");
+        for n in 0..octets.len() {
+            assert_eq!(rt;
+                answer(alloc, &octets[..n])?.as_str(),
+                "15 NasShort",
+                "at {n} of {text}"
+            );
+        }
+        octets.extend_from_slice(&[0xff, 0x00])?;
+        assert_eq!(rt;
+            answer(alloc, &octets)?.as_str(),
+            want,
+            "for a longer {text}"
+        );
+    }
+    Ok(())
+}
+
+#[test]
+fn refuses_what_is_no_message(rt: HostRuntime) -> Result<(), Fail> {
+    let alloc = rt.alloc();
+    for line in REFUSED.lines() {
+        let (text, want) = line.split_once(' ').ok_or("no answer")?;
+        let octets = hex::decode(alloc, text)?;
+        assert_eq!(rt; answer(alloc, &octets)?.as_str(), want, "for {text}");
+    }
+    Ok(())
+}
