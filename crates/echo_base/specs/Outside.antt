@@ -44,6 +44,12 @@ OnReadFailed (Got n) P = Unit {0}
 OnReadFailed End P = Unit {0}
 OnReadFailed Failed P = P
 
+-- P, where a read did not fail
+abbrev pub OnRead : ReadStep → Type 0 → Type 0
+OnRead (Got n) P = P
+OnRead End P = P
+OnRead Failed P = Unit {0}
+
 -- P of how many octets a write took
 abbrev pub IfTook : WriteStep → (ℕ → Type 0) → Type 0
 IfTook (write.Took n) P = P n
@@ -53,3 +59,8 @@ IfTook write.Failed P = Unit {0}
 abbrev pub OnWriteFailed : WriteStep → Type 0 → Type 0
 OnWriteFailed (write.Took n) P = Unit {0}
 OnWriteFailed write.Failed P = P
+
+-- P, where a write did not fail
+abbrev pub OnWritten : WriteStep → Type 0 → Type 0
+OnWritten (write.Took n) P = P
+OnWritten write.Failed P = Unit {0}

@@ -42,6 +42,8 @@ pub fn read_all<S: Source>(alloc: Global, source: &mut S, limit: usize) -> Resul
     ensures end { OnOk result (IsAtEnd (S.left source.new)) }
     ensures fits { IfOk result (λ v. vec_len v ≤ limit) }
 
+    ensures quiet { OnOk result (S.faults source.new ≡ S.faults source.old) }
+    ensures quiet_err { IfErr result (λ e. e ≢ ReadAll.ReadFault → S.faults source.new ≡ S.faults source.old) }
     ensures fault { IsErrOf result ReadAll.ReadFault → Rose (S.faults source.old) (S.faults source.new) }
     ensures too_long { IsErrOf result ReadAll.TooLong
         → IsTakenBy (λ n. n ≡ limit + 1) (S.left source.old) (S.left source.new) }
@@ -71,6 +73,7 @@ pub fn read_all<S: Source>(alloc: Global, source: &mut S, limit: usize) -> Resul
 /// `WriteFault` comes where the sink failed; a front of `bytes` was taken then.
 pub fn write_all<K: Sink>(out: &mut K, bytes: &[u8]) -> Result<(), WriteFault>
     ensures ok { OnOk result (IsPut (K.held out.old) bytes.now (K.held out.new)) }
+    ensures quiet { OnOk result (K.faults out.new ≡ K.faults out.old) }
     ensures fault { OnErr result (Rose (K.faults out.old) (K.faults out.new)) }
     ensures front { OnErr result ((piece rest : List ℕ) × (bytes.now ≡ piece ++ rest)
         × IsPut (K.held out.old) piece (K.held out.new)) }

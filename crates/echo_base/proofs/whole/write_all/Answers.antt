@@ -17,7 +17,7 @@ loop-done-preserved g c =
       within = search rules;
       put = rw (take-add done n bytes) (IsPut-more _ _ _ _ _ c.loop-done.invariant.put octets);
       untouched = λ none. absurd (omega (arith, c.in-Took.ensures.took));
-      count = omega arith;
+      quiet = c.in-Took.ensures.quiet ∙ c.loop-done.invariant.quiet;
     }
 
 -- what was put before the fault, and what was not
