@@ -12,24 +12,36 @@ fn source(alloc: Global, bytes: &[u8], plan: &[Give]) -> Result<MemSource, OutOf
     Ok(MemSource::new(bytes.to_vec(alloc)?, plan.to_vec(alloc)?))
 }
 
+/// The limit, how many calls of the plan there are, and what is read of the six octets `abcdef`.
+const READS: &str = "\
+6 0 Ok([97, 98, 99, 100, 101, 102])
+6 3 Ok([97, 98, 99, 100, 101, 102])
+7 0 Ok([97, 98, 99, 100, 101, 102])
+7 3 Ok([97, 98, 99, 100, 101, 102])
+5 0 Err(TooLong)
+5 3 Err(TooLong)
+0 0 Err(TooLong)
+0 3 Err(TooLong)
+";
+
+/// Adds a line with what is read up to a limit, by these calls of a plan.
+fn put_read(text: &mut String, alloc: Global, limit: usize, plan: &[Give]) -> Result<(), Fail> {
+    let calls = plan.len();
+    let mut from = source(alloc, b"abcdef", plan)?;
+    let read = read_all(alloc, &mut from, limit);
+    writeln!(text, "{limit} {calls} {read:?}")?;
+    Ok(())
+}
+
 #[test]
 fn reads_up_to_the_limit(rt: HostRuntime) -> Result<(), Fail> {
     let pieces = [Give::Piece(2), Give::Piece(0), Give::Piece(9)];
-    for (limit, want) in [
-        (6, None),
-        (7, None),
-        (5, Some(ReadAll::TooLong)),
-        (0, Some(ReadAll::TooLong)),
-    ] {
-        for plan in [&pieces[..0], &pieces[..]] {
-            let mut from = source(rt.alloc(), b"abcdef", plan)?;
-            let read = read_all(rt.alloc(), &mut from, limit);
-            if let Ok(bytes) = &read {
-                assert_eq!(rt; bytes.as_slice(), b"abcdef".as_slice(), "limit {limit}");
-            }
-            assert_eq!(rt; read.err(), want, "limit {limit}");
-        }
+    let mut text = String::new(rt.alloc());
+    for limit in [6, 7, 5, 0] {
+        put_read(&mut text, rt.alloc(), limit, &[])?;
+        put_read(&mut text, rt.alloc(), limit, &pieces)?;
     }
+    assert_eq!(rt; text.as_str(), READS);
     Ok(())
 }
 
@@ -60,22 +72,35 @@ fn reads_many_octets(rt: HostRuntime) -> Result<(), Fail> {
     Ok(())
 }
 
+/// The room of a sink, how many calls its plan has, what comes of writing `abcdef`, and the octets that it holds then.
+const WRITES: &str = "\
+6 2 Ok(()) [97, 98, 99, 100, 101, 102]
+9 0 Ok(()) [97, 98, 99, 100, 101, 102]
+5 2 Err(WriteFault) [97, 98, 99, 100, 101]
+9 2 Err(WriteFault) [97, 98]
+0 0 Err(WriteFault) []
+";
+
+/// Adds a line with what comes of a write into so much room, by these calls of a plan.
+fn put_write(text: &mut String, alloc: Global, room: usize, plan: &[Give]) -> Result<(), Fail> {
+    let calls = plan.len();
+    let mut to = MemSink::new(alloc, room, plan.to_vec(alloc)?)?;
+    let written = write_all(&mut to, b"abcdef");
+    let held = to.held();
+    writeln!(text, "{room} {calls} {written:?} {held:?}")?;
+    Ok(())
+}
+
 #[test]
 fn writes_what_there_is_room_for(rt: HostRuntime) -> Result<(), Fail> {
     let pieces = [Give::Piece(3), Give::Piece(0)];
-    let fails = [Give::Piece(2), Give::Fail];
-    for (room, plan, want, is_whole) in [
-        (6, &pieces[..], "abcdef", true),
-        (9, &pieces[..0], "abcdef", true),
-        (5, &pieces[..], "abcde", false),
-        (9, &fails[..], "ab", false),
-        (0, &pieces[..0], "", false),
-    ] {
-        let mut to = MemSink::new(rt.alloc(), room, plan.to_vec(rt.alloc())?)?;
-        let written = write_all(&mut to, b"abcdef");
-        assert_eq!(rt; written.is_ok(), is_whole, "room {room}");
-        assert_eq!(rt; to.held(), want.as_bytes(), "room {room}");
-    }
+    let mut text = String::new(rt.alloc());
+    put_write(&mut text, rt.alloc(), 6, &pieces)?;
+    put_write(&mut text, rt.alloc(), 9, &[])?;
+    put_write(&mut text, rt.alloc(), 5, &pieces)?;
+    put_write(&mut text, rt.alloc(), 9, &[Give::Piece(2), Give::Fail])?;
+    put_write(&mut text, rt.alloc(), 0, &[])?;
+    assert_eq!(rt; text.as_str(), WRITES);
     Ok(())
 }
 
@@ -320,6 +345,7 @@ fn converts_into_bad(rt: HostRuntime) -> Result<(), Fail> {
 
 /// Texts, and the octets that their hexadecimal digits are (RFC 4648, 8), in either case.
 const HEXADECIMAL: &str = "\
+ Some([])
 00 Some([0])
 0aFF Some([10, 255])
 0 None
@@ -330,13 +356,11 @@ const HEXADECIMAL: &str = "\
 
 #[test]
 fn decodes_hexadecimal_digits(rt: HostRuntime) -> Result<(), Fail> {
-    for line in HEXADECIMAL.lines() {
-        let (digits, want) = line.split_once(' ').ok_or("no octets")?;
+    let mut text = String::new(rt.alloc());
+    for digits in ["", "00", "0aFF", "0", "0g", "+1", "0a0"] {
         let octets = decode_hex(rt.alloc(), digits.as_bytes())?;
-        let text = format!(in rt.alloc(); "{octets:?}")?;
-        assert_eq!(rt; text.as_str(), want, "for {digits}");
+        writeln!(text, "{digits} {octets:?}")?;
     }
-    let nothing = decode_hex(rt.alloc(), b"")?;
-    assert!(rt; nothing.is_some());
+    assert_eq!(rt; text.as_str(), HEXADECIMAL);
     Ok(())
 }

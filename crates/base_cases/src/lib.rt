@@ -1,4 +1,4 @@
-//! Tests: what no clause says. There is nothing else here.
+//! Tests of the base: what no clause of `echo_base` and `device_types` says. There is nothing else here.
 #![tactic(auto)]
 
 #[cfg(test)]

@@ -5,6 +5,7 @@ use crate::key::Key;
 use crate::list_of::ListOf;
 use crate::nas_out::NasOut;
 use crate::try_copy::TryCopy;
+use std::alloc::AllocError;
 
 /// Does the setup of a context carry an ATTACH ACCEPT (3GPP TS 24.301, 8.2.1)?
 #[derive(Clone, Copy, Debug, PartialEq, Eq)]
@@ -13,7 +14,7 @@ pub enum Accept {
     No,
     /// It does. The access point name in it is the subscriber's.
     Yes {
-        /// The PLMN of the device's tracking area: its three octets as one number, below 2^24.
+        /// The PLMN of the device's tracking area: its three octets as one number, the first one highest, below 2^24.
         plmn: u32,
         /// The code of that tracking area.
         tac: u16,
@@ -25,7 +26,7 @@ pub enum Accept {
 }
 
 /// A message to a device: to the base station `station`, where its eNB-UE-S1AP-ID is `enb`, below 2^24.
-#[derive(Clone, Debug, Drop)]
+#[derive(Debug, Drop)]
 pub enum Down {
     /// DOWNLINK NAS TRANSPORT (3GPP TS 36.413, 9.1.7.2).
     Nas {
@@ -70,10 +71,57 @@ pub enum Down {
     },
 }
 
-impl TryCopy for Down {
-    ghost use Rattle.std.proofs.Common.{rules};
+/// By hand, since each field of a derived clone may fail.
+impl Clone for Down {
+    ghost use Rattle.std.specs.Prelude.{◌≡◌};
 
-    ghost same = { Prim.search rules };
+    ghost is_clone = { λ down clone. clone ≡ down };
+
+    fn clone(&self) -> Result<Down, AllocError> {
+        match self {
+            Down::Nas { station, enb, nas } => Ok(Down::Nas {
+                station: *station,
+                enb: *enb,
+                nas: nas.copy()?,
+            }),
+            Down::Setup {
+                station,
+                enb,
+                dl,
+                ul,
+                sgw,
+                teid,
+                eea,
+                eia,
+                key,
+                accept,
+            } => Ok(Down::Setup {
+                station: *station,
+                enb: *enb,
+                dl: *dl,
+                ul: *ul,
+                sgw: *sgw,
+                teid: *teid,
+                eea: *eea,
+                eia: *eia,
+                key: key.copy()?,
+                accept: *accept,
+            }),
+            Down::Release {
+                station,
+                enb,
+                cause,
+            } => Ok(Down::Release {
+                station: *station,
+                enb: *enb,
+                cause: *cause,
+            }),
+        }
+    }
+}
+
+impl TryCopy for Down {
+    ghost same = { λ down clone equal. equal };
 }
 
 /// Messages to a device, in order.

@@ -14,8 +14,9 @@ const LENGTH: usize = 32;
 /// The key of zeros.
 static ZEROS: [u8; LENGTH] = [0; LENGTH];
 
-/// The key of a device (K_eNB, 3GPP TS 33.401, 6.2), which contracts see as its 32 octets. A key that was made from
-/// another count of octets, but from none, is seen as those.
+/// The key of a device's authentication vector (3GPP TS 33.401, 6.1), which its base station is given as it is, as the Security
+/// Key of TS 36.413, 9.2.1.41: none is derived from it. Contracts see it as its 32 octets. A key that was made from another count
+/// of octets, but from none, is seen as those.
 #[derive(Debug, Drop)]
 pub struct Key {
     /// No octets stand for 32 octets of zero.

@@ -1,4 +1,7 @@
 //! The values of a device that the crates above share, with the conditions that several of them cite.
+//!
+//! Octets as a number are so with the first octet highest: the PLMN 208 93 (3GPP TS 36.413, 9.2.3.8), whose octets are 02 f8 39,
+//! is 0x02f839, and the IPv4 address 10.45.0.1 is 0x0a2d0001.
 #![tactic(auto)]
 
 mod alone_laws;

@@ -1,5 +1,5 @@
 //! Lists of values.
-ghost use Rattle.std.specs.Prelude.{◌≡◌, [], ◌∷◌, ◌++◌, OnOk, OnErr};
+ghost use Rattle.std.specs.Prelude.{◌≡◌, [], ◌∷◌, ◌++◌, IfOk, OnOk, OnErr};
 ghost use Rattle.device_types.specs.Octets.{AreOctets};
 
 use crate::try_copy::TryCopy;
@@ -114,6 +114,13 @@ impl ListOf<u8> {
         let octets: &[u8] = &self.items;
         octets
     }
+}
+
+/// Copies two lists of octets.
+pub(crate) fn copy_two(first: &Octets, second: &Octets) -> Result<(Octets, Octets), AllocError>
+    ensures { IfOk result (λ copies. (copies.0 ≡ first.now) × (copies.1 ≡ second.now)) }
+{
+    Ok((first.copy()?, second.copy()?))
 }
 
 /// A list of tracking area codes (3GPP TS 23.003, 19.4.2.3).

@@ -3,13 +3,14 @@
 use crate::cause::CauseCode;
 use crate::list_of::{ListOf, Octets};
 use crate::try_copy::TryCopy;
+use std::alloc::AllocError;
 
 /// What a message says. NAS messages are those of 3GPP TS 24.301, the others those of TS 36.413.
-#[derive(Clone, Debug, Drop)]
+#[derive(Debug, Drop)]
 pub enum Body {
     /// ATTACH REQUEST (TS 24.301, 8.2.4).
     Attach {
-        /// The PLMN of the tracking area where the device is: its three octets as one number, below 2^24.
+        /// The PLMN of the tracking area where the device is: its three octets as one number, the first one highest, below 2^24.
         plmn: u32,
         /// The code of that tracking area.
         tac: u16,
@@ -26,7 +27,7 @@ pub enum Body {
     Area {
         /// Did it come in an INITIAL UE MESSAGE?
         first: bool,
-        /// The PLMN of the tracking area where the device is: its three octets as one number, below 2^24.
+        /// The PLMN of the tracking area where the device is: its three octets as one number, the first one highest, below 2^24.
         plmn: u32,
         /// The code of that tracking area.
         tac: u16,
@@ -72,10 +73,57 @@ pub enum Body {
     },
 }
 
-impl TryCopy for Body {
-    ghost use Rattle.std.proofs.Common.{rules};
+/// By hand, since each field of a derived clone may fail.
+impl Clone for Body {
+    ghost use Rattle.std.specs.Prelude.{◌≡◌};
 
-    ghost same = { Prim.search rules };
+    ghost is_clone = { λ body clone. clone ≡ body };
+
+    fn clone(&self) -> Result<Body, AllocError> {
+        match self {
+            Body::Attach {
+                plmn,
+                tac,
+                eea,
+                eia,
+                pti,
+            } => Ok(Body::Attach {
+                plmn: *plmn,
+                tac: *tac,
+                eea: *eea,
+                eia: *eia,
+                pti: *pti,
+            }),
+            Body::Service => Ok(Body::Service),
+            Body::Area { first, plmn, tac } => Ok(Body::Area {
+                first: *first,
+                plmn: *plmn,
+                tac: *tac,
+            }),
+            Body::Detach { first, off } => Ok(Body::Detach {
+                first: *first,
+                off: *off,
+            }),
+            Body::Response { res } => Ok(Body::Response { res: res.copy()? }),
+            Body::Secured => Ok(Body::Secured),
+            Body::SecurityRefused => Ok(Body::SecurityRefused),
+            Body::AttachDone => Ok(Body::AttachDone),
+            Body::ContextDone { addr, teid } => Ok(Body::ContextDone {
+                addr: *addr,
+                teid: *teid,
+            }),
+            Body::ContextFailed => Ok(Body::ContextFailed),
+            Body::ReleaseAsked { cause } => Ok(Body::ReleaseAsked { cause: *cause }),
+            Body::Released => Ok(Body::Released),
+            Body::Capability { octets } => Ok(Body::Capability {
+                octets: octets.copy()?,
+            }),
+        }
+    }
+}
+
+impl TryCopy for Body {
+    ghost same = { λ body clone equal. equal };
 }
 
 /// A message of a device.

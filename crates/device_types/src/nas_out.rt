@@ -1,10 +1,11 @@
 //! The NAS messages that are written.
 
-use crate::list_of::Octets;
+use crate::list_of::{Octets, copy_two};
 use crate::try_copy::TryCopy;
+use std::alloc::AllocError;
 
 /// An EPS mobility management message from the network (3GPP TS 24.301, 8.2), with its mandatory fields.
-#[derive(Clone, Debug, Drop)]
+#[derive(Debug, Drop)]
 pub enum NasOut {
     /// AUTHENTICATION REQUEST (8.2.7).
     AuthRequest {
@@ -26,7 +27,7 @@ pub enum NasOut {
     /// ATTACH ACCEPT (8.2.1), with a tracking area list of one area (9.9.3.33) and an ACTIVATE DEFAULT EPS BEARER
     /// CONTEXT REQUEST (8.3.6).
     AttachAccept {
-        /// The three octets of the PLMN identity as one number, below 2^24.
+        /// The three octets of the PLMN identity as one number, the first one highest, below 2^24.
         plmn: u32,
         /// The tracking area code.
         tac: u16,
@@ -58,8 +59,45 @@ pub enum NasOut {
     DetachAccept,
 }
 
-impl TryCopy for NasOut {
-    ghost use Rattle.std.proofs.Common.{rules};
+/// By hand, since each field of a derived clone may fail.
+impl Clone for NasOut {
+    ghost use Rattle.std.specs.Prelude.{◌≡◌};
 
-    ghost same = { Prim.search rules };
+    ghost is_clone = { λ nas clone. clone ≡ nas };
+
+    fn clone(&self) -> Result<NasOut, AllocError> {
+        match self {
+            NasOut::AuthRequest { rand, autn } => {
+                let (rand, autn) = copy_two(rand, autn)?;
+                Ok(NasOut::AuthRequest { rand, autn })
+            }
+            NasOut::AuthReject => Ok(NasOut::AuthReject),
+            NasOut::SecurityCommand { eea, eia } => Ok(NasOut::SecurityCommand {
+                eea: *eea,
+                eia: *eia,
+            }),
+            NasOut::AttachAccept {
+                plmn,
+                tac,
+                pti,
+                apn,
+                ip,
+            } => Ok(NasOut::AttachAccept {
+                plmn: *plmn,
+                tac: *tac,
+                pti: *pti,
+                apn: apn.copy()?,
+                ip: *ip,
+            }),
+            NasOut::AttachReject { cause } => Ok(NasOut::AttachReject { cause: *cause }),
+            NasOut::ServiceReject { cause } => Ok(NasOut::ServiceReject { cause: *cause }),
+            NasOut::AreaReject { cause } => Ok(NasOut::AreaReject { cause: *cause }),
+            NasOut::AreaAccept => Ok(NasOut::AreaAccept),
+            NasOut::DetachAccept => Ok(NasOut::DetachAccept),
+        }
+    }
+}
+
+impl TryCopy for NasOut {
+    ghost same = { λ nas clone equal. equal };
 }

@@ -78,7 +78,7 @@ pub struct Session {
     pub stage: Stage,
     /// Its S1 connection.
     pub link: Link,
-    /// The PLMN of its tracking area: its three octets as one number, below 2^24.
+    /// The PLMN of its tracking area: its three octets as one number, the first one highest, below 2^24.
     pub plmn: u32,
     /// The code of its tracking area.
     pub tac: u16,

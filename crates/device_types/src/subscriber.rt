@@ -1,14 +1,16 @@
 //! The subscribers of the core.
+ghost use Rattle.std.specs.Prelude.{◌≡◌};
 
-use crate::list_of::{Areas, Octets};
+use crate::list_of::{Areas, Octets, copy_two};
 use crate::try_copy::TryCopy;
+use std::alloc::AllocError;
 
 /// A device: the number of its subscriber's row, from 1.
 #[derive(Clone, Copy, Debug, PartialEq, Eq)]
 pub struct DeviceId(pub u32);
 
 /// A row of the subscriber table.
-#[derive(Clone, Debug, Drop)]
+#[derive(Debug, Drop)]
 pub struct Subscriber {
     /// The number of the row, from 1, which is the MME-UE-S1AP-ID of its device too.
     pub number: u32,
@@ -40,8 +42,53 @@ pub struct Subscriber {
     pub forbidden: Areas,
 }
 
-impl TryCopy for Subscriber {
-    ghost use Rattle.std.proofs.Common.{rules};
+impl Subscriber {
+    /// The same numbers, with these lists. It takes no memory.
+    fn with_lists(
+        &self,
+        rand: Octets,
+        autn: Octets,
+        res: Octets,
+        key: Octets,
+        apn: Octets,
+        forbidden: Areas,
+    ) -> Subscriber
+        ensures { result
+            ≡ record self.now { rand = rand; autn = autn; res = res; key = key; apn = apn; forbidden = forbidden } }
+    {
+        Subscriber {
+            number: self.number,
+            imsi: self.imsi,
+            tmsi: self.tmsi,
+            rand,
+            autn,
+            res,
+            key,
+            apn,
+            ip: self.ip,
+            sgw: self.sgw,
+            teid: self.teid,
+            ambr_dl: self.ambr_dl,
+            ambr_ul: self.ambr_ul,
+            forbidden,
+        }
+    }
+}
 
-    ghost same = { Prim.search rules };
+/// The row is copied exactly. By hand, since each field of a derived clone may fail, and only six take memory.
+impl Clone for Subscriber {
+    ghost use Rattle.std.specs.Prelude.{◌≡◌};
+
+    ghost is_clone = { λ row clone. clone ≡ row };
+
+    fn clone(&self) -> Result<Subscriber, AllocError> {
+        let (rand, autn) = copy_two(&self.rand, &self.autn)?;
+        let (res, key) = copy_two(&self.res, &self.key)?;
+        let apn = self.apn.copy()?;
+        Ok(self.with_lists(rand, autn, res, key, apn, self.forbidden.copy()?))
+    }
+}
+
+impl TryCopy for Subscriber {
+    ghost same = { λ row clone equal. equal };
 }
