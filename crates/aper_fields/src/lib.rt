@@ -10,8 +10,6 @@ mod ranged;
 mod reader;
 mod reading;
 mod sequence;
-#[cfg(test)]
-mod tests;
 mod value;
 mod whole;
 mod width;

@@ -11,9 +11,6 @@ use crate::width::{octet_count, width};
 use crate::writer::{BitWriter, Mark};
 use std::alloc::AllocError;
 
-#[cfg(test)]
-mod tests;
-
 /// Puts a number of at most `top` as the count of its octets less one, padding, and the least number of octets.
 fn put_counted(w: &mut BitWriter, top: u64, n: u64) -> Result<(), AllocError>
     requires { n ≤ top }

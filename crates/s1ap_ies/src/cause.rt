@@ -19,9 +19,10 @@ pub struct Cause {
     pub index: u8,
 }
 
-/// How many roots the causes of a group have.
+/// How many roots the causes of a group have, those in front of its extension mark (TS 36.413, 9.2.1.3): the groups are numbered as in
+/// `Cause`, and each above 4 is answered as the last.
 #[tactic(auto, unfolding(device_types::specs::Cause::cause_roots))]
-pub fn roots_of(group: u64) -> u32
+pub fn cause_roots(group: u64) -> u32
     ensures roots { result ≡ cause_roots group }
     ensures some { 1 ≤ result }
     ensures few { result ≤ 64 }
@@ -46,7 +47,7 @@ impl PlainValue for Cause {
     fn read_pieces(r: &mut BitReader) -> Result<Cause, Refusal> {
         let mut ahead = r.ahead();
         let group = read_choice(&mut ahead, 5, 3)?;
-        let cause = read_enum(&mut ahead, roots_of(group), true)?;
+        let cause = read_enum(&mut ahead, cause_roots(group), true)?;
         *r = ahead;
         Ok(Cause {
             group: group as u8,
@@ -61,7 +62,7 @@ impl PlainValue for Cause {
         write_choice(w, 3, group)?;
         write_enum(
             w,
-            roots_of(group),
+            cause_roots(group),
             true,
             EnumValue {
                 extended: self.extended,

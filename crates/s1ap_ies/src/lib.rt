@@ -14,13 +14,11 @@ pub mod names;
 mod sec_caps;
 mod stmsi;
 mod tai;
-#[cfg(test)]
-mod tests;
 mod ue_ids;
 
 pub use aper_fields::{OwnedValue, PlainValue, spelled_is_right, written_is_spelled};
 pub use bit_rates::BitRates;
-pub use cause::Cause;
+pub use cause::{Cause, cause_roots};
 pub use cgi::Cgi;
 pub use criticality::Criticality;
 pub use erab_done::ErabDone;

@@ -10,14 +10,13 @@ mod pdu;
 mod reading;
 mod slots;
 mod tables;
-#[cfg(test)]
-mod tests;
 mod usual;
 mod value;
 mod writing;
 
 pub use laws::{one_answer, small_is_right, spelled_is_right, written_is_spelled};
 pub use pdu::{ErabsDone, ErabsToSetup, Pdu};
-pub use reading::{read_pdu, read_uplink};
+pub use reading::{read_pdu, read_pieces, read_uplink};
 pub use tables::{IeRow, IeTable, MessageKind, ies_of, message_name};
-pub use writing::write_pdu;
+pub use usual::{read_usual, write_usual};
+pub use writing::{write_pdu, write_pieces};

@@ -145,9 +145,10 @@ fn find_message(bytes: &[u8]) -> Result<(MessageKind, Slots<'_>), Refusal>
     Ok((kind, slots))
 }
 
-/// Reads a message that is all of the octets, piece by piece.
+/// Reads the message that all of the octets are piece by piece, whatever they are: what `read_pdu` answers, without the short way that it
+/// tries first (`read_usual`).
 #[tactic(auto, using(crate::proofs::Found::found_ok, crate::proofs::Found::found_short, crate::proofs::Found::found_made))]
-pub(crate) fn read_pieces(alloc: Global, bytes: &[u8]) -> Result<Pdu, Bad>
+pub fn read_pieces(alloc: Global, bytes: &[u8]) -> Result<Pdu, Bad>
     ensures { IsRead (message_at bytes.now) result }
 {
     let (kind, slots) = find_message(bytes)?;
@@ -198,6 +199,12 @@ fn read_received(alloc: Global, bytes: &[u8]) -> Result<Pdu, Bad>
 /// second id; MissingIe at the id of an item that is not one of its list; and where no piece is wrong MissingIe at the end of the octets, for the first IE of the message's table that it
 /// needs. IEs may stand in any order and with any criticality, and other IEs are passed over. Memory is taken once
 /// the message is found right, for its NAS-PDU, key, radio capability and lists of E-RABs.
+///
+/// ```rust
+/// let octets = hex::decode(alloc, "2017000f000002000040020001000840020001")?;
+/// let pdu = read_pdu(alloc, &octets)?;
+/// assert_eq!(rt; pdu.kind(), MessageKind::UeContextReleaseComplete);
+/// ```
 pub fn read_pdu(alloc: Global, bytes: &[u8]) -> Result<Pdu, Bad>
     // What is read is spelled so, and what is refused is refused for the refusal that is due.
     ensures answers { Answers (Spells bytes.now) (Refused bytes.now) ⊤ result }

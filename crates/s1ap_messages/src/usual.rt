@@ -46,14 +46,17 @@ fn find_usual(alloc: Global, octets: &[u8]) -> Option<Pdu>
     fields(alloc, kind, ies, count)
 }
 
-/// What reading gives of octets that are a message in its usual form.
+/// Reads the message that all of the octets are the short way, octet by octet: what `read_pdu` answers, where they are those that are written
+/// for it, its lists have one E-RAB and its cause is a root of its group. None says nothing of the octets: it comes for any others, and for
+/// want of memory.
 pub fn read_usual(alloc: Global, octets: &[u8]) -> Option<Pdu>
     ensures { IfSome result (λ p. message_at octets.now ≡ Ok p) }
 {
     find_usual(alloc, octets)
 }
 
-/// The octets that are written for a message whose lists have one item, and whose radio capability at most 16,000 octets.
+/// Writes a message the short way, octet by octet: what `write_pdu` writes, where its lists have one E-RAB and its radio capability has at most
+/// 16,000 octets. None comes for any other. It fails for want of memory alone.
 #[tactic(auto, using(crate::proofs::UsualForm::finished_is_written))]
 pub fn write_usual(alloc: Global, p: &Pdu) -> Result<Option<Octets>, AllocError>
     requires { IsRight p.now }

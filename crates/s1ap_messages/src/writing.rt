@@ -121,8 +121,9 @@ fn write_body(w: &mut BitWriter, p: &Pdu) -> Result<(), OutOfMemory>
     write_ies(w, kind, &p.values()[..ies_of(kind).len])
 }
 
-/// Writes a message piece by piece, into octets that are begun once: what an open type contains is written where it stands, and counted then.
-pub(crate) fn write_pieces(alloc: Global, p: &Pdu) -> Result<Octets, OutOfMemory>
+/// Writes a message piece by piece, whatever it is: what `write_pdu` writes, without the short way that it tries first (`write_usual`). The
+/// octets are begun once: what an open type contains is written where it stands, and counted then. It fails for want of memory alone.
+pub fn write_pieces(alloc: Global, p: &Pdu) -> Result<Octets, OutOfMemory>
     requires { IsRight p.now }
     ensures { IfOk result (λ octets. octets ≡ written p.now) }
 {
@@ -137,6 +138,12 @@ pub(crate) fn write_pieces(alloc: Global, p: &Pdu) -> Result<Octets, OutOfMemory
 /// Writes a message: its IEs in the order of its table (TS 36.413, 9.1), each with the criticality of the table, and no
 /// other. Its fields have to be in their ranges, and no open type, as it is written, may have more than 16,383 octets (`small_is_right` says of
 /// which messages this surely holds). It fails for want of memory alone.
+///
+/// ```rust
+/// let pdu = Pdu::UeContextReleaseComplete { mme: 1, enb: 1 };
+/// let octets = write_pdu(alloc, &pdu)?;
+/// assert_eq!(rt; hex::encode(alloc, octets.items())?.as_str(), "2017000f000002000040020001000840020001");
+/// ```
 pub fn write_pdu(alloc: Global, p: &Pdu) -> Result<Octets, OutOfMemory>
     requires { IsRight p.now }
     ensures { IfOk result (λ octets. octets ≡ written p.now) }

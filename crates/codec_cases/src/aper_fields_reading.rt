@@ -1,16 +1,13 @@
 //! Octets worked out by hand from ITU-T X.691, and what is read from them. A line of a table is the octets in hexadecimal, those
 //! from the octet 10 of a PDU on; the piece that is read; and behind ` = ` its value, or the refusal with its place.
 
-use crate::reading::read_number;
-use crate::{
+use aper_fields::{
     BitReader, Ranged, close, end, read_bits_fixed, read_enum, read_len, read_octet_string,
     read_octets_fixed, read_open,
 };
 use echo_base::{Reason, Refusal};
 use std::alloc::{AllocError, Global};
 use std::fmt::Debug;
-use std::num::ParseIntError;
-use std::process::Abort;
 use std::test::Fail;
 
 /// Pieces at the start of an octet: numbers from the one to the other, lengths, enumerations of three roots without and with
@@ -86,11 +83,11 @@ c0010000 17 bits = 3 NonZeroPadding at 10
 8000 end = 13 TrailingBytes at 11
 ";
 
-/// What was read, as the tables write it.
-fn said<T: Debug + Drop>(alloc: Global, read: Result<T, Refusal>) -> Result<String, AllocError> {
+/// Writes what was read, as the tables have it.
+fn tell<T: Debug + Drop>(text: &mut String, read: Result<T, Refusal>) -> Result<(), AllocError> {
     match read {
-        Ok(value) => format!(in alloc; "{value:?}"),
-        Err(refusal) => format!(in alloc; "{refusal}"),
+        Ok(value) => write!(text, "{value:?}"),
+        Err(refusal) => write!(text, "{refusal}"),
     }
 }
 
@@ -102,82 +99,73 @@ fn read_no_bits(r: &mut BitReader) -> Result<(), Refusal> {
     close(&content, &inside)
 }
 
-/// What is read of a piece that a table names.
-fn read_piece(alloc: Global, r: &mut BitReader, piece: &str) -> Result<String, AllocError> {
+/// Writes what is read of a piece that a table names.
+fn tell_piece(text: &mut String, r: &mut BitReader, piece: &str) -> Result<(), AllocError> {
     match piece {
-        "length" => said(alloc, read_len(r)),
-        "3 roots" => said(alloc, read_enum(r, 3, false)),
-        "3 roots .." => said(alloc, read_enum(r, 3, true)),
-        "0 to 3 octets" => said(alloc, read_octet_string(r, 3)),
-        "3 octets" => said(alloc, read_octets_fixed(r, 3)),
-        "17 bits" => said(alloc, read_bits_fixed(r, 17)),
-        "no bits" => said(alloc, read_no_bits(r)),
-        "end" => said(alloc, end(r)),
-        _ => read_in_range(alloc, r, piece),
+        "length" => tell(text, read_len(r)),
+        "3 roots" => tell(text, read_enum(r, 3, false)),
+        "3 roots .." => tell(text, read_enum(r, 3, true)),
+        "0 to 3 octets" => tell(text, read_octet_string(r, 3)),
+        "3 octets" => tell(text, read_octets_fixed(r, 3)),
+        "17 bits" => tell(text, read_bits_fixed(r, 17)),
+        "no bits" => tell(text, read_no_bits(r)),
+        "end" => tell(text, end(r)),
+        _ => tell_number(text, r, piece),
     }
 }
 
-/// What is read of a number of a range that a table names.
-fn read_in_range(alloc: Global, r: &mut BitReader, piece: &str) -> Result<String, AllocError> {
-    match range_of(piece) {
-        Some((low, high)) if low <= high && high < 1 << 63 => {
-            said(alloc, read_number(r, low, high - low))
-        }
-        _ => format!(in alloc; "no piece"),
+/// Writes what is read of a number of a range that a table names.
+fn tell_number(text: &mut String, r: &mut BitReader, range: &str) -> Result<(), AllocError> {
+    match range {
+        "7..7" => tell(text, Ranged::<7, 7>::read(r)),
+        "0..2" => tell(text, Ranged::<0, 2>::read(r)),
+        "0..254" => tell(text, Ranged::<0, 254>::read(r)),
+        "1..256" => tell(text, Ranged::<1, 256>::read(r)),
+        "0..256" => tell(text, Ranged::<0, 256>::read(r)),
+        "0..65535" => tell(text, Ranged::<0, 65535>::read(r)),
+        "0..65536" => tell(text, Ranged::<0, 65536>::read(r)),
+        "0..16777215" => tell(text, Ranged::<0, 16777215>::read(r)),
+        _ => text.push_str("no piece"),
     }
 }
 
-/// The octets of at most 32 hexadecimal digits, behind zeros.
-pub(crate) fn octets_of(text: &str) -> Result<[u8; 16], ParseIntError> {
-    if text.is_empty() {
-        return Ok([0; 16]);
+/// Writes a case again, with what is read of its octets, or behind their first bit.
+fn tell_case(alloc: Global, text: &mut String, line: &str, behind_a_bit: bool) -> Result<(), Fail> {
+    let (case, _) = line.split_once(" = ").ok_or("no value")?;
+    let (digits, piece) = case.split_once(' ').ok_or("no piece")?;
+    let octets = hex::decode(alloc, digits)?;
+    let mut r = BitReader::new(&octets, 10);
+    if behind_a_bit {
+        read_bits_fixed(&mut r, 1)?;
     }
-    Ok(u128::from_str_radix(text, 16)?.to_be_bytes())
-}
-
-/// Those of the octets that the digits are.
-pub(crate) fn without_zeros<'a>(octets: &'a [u8; 16], text: &str) -> &'a [u8] {
-    &octets[16usize.saturating_sub(text.len() / 2)..]
-}
-
-/// The least and the greatest number of a range, as the tables write it.
-pub(crate) fn range_of(piece: &str) -> Option<(u64, u64)> {
-    let (low, high) = piece.split_once("..")?;
-    Some((low.parse().ok()?, high.parse().ok()?))
-}
-
-/// The octets of a line, its piece, and what is read.
-fn parts_of(line: &str) -> Option<(&str, &str, &str)> {
-    let (left, want) = line.split_once(" = ")?;
-    let (text, piece) = left.split_once(' ')?;
-    Some((text, piece, want))
-}
-
-/// Of each line of a table is read what it says.
-fn reads_each(rt: &impl Abort, alloc: Global, behind_a_bit: bool, table: &str) -> Result<(), Fail> {
-    for line in table.lines() {
-        let Some((text, piece, want)) = parts_of(line) else {
-            panic!(rt; "{line}");
-        };
-        let octets = octets_of(text)?;
-        let mut r = BitReader::new(without_zeros(&octets, text), 10);
-        if behind_a_bit {
-            read_bits_fixed(&mut r, 1)?;
-        }
-        let read = read_piece(alloc, &mut r, piece)?;
-        assert_eq!(rt; read.as_str(), want, "{line}");
-    }
+    text.push_str(case)?;
+    text.push_str(" = ")?;
+    tell_piece(text, &mut r, piece)?;
+    text.push('\n')?;
     Ok(())
+}
+
+/// The table, with what is read.
+fn told(alloc: Global, table: &str, behind_a_bit: bool) -> Result<String, Fail> {
+    let mut text = String::new(alloc);
+    for line in table.lines() {
+        tell_case(alloc, &mut text, line, behind_a_bit)?;
+    }
+    Ok(text)
 }
 
 #[test]
 fn pieces_at_an_octet(rt: HostRuntime) -> Result<(), Fail> {
-    reads_each(&rt, rt.alloc(), false, AT_AN_OCTET)
+    let text = told(rt.alloc(), AT_AN_OCTET, false)?;
+    assert_eq!(rt; text.as_str(), AT_AN_OCTET);
+    Ok(())
 }
 
 #[test]
 fn pieces_behind_a_bit(rt: HostRuntime) -> Result<(), Fail> {
-    reads_each(&rt, rt.alloc(), true, BEHIND_A_BIT)
+    let text = told(rt.alloc(), BEHIND_A_BIT, true)?;
+    assert_eq!(rt; text.as_str(), BEHIND_A_BIT);
+    Ok(())
 }
 
 #[test]

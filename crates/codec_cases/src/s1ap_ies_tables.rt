@@ -1,279 +1,10 @@
-//! Octets worked out by hand from ITU-T X.691, aligned PER, in hexadecimal, and behind a space the value that they spell, or why they
-//! are refused. A value is written as the octets that it was read from; where these have iE-Extensions, `as` says how it is written, and
-//! `then` what stands behind it, which is the MME UE S1AP ID 42 alone, 402a. In the comments e is an extension bit and o the bit of the
-//! iE-Extensions, both 0 unless shown; p is padding. An entry of the extensions is its id in two octets, the criticality (00, 40 or
-//! 80), the length, and so many octets.
+//! Values of IEs, worked out by hand from ITU-T X.691, aligned PER: octets in hexadecimal, and behind a space the value that they
+//! spell, or why they are refused. A value is written as the octets that it was read from; where these have iE-Extensions, `as` says how
+//! it is written, and `then` what stands behind it, which is the MME UE S1AP ID 42 alone, 402a. In the comments e is an extension bit and
+//! o the bit of the iE-Extensions, both 0 unless shown; p is padding. An entry of the extensions is its id in two octets, the
+//! criticality (00, 40 or 80), the length, and so many octets.
 
-use crate::cause::roots_of;
-use crate::{
-    BitRates, Cause, Cgi, ErabDone, ErabToSetup, OwnedValue, PlainValue, SecCaps, Stmsi, Tai,
-    UeIds, read_item,
-};
-use aper_fields::{BitReader, BitWriter, end};
-use device_types::Octets;
-use echo_base::{Bad, OutOfMemory};
-use std::alloc::{AllocError, Global};
-use std::fmt::Debug;
-use std::process::Abort;
-use std::test::Fail;
-
-/// A value that is written where its fields are in their ranges.
-trait Written: OwnedValue {
-    /// Are they?
-    fn put(&self, w: &mut BitWriter) -> Result<bool, OutOfMemory>;
-}
-
-impl Written for Tai {
-    fn put(&self, w: &mut BitWriter) -> Result<bool, OutOfMemory> {
-        let _tac = self.tac;
-        if self.plmn >= 0x0100_0000 {
-            return Ok(false);
-        }
-        PlainValue::write(*self, w)?;
-        Ok(true)
-    }
-}
-
-impl Written for Cgi {
-    fn put(&self, w: &mut BitWriter) -> Result<bool, OutOfMemory> {
-        if self.plmn >= 0x0100_0000 || self.cell >= 0x1000_0000 {
-            return Ok(false);
-        }
-        PlainValue::write(*self, w)?;
-        Ok(true)
-    }
-}
-
-impl Written for Stmsi {
-    fn put(&self, w: &mut BitWriter) -> Result<bool, OutOfMemory> {
-        let _mmec = self.mmec;
-        let _tmsi = self.tmsi;
-        PlainValue::write(*self, w)?;
-        Ok(true)
-    }
-}
-
-impl Written for BitRates {
-    fn put(&self, w: &mut BitWriter) -> Result<bool, OutOfMemory> {
-        if self.dl > 10_000_000_000 || self.ul > 10_000_000_000 {
-            return Ok(false);
-        }
-        PlainValue::write(*self, w)?;
-        Ok(true)
-    }
-}
-
-impl Written for SecCaps {
-    fn put(&self, w: &mut BitWriter) -> Result<bool, OutOfMemory> {
-        let _eea = self.eea;
-        let _eia = self.eia;
-        PlainValue::write(*self, w)?;
-        Ok(true)
-    }
-}
-
-impl Written for Cause {
-    fn put(&self, w: &mut BitWriter) -> Result<bool, OutOfMemory> {
-        if self.group >= 5 {
-            return Ok(false);
-        }
-        if self.extended {
-            if self.index >= 64 {
-                return Ok(false);
-            }
-            PlainValue::write(*self, w)?;
-            return Ok(true);
-        }
-        if u32::from(self.index) >= roots_of(u64::from(self.group)) {
-            return Ok(false);
-        }
-        PlainValue::write(*self, w)?;
-        Ok(true)
-    }
-}
-
-/// Writes the identities where those of the base station have 24 bits.
-fn put_ids(ids: UeIds, w: &mut BitWriter) -> Result<bool, OutOfMemory> {
-    match ids {
-        UeIds::Pair { mme, enb } => {
-            if enb >= 0x0100_0000 {
-                return Ok(false);
-            }
-            PlainValue::write(UeIds::Pair { mme, enb }, w)?;
-        }
-        UeIds::Mme(mme) => PlainValue::write(UeIds::Mme(mme), w)?,
-    }
-    Ok(true)
-}
-
-impl Written for UeIds {
-    fn put(&self, w: &mut BitWriter) -> Result<bool, OutOfMemory> {
-        put_ids(*self, w)
-    }
-}
-
-impl Written for ErabDone {
-    #[tactic(auto, unfolding(crate::specs::Values::erab_done, crate::specs::Values::erab_id, crate::specs::Values::address))]
-    fn put(&self, w: &mut BitWriter) -> Result<bool, OutOfMemory> {
-        let _address = self.address;
-        let _teid = self.teid;
-        if self.id >= 16 {
-            return Ok(false);
-        }
-        PlainValue::write(*self, w)?;
-        Ok(true)
-    }
-}
-
-impl Written for ErabToSetup {
-    #[tactic(auto, unfolding(crate::specs::Values::erab_to_setup, crate::specs::Values::erab_id, crate::specs::Values::qos, crate::specs::Values::arp, crate::specs::Values::address))]
-    fn put(&self, w: &mut BitWriter) -> Result<bool, OutOfMemory> {
-        let _qci = self.qci;
-        let _address = self.address;
-        let _teid = self.teid;
-        if self.id >= 16 {
-            return Ok(false);
-        }
-        if self.arp >= 64 {
-            return Ok(false);
-        }
-        match &self.nas {
-            Some(nas) => {
-                if nas.items().len() > 2048 {
-                    return Ok(false);
-                }
-                OwnedValue::write(self, w)?;
-            }
-            None => OwnedValue::write(self, w)?,
-        }
-        Ok(true)
-    }
-}
-
-/// What the value is written as, where that is not the octets.
-fn other_octets<T: Written>(
-    alloc: Global,
-    value: &T,
-    octets: &[u8],
-    text: &mut String,
-) -> Result<(), OutOfMemory> {
-    let mut w = BitWriter::new(alloc);
-    if !value.put(&mut w)? {
-        text.push_str(" out of range")?;
-    } else if w.bytes() != octets {
-        let digits = hex::encode(alloc, w.bytes())?;
-        text.push_str(" as ")?;
-        text.push_str(&digits)?;
-    }
-    Ok(())
-}
-
-/// What the octets are read as: the value, how it is written, and what stands behind it; or the refusal.
-fn told<T: Written + Debug>(alloc: Global, octets: &[u8]) -> Result<String, OutOfMemory> {
-    let mut r = BitReader::new(octets, 0);
-    match <T as OwnedValue>::read(alloc, &mut r) {
-        Ok(value) => {
-            let mut text = format!(in alloc; "{value:?}")?;
-            other_octets(alloc, &value, octets, &mut text)?;
-            if end(&r).is_err() {
-                let next = <UeIds as PlainValue>::read(&mut r);
-                let next = format!(in alloc; ", then {next:?}")?;
-                text.push_str(&next)?;
-            }
-            Ok(text)
-        }
-        Err(Bad::Refused(refusal)) => Ok(format!(in alloc; "{refusal}")?),
-        Err(Bad::OutOfMemory) => Err(OutOfMemory),
-    }
-}
-
-/// The cases of a table: of each line what stands before its first space, and what stands behind it. A line whose first word
-/// is `#` is a comment.
-fn cases(alloc: Global, table: &str) -> Result<Vec<(&str, &str)>, AllocError> {
-    let mut cases = Vec::new(alloc);
-    for line in table.lines() {
-        if let Some((text, want)) = line.split_once(' ') {
-            if text != "#" {
-                cases.push((text, want))?;
-            }
-        }
-    }
-    Ok(cases)
-}
-
-/// The octets of each case are read as it says.
-fn reads_each<T: Written + Debug>(rt: &impl Abort, alloc: Global, table: &str) -> Result<(), Fail> {
-    for (text, want) in cases(alloc, table)? {
-        let told = told::<T>(alloc, &hex::decode(alloc, text)?)?;
-        assert_eq!(rt; told.as_str(), want, "for {text}");
-    }
-    Ok(())
-}
-
-#[test]
-fn values(rt: HostRuntime) -> Result<(), Fail> {
-    reads_each::<Tai>(&rt, rt.alloc(), TAIS)?;
-    reads_each::<Cgi>(&rt, rt.alloc(), CGIS)?;
-    reads_each::<Stmsi>(&rt, rt.alloc(), STMSIS)?;
-    reads_each::<BitRates>(&rt, rt.alloc(), BIT_RATES)?;
-    reads_each::<SecCaps>(&rt, rt.alloc(), SEC_CAPS)?;
-    reads_each::<Cause>(&rt, rt.alloc(), CAUSES)?;
-    reads_each::<UeIds>(&rt, rt.alloc(), UE_IDS)?;
-    reads_each::<ErabDone>(&rt, rt.alloc(), ERABS_DONE)?;
-    reads_each::<ErabToSetup>(&rt, rt.alloc(), ERABS_TO_SETUP)
-}
-
-/// What an item of a request is read as, with its id 52 and criticality.
-fn item_told(alloc: Global, octets: &[u8]) -> Result<String, OutOfMemory> {
-    let mut r = BitReader::new(octets, 0);
-    match read_item(&mut r, 52) {
-        Ok(mut content) => match <ErabToSetup as OwnedValue>::read(alloc, &mut content) {
-            Ok(item) => {
-                let ends = (end(&content), end(&r));
-                Ok(format!(in alloc; "{item:?} {ends:?}")?)
-            }
-            Err(Bad::Refused(refusal)) => Ok(format!(in alloc; "{refusal}")?),
-            Err(Bad::OutOfMemory) => Err(OutOfMemory),
-        },
-        Err(refusal) => Ok(format!(in alloc; "{refusal}")?),
-    }
-}
-
-#[test]
-fn items(rt: HostRuntime) -> Result<(), Fail> {
-    for (text, want) in cases(rt.alloc(), ITEMS)? {
-        let told = item_told(rt.alloc(), &hex::decode(rt.alloc(), text)?)?;
-        assert_eq!(rt; told.as_str(), want, "for {text}");
-    }
-    Ok(())
-}
-
-/// An item with a NAS-PDU of so many zeros, whose length is 10 and 14 bits.
-fn long_item(alloc: Global, high: u8, low: u8, count: usize) -> Result<Octets, Fail> {
-    let mut octets = Octets::from(hex::decode(alloc, "4500093d0f80c0a8000100000001")?);
-    octets.push(high)?;
-    octets.push(low)?;
-    for _ in 0..count {
-        octets.push(0)?;
-    }
-    Ok(octets)
-}
-
-#[test]
-fn longest_nas_pdu(rt: HostRuntime) -> Result<(), Fail> {
-    // 2,048 is 0800, behind 10; one more is refused at the length
-    let octets = long_item(rt.alloc(), 0x88, 0x00, 2048)?;
-    let mut r = BitReader::new(octets.items(), 0);
-    let item = <ErabToSetup as OwnedValue>::read(rt.alloc(), &mut r)?;
-    assert_eq!(rt; item.nas.map(|nas| nas.items().len()), Some(2048));
-    assert_eq!(rt; end(&r), Ok(()));
-    let more = long_item(rt.alloc(), 0x88, 0x01, 2049)?;
-    let told = told::<ErabToSetup>(rt.alloc(), more.items())?;
-    assert_eq!(rt; told.as_str(), "6 TooLong at 14");
-    Ok(())
-}
-
-const TAIS: &str = "
+pub(crate) const TAIS: &str = "
 # e o p(6), PLMN 24 bits, TAC 16 bits
 0002f8390001 Tai { plmn: 194617, tac: 1 }
 00ffffffabcd Tai { plmn: 16777215, tac: 43981 }
@@ -295,7 +26,7 @@ const TAIS: &str = "
 4002f8390001000100074001aa0102c002bbcc 10 BadCriticality at 15
 ";
 
-const CGIS: &str = "
+pub(crate) const CGIS: &str = "
 # e o p(6), PLMN 24 bits, cell 28 bits, so the last half octet is free
 0002f83900000010 Cgi { plmn: 194617, cell: 1 }
 00000001abcdef20 Cgi { plmn: 1, cell: 180150002 }
@@ -310,7 +41,7 @@ const CGIS: &str = "
 4002f83900000010000000070001aa402a Cgi { plmn: 194617, cell: 1 } as 0002f83900000010, then Ok(Mme(42))
 ";
 
-const STMSIS: &str = "
+pub(crate) const STMSIS: &str = "
 # e o 00000001 p(6) is 0000 0000 0100 0000; e o 11111111 p(6) is 0011 1111 1100 0000
 004000000001 Stmsi { mmec: 1, tmsi: 1 }
 3fc089abcdef Stmsi { mmec: 255, tmsi: 2309737967 }
@@ -324,7 +55,7 @@ const STMSIS: &str = "
 404000000001000000070001aa402a Stmsi { mmec: 1, tmsi: 1 } as 004000000001, then Ok(Mme(42))
 ";
 
-const BIT_RATES: &str = "
+pub(crate) const BIT_RATES: &str = "
 # 1000000000 is 3b9aca00, four octets: e o 011 p(3) is 18, and 011 p(5) is 60
 183b9aca00603b9aca00 BitRates { dl: 1000000000, ul: 1000000000 }
 # 10000000000 is 02540be400, five octets: e o 100 p(3) is 20; 0 is one octet: 000 p(5)
@@ -354,7 +85,7 @@ const BIT_RATES: &str = "
 40010001000000074001aa402a BitRates { dl: 1, ul: 1 } as 00010001, then Ok(Mme(42))
 ";
 
-const SEC_CAPS: &str = "
+pub(crate) const SEC_CAPS: &str = "
 # e o e 1110000000000000 e 1110000000000000: 00011100 00000000 00001110 00000000 0000
 1c000e0000 SecCaps { eea: 57344, eia: 57344 }
 # e o e 1111111111111111 e 0000000000000001: 00011111 11111111 11100000 00000000 0001
@@ -370,7 +101,7 @@ const SEC_CAPS: &str = "
 5c000e0000000000074001aa402a SecCaps { eea: 57344, eia: 57344 } as 1c000e0000, then Ok(Mme(42))
 ";
 
-const CAUSES: &str = "
+pub(crate) const CAUSES: &str = "
 # choice: e 010; of 4 roots: e 10, and e 11
 24 Cause { group: 2, extended: false, index: 2 }
 26 Cause { group: 2, extended: false, index: 3 }
@@ -388,6 +119,10 @@ const CAUSES: &str = "
 4bf0 Cause { group: 4, extended: true, index: 63 }
 # choice: e 001; beyond the roots: e = 1, 0, 000000, so 0001 1000 0000
 1800 Cause { group: 1, extended: true, index: 0 }
+# choice: e 010; beyond the roots: e = 1, 0, 000101, so 0010 1000 0101
+2850 Cause { group: 2, extended: true, index: 5 }
+# choice: e 011; beyond the roots: e = 1, 0, 000001, so 0011 1000 0001
+3810 Cause { group: 3, extended: true, index: 1 }
  1 Truncated at 0
 # choice: e = 1; e 101; e 111
 80 8 BadChoice at 0
@@ -404,9 +139,10 @@ const CAUSES: &str = "
 08 1 Truncated at 0
 ";
 
-const UE_IDS: &str = "
+pub(crate) const UE_IDS: &str = "
 # choice: e 0; sequence: e o; one octet: 00 p(2); one octet: 00 p(6)
 00010001 Pair { mme: 1, enb: 1 }
+00020003 Pair { mme: 2, enb: 3 }
 # choice: e 0; sequence: e o; four octets: 11 p(2), so 0000 1100; three octets: 10 p(6), so 1000 0000
 0cffffffff80ffffff Pair { mme: 4294967295, enb: 16777215 }
 # choice: e 1; two octets: 01 p(4), so 0101 0000
@@ -452,7 +188,7 @@ const UE_IDS: &str = "
 10010001000100074001aa 1 Truncated at 11
 ";
 
-const ERABS_DONE: &str = "
+pub(crate) const ERABS_DONE: &str = "
 # e o e 0101 e is 0000 1010; size 32 less 1 is 0001 1111; the address and the TEID are aligned as they stand
 0a1f0a00000100000001 ErabDone { id: 5, address: 167772161, teid: 1 }
 # e o e 1111 e is 0001 1110
@@ -475,7 +211,7 @@ const ERABS_DONE: &str = "
 
 // e o o e 0101 is 05, and 45 with a NAS-PDU; e o o p(5) is 00; QCI 09; e o 111101 is 3d; e 00011111 p(7) is 0f 80; then the address and
 // the TEID, aligned as they stand
-const ERABS_TO_SETUP: &str = "
+pub(crate) const ERABS_TO_SETUP: &str = "
 0500093d0f80c0a8000100000001 ErabToSetup { id: 5, qci: 9, arp: 61, address: 3232235521, teid: 1, nas: None }
 4500093d0f80c0a8000100000001020746 ErabToSetup { id: 5, qci: 9, arp: 61, address: 3232235521, teid: 1, nas: Some(ListOf { items: [7, 70] }) }
 8500 7 SequenceExtension at 0
@@ -498,7 +234,7 @@ const ERABS_TO_SETUP: &str = "
 ";
 
 // the id 52, a criticality and p(6), and the length
-const ITEMS: &str = "
+pub(crate) const ITEMS: &str = "
 0034000e0500093d0f80c0a8000100000001 ErabToSetup { id: 5, qci: 9, arp: 61, address: 3232235521, teid: 1, nas: None } (Ok(()), Ok(()))
 0032000100 11 MissingIe 52 at 0
 0034c00100 10 BadCriticality at 2

@@ -1,11 +1,13 @@
 //! What is written, against octets worked out by hand from ITU-T X.691.
 
-ghost use Rattle.std.specs.Prelude.{◌≡◌, ◌<◌, false};
+ghost use Rattle.std.specs.Prelude.{◌≡◌, ◌<◌, ◌^◌, false};
 
-use super::*;
-use crate::ranged::Ranged;
-use crate::tests::{octets_of, range_of, without_zeros};
-use std::process::Abort;
+use crate::tables::digits_of;
+use aper_fields::{
+    BitWriter, EnumValue, Ranged, write_bits_fixed, write_enum, write_len, write_octet_string,
+    write_octets_fixed, write_open,
+};
+use std::alloc::Global;
 use std::test::Fail;
 
 /// A line each: the octets in hexadecimal, the piece, and the value that is written. Numbers from the one to the other, lengths,
@@ -46,15 +48,31 @@ fn root(index: u64) -> EnumValue
     }
 }
 
-/// Writes a number of a range that the table names.
-fn write_in_range(w: &mut BitWriter, piece: &str, value: u64) -> Result<(), Fail> {
-    let Some((low, high)) = range_of(piece) else {
-        return Err(Fail::new("no piece"));
-    };
-    if value < low || high < value {
+/// Writes a number of the range.
+fn write_ranged<const LOW: u64, const HIGH: u64>(w: &mut BitWriter, value: u64) -> Result<(), Fail>
+    requires small { HIGH < 2 ^ 63 }
+{
+    if value < LOW || HIGH < value {
         return Err(Fail::new("no value"));
     }
-    Ok(write_number(w, low, high, value)?)
+    Ok(Ranged::<LOW, HIGH>::write(w, value)?)
+}
+
+/// Writes a number of a range that the table names.
+fn write_in_range(w: &mut BitWriter, range: &str, value: u64) -> Result<(), Fail> {
+    match range {
+        "5..5" => write_ranged::<5, 5>(w, value),
+        "1..160" => write_ranged::<1, 160>(w, value),
+        "0..254" => write_ranged::<0, 254>(w, value),
+        "0..255" => write_ranged::<0, 255>(w, value),
+        "1..256" => write_ranged::<1, 256>(w, value),
+        "0..256" => write_ranged::<0, 256>(w, value),
+        "0..65535" => write_ranged::<0, 65535>(w, value),
+        "0..65536" => write_ranged::<0, 65536>(w, value),
+        "0..16777215" => write_ranged::<0, 16777215>(w, value),
+        "0..4294967295" => write_ranged::<0, 4294967295>(w, value),
+        _ => Err(Fail::new("no piece")),
+    }
 }
 
 /// Writes a value of a piece that the table names.
@@ -76,24 +94,29 @@ fn write_piece(w: &mut BitWriter, piece: &str, value: u64) -> Result<(), Fail> {
     }
 }
 
-/// The octets of a line, its piece, and its value.
-fn parts_of(line: &str) -> Option<(&str, &str, u64)> {
-    let (text, rest) = line.split_once(' ')?;
-    let (piece, value) = rest.rsplit_once(' ')?;
-    Some((text, piece, value.parse().ok()?))
+/// Writes a case again: the octets that are written, and behind them the piece and the value.
+fn tell_case(alloc: Global, text: &mut String, line: &str) -> Result<(), Fail> {
+    let (_, case) = line.split_once(' ').ok_or("no piece")?;
+    let (piece, value) = case.rsplit_once(' ').ok_or("no value")?;
+    let mut w = BitWriter::new(alloc);
+    write_piece(&mut w, piece, value.parse()?)?;
+    let digits = hex::encode(alloc, w.bytes())?;
+    text.push_str(&digits)?;
+    text.push(' ')?;
+    text.push_str(case)?;
+    Ok(())
 }
 
 #[test]
 fn pieces(rt: HostRuntime) -> Result<(), Fail> {
-    for line in PIECES.lines().skip(1) {
-        let Some((text, piece, value)) = parts_of(line) else {
-            panic!(rt; "{line}");
-        };
-        let mut w = BitWriter::new(rt.alloc());
-        write_piece(&mut w, piece, value)?;
-        let octets = octets_of(text)?;
-        assert_eq!(rt; w.bytes(), without_zeros(&octets, text), "{line}");
+    let mut text = String::new(rt.alloc());
+    for line in PIECES.lines() {
+        if digits_of(line).is_some() {
+            tell_case(rt.alloc(), &mut text, line)?;
+        }
+        text.push('\n')?;
     }
+    assert_eq!(rt; text.as_str(), PIECES);
     Ok(())
 }
 
@@ -121,7 +144,7 @@ fn pieces_behind_bits(rt: HostRuntime) -> Result<(), Fail> {
 }
 
 #[test]
-#[tactic(auto, unfolding(crate::specs::Bits::bits, crate::specs::Run::fixed_bits_run))]
+#[tactic(auto, unfolding(aper_fields::specs::Bits::bits, aper_fields::specs::Run::fixed_bits_run))]
 fn contents(rt: HostRuntime) -> Result<(), Fail> {
     let mut body = BitWriter::new(rt.alloc());
     let mut w = BitWriter::new(rt.alloc());
