@@ -220,6 +220,12 @@ fn read_whole(alloc: Global, r: &mut NasReader) -> Result<NasIn, Bad>
 /// for the first octet, and for that of the plain message in a protected one; NasKind, with the octet, for a message type
 /// that is none of the table's; NasIdentity for an identity that is neither an IMSI of 15 digits nor a GUTI. Only RES takes
 /// memory.
+///
+/// ```rust
+/// let message = read_nas(alloc, b"\x07\x5f\x17")?;
+/// assert_eq!(rt; message.message_type(), 0x5f);
+/// assert!(rt; matches!(message, NasIn::SecurityReject { cause: 23 }));
+/// ```
 pub fn read_nas(alloc: Global, octets: &[u8]) -> Result<NasIn, Bad>
     ensures reading { IsAnswerTaking IsResponse (nas_of octets.now) result }
     ensures read { Answers (NasSpells octets.now) (NasRefuses octets.now) (SpellsResponse octets.now) result }

@@ -6,9 +6,9 @@ use nas_kinds::read_nas;
 use std::alloc::{AllocError, Global};
 use std::test::Fail;
 
-/// Messages with nothing behind them.
+/// Messages, to which octets behind them make no difference.
 const MESSAGES: &str = "\
-07417108298039000000001002e0e000040201d011 41 AttachRequest { identity: Imsi(208930000000001), eea: 224, eia: 224, pti: 1 }\n\
+07417108298039000000001002e0c000040201d011 41 AttachRequest { identity: Imsi(208930000000001), eea: 224, eia: 192, pti: 1 }\n\
 07417108298039000000001003e0f0c000030207d0 41 AttachRequest { identity: Imsi(208930000000001), eea: 224, eia: 240, pti: 7 }\n\
 0741720bf602f8390001010000000703f070c000030205d0 41 AttachRequest { identity: Tmsi(7), eea: 240, eia: 112, pti: 5 }\n\
 074300035200c2 43 AttachComplete\n\
@@ -61,50 +61,87 @@ c8000000 16 NasDiscriminator\n\
 07417108298039000000001002e0f001030207d011 15 NasShort\n\
 ";
 
-/// What is read, as the tables write it.
-fn answer(alloc: Global, octets: &[u8]) -> Result<String, AllocError> {
+/// First octets whose security header type (9.3.1) is none that is read: reserved, or a message of its own.
+const HEADERS: &str = "\
+57 16 NasDiscriminator\n\
+67 16 NasDiscriminator\n\
+77 16 NasDiscriminator\n\
+87 16 NasDiscriminator\n\
+97 16 NasDiscriminator\n\
+a7 16 NasDiscriminator\n\
+b7 16 NasDiscriminator\n\
+d7 16 NasDiscriminator\n\
+e7 16 NasDiscriminator\n\
+f7 16 NasDiscriminator\n\
+";
+
+/// Writes what is read, as the tables have it.
+fn tell(alloc: Global, text: &mut String, octets: &[u8]) -> Result<(), AllocError> {
     match read_nas(alloc, octets) {
         Ok(message) => {
             let kind = message.message_type();
-            format!(in alloc; "{kind:x} {message:?}")
+            write!(text, "{kind:x} {message:?}\n")
         }
-        Err(Bad::Refused(refusal)) => format!(in alloc; "{refusal}"),
+        Err(Bad::Refused(refusal)) => write!(text, "{refusal}\n"),
         Err(Bad::OutOfMemory) => Err(AllocError),
     }
 }
 
-/// Each message is read with and without two octets behind it, and cut anywhere before its end it is short.
-#[test]
-fn reads_messages(rt: HostRuntime) -> Result<(), Fail> {
-    let alloc = rt.alloc();
-    for line in MESSAGES.lines() {
-        let (text, want) = line.split_once(' ').ok_or("no answer")?;
-        let mut octets = hex::decode(alloc, text)?;
-        assert_eq!(rt; answer(alloc, &octets)?.as_str(), want, "for {text}");
-        for n in 0..octets.len() {
-            assert_eq!(rt;
-                answer(alloc, &octets[..n])?.as_str(),
-                "15 NasShort",
-                "at {n} of {text}"
-            );
-        }
-        octets.extend_from_slice(&[0xff, 0x00])?;
-        assert_eq!(rt;
-            answer(alloc, &octets)?.as_str(),
-            want,
-            "for a longer {text}"
-        );
+/// The table, with what is read of each case, or of its octets with others behind them.
+fn told(alloc: Global, table: &str, behind: &[u8]) -> Result<String, Fail> {
+    let mut text = String::new(alloc);
+    for line in table.lines() {
+        let (digits, _) = line.split_once(' ').ok_or("no answer")?;
+        let mut octets = hex::decode(alloc, digits)?;
+        octets.extend_from_slice(behind)?;
+        text.push_str(digits)?;
+        text.push(' ')?;
+        tell(alloc, &mut text, &octets)?;
+    }
+    Ok(text)
+}
+
+/// Writes what is read of each beginning of the octets, and in the other text what is wanted.
+fn tell_cuts(
+    alloc: Global,
+    text: &mut String,
+    wanted: &mut String,
+    octets: &[u8],
+) -> Result<(), AllocError> {
+    for n in 0..octets.len() {
+        tell(alloc, text, &octets[..n])?;
+        wanted.push_str("15 NasShort\n")?;
     }
     Ok(())
 }
 
 #[test]
-fn refuses_what_is_no_message(rt: HostRuntime) -> Result<(), Fail> {
-    let alloc = rt.alloc();
-    for line in REFUSED.lines() {
-        let (text, want) = line.split_once(' ').ok_or("no answer")?;
-        let octets = hex::decode(alloc, text)?;
-        assert_eq!(rt; answer(alloc, &octets)?.as_str(), want, "for {text}");
+fn reads_messages(rt: HostRuntime) -> Result<(), Fail> {
+    assert_eq!(rt; told(rt.alloc(), MESSAGES, &[])?.as_str(), MESSAGES);
+    assert_eq!(rt;
+        told(rt.alloc(), MESSAGES, &[0xff, 0x00])?.as_str(),
+        MESSAGES
+    );
+    Ok(())
+}
+
+/// A message that is cut anywhere before its end is short.
+#[test]
+fn reads_no_beginnings(rt: HostRuntime) -> Result<(), Fail> {
+    let mut text = String::new(rt.alloc());
+    let mut wanted = String::new(rt.alloc());
+    for line in MESSAGES.lines() {
+        let (digits, _) = line.split_once(' ').ok_or("no answer")?;
+        let octets = hex::decode(rt.alloc(), digits)?;
+        tell_cuts(rt.alloc(), &mut text, &mut wanted, &octets)?;
     }
+    assert_eq!(rt; text.as_str(), wanted.as_str());
+    Ok(())
+}
+
+#[test]
+fn refuses_what_is_no_message(rt: HostRuntime) -> Result<(), Fail> {
+    assert_eq!(rt; told(rt.alloc(), REFUSED, &[])?.as_str(), REFUSED);
+    assert_eq!(rt; told(rt.alloc(), HEADERS, &[])?.as_str(), HEADERS);
     Ok(())
 }

@@ -6,56 +6,54 @@ use device_types::{NasOut, Octets};
 use echo_base::OutOfMemory;
 use nas_kinds::write_nas;
 use std::alloc::Global;
-use std::process::Abort;
 use std::test::Fail;
 
-/// The message is written as these octets.
-fn writes_as(
-    rt: &impl Abort,
-    alloc: Global,
-    message: &NasOut,
-    want: &[u8],
-) -> Result<(), OutOfMemory>
+/// Writes the octets of a message as a line of digits.
+fn tell(alloc: Global, text: &mut String, message: &NasOut) -> Result<(), OutOfMemory>
     requires { IsNasOut message.now }
 {
     let octets = write_nas(alloc, message)?;
-    assert_eq!(rt; octets.octets(), want);
-    Ok(())
+    let digits = hex::encode(alloc, octets.items())?;
+    text.push_str(&digits)?;
+    text.push('\n')
 }
+
+/// AUTHENTICATION REJECT; SECURITY MODE COMMAND; the rejects of an attach, a service and an update, with their causes; TRACKING AREA UPDATE
+/// ACCEPT; DETACH ACCEPT.
+const PLAIN: &str = "\
+0754
+075d000002e070
+07440b
+074e0a
+074b0c
+074900
+0746
+";
 
 #[test]
 fn writes(rt: HostRuntime) -> Result<(), OutOfMemory> {
     let alloc = rt.alloc();
+    let mut text = String::new(alloc);
     let command = NasOut::SecurityCommand {
         eea: 0xe0,
         eia: 0x70,
     };
-    writes_as(&rt, alloc, &NasOut::AuthReject, b"\x07\x54")?;
-    writes_as(&rt, alloc, &command, b"\x07\x5d\x00\x00\x02\xe0\x70")?;
-    writes_as(
-        &rt,
-        alloc,
-        &NasOut::AttachReject { cause: 12 },
-        b"\x07\x44\x0c",
-    )?;
-    writes_as(
-        &rt,
-        alloc,
-        &NasOut::ServiceReject { cause: 10 },
-        b"\x07\x4e\x0a",
-    )?;
-    writes_as(
-        &rt,
-        alloc,
-        &NasOut::AreaReject { cause: 12 },
-        b"\x07\x4b\x0c",
-    )?;
-    writes_as(&rt, alloc, &NasOut::AreaAccept, b"\x07\x49\x00")?;
-    writes_as(&rt, alloc, &NasOut::DetachAccept, b"\x07\x46")?;
+    tell(alloc, &mut text, &NasOut::AuthReject)?;
+    tell(alloc, &mut text, &command)?;
+    tell(alloc, &mut text, &NasOut::AttachReject { cause: 11 })?;
+    tell(alloc, &mut text, &NasOut::ServiceReject { cause: 10 })?;
+    tell(alloc, &mut text, &NasOut::AreaReject { cause: 12 })?;
+    tell(alloc, &mut text, &NasOut::AreaAccept)?;
+    tell(alloc, &mut text, &NasOut::DetachAccept)?;
+    assert_eq!(rt; text.as_str(), PLAIN);
     Ok(())
 }
 
-/// RAND 00 to 0f and AUTN 10 to 1f.
+/// AUTHENTICATION REQUEST with the RAND 00 to 0f, and the AUTN 10 to 1f behind its length.
+const CHALLENGE: &str = "\
+075200000102030405060708090a0b0c0d0e0f10101112131415161718191a1b1c1d1e1f
+";
+
 #[test]
 fn writes_a_challenge(rt: HostRuntime) -> Result<(), Fail> {
     let mut rand = Octets::new(rt.alloc());
@@ -67,26 +65,31 @@ fn writes_a_challenge(rt: HostRuntime) -> Result<(), Fail> {
     assert!(rt; rand.items().len() == 16);
     assert!(rt; autn.items().len() == 16);
     let request = NasOut::AuthRequest { rand, autn };
-    let want =
-        b"\x07\x52\x00\x00\x01\x02\x03\x04\x05\x06\x07\x08\x09\x0a\x0b\x0c\x0d\x0e\x0f\x10\x10\x11\x12\x13\x14\x15\x16\x17\x18\x19\x1a\x1b\x1c\x1d\x1e\x1f";
-    writes_as(&rt, rt.alloc(), &request, want)?;
+    let mut text = String::new(rt.alloc());
+    tell(rt.alloc(), &mut text, &request)?;
+    assert_eq!(rt; text.as_str(), CHALLENGE);
     Ok(())
 }
 
-/// PLMN 02f839, area 1, the access point `internet` and the address 10.45.0.1: 21 octets of ESM, 34 in all.
+/// ATTACH ACCEPT with the PLMN 02f839 and the area 0102; of its 21 octets of ESM, 34 in all, the procedure transaction identity 7, the access
+/// point `internet`, behind two lengths, and the address 10.45.0.1.
+const ACCEPT: &str = "\
+074201e0060002f839010200155207c101090908696e7465726e657405010a2d0001
+";
+
 #[test]
 fn writes_an_accept(rt: HostRuntime) -> Result<(), Fail> {
     let apn = Octets::from(b"internet".to_vec(rt.alloc())?);
     assert!(rt; apn.items().len() == 8);
     let accept = NasOut::AttachAccept {
         plmn: 0x02f839,
-        tac: 1,
-        pti: 1,
+        tac: 0x0102,
+        pti: 7,
         apn,
         ip: 0x0a2d_0001,
     };
-    let want =
-        b"\x07\x42\x01\xe0\x06\x00\x02\xf8\x39\x00\x01\x00\x15\x52\x01\xc1\x01\x09\x09\x08internet\x05\x01\x0a\x2d\x00\x01";
-    writes_as(&rt, rt.alloc(), &accept, want)?;
+    let mut text = String::new(rt.alloc());
+    tell(rt.alloc(), &mut text, &accept)?;
+    assert_eq!(rt; text.as_str(), ACCEPT);
     Ok(())
 }
