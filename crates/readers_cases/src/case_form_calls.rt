@@ -2,10 +2,9 @@
 
 use case_form::{Case, CaseBad, read_case};
 use std::alloc::{AllocError, Global};
-use std::process::Abort;
 use std::test::Fail;
 
-/// A row of the subscriber table.
+/// A row of the subscriber table, with M-TMSI 1.
 pub(crate) const ROW: &str =
     r#"{"imsi":"208930000000001","tmsi":1,"rand":"000102030405060708090a0b0c0d0e0f","autn":"101112131415161718191a1b1c1d1e1f","res":"a0a1a2a3a4a5a6a7","key":"1111111111111111111111111111111111111111111111111111111111111111","apn":"internet","ip":"0a2d0001","sgw":"c0a80001","teid":1,"ambr_dl":1000000000,"ambr_ul":1000000000,"forbidden":[9]}"#;
 
@@ -13,9 +12,9 @@ pub(crate) const ROW: &str =
 const OTHERS: &str =
     r#""rand":"000102030405060708090a0b0c0d0e0f","autn":"101112131415161718191a1b1c1d1e1f","res":"a0a1a2a3a4a5a6a7","key":"1111111111111111111111111111111111111111111111111111111111111111","apn":"internet","ip":"0a2d0001","sgw":"c0a80001","teid":1,"ambr_dl":0,"ambr_ul":0,"forbidden":[]}"#;
 
-/// Texts, with `|` for LF, `^` for CR and `@` for a row, and behind `=` what reading them gives.
-const TEXTS: &str = "\
-=good
+/// Texts, with `|` for LF, `^` for CR, `@` for a row and `&` for the columns of a row behind its identities, and behind `=` what
+/// reading them gives.
+const TEXTS: &str = r#"=good
 |=good
 ^||#=good
 # [no]|#^|=good
@@ -39,7 +38,10 @@ const TEXTS: &str = "\
 [subscribers]||{|x|=BadJson 3
 [subscribers]|{}|=MissingColumn(Imsi) 2
 [subscribers]|@|#|@=RepeatedImsi 4
-[schedule]|send 1 1|=BadLine 2";
+[subscribers]|@|{"imsi":"208930000000002","tmsi":1,&=RepeatedTmsi 3
+[subscribers]|@|{"imsi":"208930000000002","tmsi":2,&=good
+[subscribers]|{"imsi":208930000000002,"tmsi":2,&|x=BadColumn(Imsi) 2
+[schedule]|send 1 1|=BadLine 2"#;
 
 /// A text of a front, so many zeros and an end, and what reading it gives.
 const LONG_LINES: &str = "\
@@ -69,6 +71,7 @@ fn text_of(alloc: Global, written: &str) -> Result<String, AllocError> {
             '|' => text.push('\n')?,
             '^' => text.push('\r')?,
             '@' => text.push_str(ROW)?,
+            '&' => text.push_str(OTHERS)?,
             _ => text.push(c)?,
         }
     }
@@ -103,65 +106,87 @@ fn many_rows(alloc: Global, count: u32) -> Result<String, AllocError> {
     Ok(text)
 }
 
+/// A case with every kind of line and of event, as `text_of` reads it.
+const CASE: &str =
+    r#"# A case.^||[subscribers]|@^|#|{"imsi":"208930000000002","tmsi":2,&|[trace]|1 0g||65535 é^|[schedule]|send 1 7|take 4 2 8|answer 3 1 subscriber 8|answer 6 2 gateway 5|read 4|write 5|stop 16|reply 2 9|push 2 down 10|push 1 gateway 3|effect 2 gateway 11|effect 1 down 6|# end|settle 1 subscriber 4294967295|settle 2 gateway 13"#;
+
+/// What it says.
+const SAID: &str = "\
+1 208930000000001 1
+2 208930000000002 2
+[TraceLine { line: 8, station: 1, text: ListOf { items: [48, 103] } }, TraceLine { line: 10, station: 65535, text: ListOf { items: [195, 169] } }]
+[Send { d: DeviceId(1), n: 7 }, Take { r: 4, d: DeviceId(2), n: 8 }, Answer { r: 3, d: DeviceId(1), lane: Subscriber, k: 8 }, \
+Answer { r: 6, d: DeviceId(2), lane: Gateway, k: 5 }, Read { r: 4 }, Write { r: 5 }, Stop { r: 16 }, Reply { d: DeviceId(2), n: 9 }, \
+Push { d: DeviceId(2), lane: Down, k: 10 }, Push { d: DeviceId(1), lane: Gateway, k: 3 }, Effect { d: DeviceId(2), lane: Gateway, k: 11 }, \
+Effect { d: DeviceId(1), lane: Down, k: 6 }, Settle { d: DeviceId(1), lane: Subscriber, k: 4294967295 }, Settle { d: DeviceId(2), lane: Gateway, k: 13 }]
+";
+
+/// Tells what a case says: of each row its number and its identities, then the trace, then the schedule.
+fn tell_case(text: &mut String, case: &Case) -> Result<(), Fail> {
+    for row in case.table.rows() {
+        let (number, imsi, tmsi) = (row.number, row.imsi, row.tmsi);
+        writeln!(text, "{number} {imsi} {tmsi}")?;
+    }
+    let (trace, schedule) = (&case.trace, &case.schedule);
+    writeln!(text, "{trace:?}")?;
+    writeln!(text, "{schedule:?}")?;
+    Ok(())
+}
+
 #[test]
 fn reads_a_case(rt: HostRuntime) -> Result<(), Fail> {
-    let alloc = rt.alloc();
-    let text = text_of(
-        alloc,
-        "# A case.^||[subscribers]|@^|#|[trace]|1 0g||65535 é^|[schedule]|send 1 7|take 2 1 7|answer 3 1 subscriber 8|read 4|write 5|stop 16|reply 1 9|push 1 down 10|effect 1 gateway 11|# end|settle 1 subscriber 4294967295",
-    )?;
-    let Case {
-        table,
-        trace,
-        schedule,
-    } = read_case(alloc, text.as_bytes())?;
-    assert_eq!(rt; table.len(), 1);
-    let lines = format!(in alloc; "{trace:?}")?;
-    assert_eq!(rt;
-        lines.as_str(),
-        "[TraceLine { line: 7, station: 1, text: ListOf { items: [48, 103] } }, TraceLine { line: 9, station: 65535, text: ListOf { items: [195, 169] } }]"
-    );
-    let events = format!(in alloc; "{schedule:?}")?;
-    assert_eq!(rt;
-        events.as_str(),
-        "[Send { d: DeviceId(1), n: 7 }, Take { r: 2, d: DeviceId(1), n: 7 }, Answer { r: 3, d: DeviceId(1), lane: Subscriber, k: 8 }, Read { r: 4 }, Write { r: 5 }, Stop { r: 16 }, Reply { d: DeviceId(1), n: 9 }, Push { d: DeviceId(1), lane: Down, k: 10 }, Effect { d: DeviceId(1), lane: Gateway, k: 11 }, Settle { d: DeviceId(1), lane: Subscriber, k: 4294967295 }]"
-    );
+    let given = text_of(rt.alloc(), CASE)?;
+    let case = read_case(rt.alloc(), given.as_bytes())?;
+    let mut text = String::new(rt.alloc());
+    tell_case(&mut text, &case)?;
+    assert_eq!(rt; text.as_str(), SAID);
+    Ok(())
+}
+
+/// Tells each text again, with what reading it gives.
+fn tell_texts(alloc: Global, text: &mut String) -> Result<(), Fail> {
+    for line in TEXTS.lines() {
+        let (written, _) = line.split_once('=').ok_or("no answer")?;
+        let given = text_of(alloc, written)?;
+        let answer = answer(alloc, given.as_bytes())?;
+        writeln!(text, "{written}={answer}")?;
+    }
     Ok(())
 }
 
 #[test]
 fn reads_texts(rt: HostRuntime) -> Result<(), Fail> {
-    let alloc = rt.alloc();
-    for line in TEXTS.lines() {
-        let (written, want) = line.split_once('=').ok_or("no answer")?;
-        let text = text_of(alloc, written)?;
-        assert_eq!(rt;
-            answer(alloc, text.as_bytes())?.as_str(),
-            want,
-            "for {written}"
-        );
+    let mut text = String::new(rt.alloc());
+    tell_texts(rt.alloc(), &mut text)?;
+    assert_eq!(rt; text.as_str().trim_end(), TEXTS);
+    Ok(())
+}
+
+/// The text of a front, so many zeros and an end.
+fn long_text(alloc: Global, front: &str, count: u32, end: &str) -> Result<String, AllocError> {
+    let (front, end) = (text_of(alloc, front)?, text_of(alloc, end)?);
+    let long = repeated(alloc, &front, "0", count)?;
+    joined(alloc, &long, &end)
+}
+
+/// Tells each text of the table again, with what reading it gives.
+fn tell_long_lines(alloc: Global, text: &mut String) -> Result<(), Fail> {
+    for line in LONG_LINES.lines() {
+        let (front, rest) = line.split_once('=').ok_or("no count")?;
+        let (count, rest) = rest.split_once('=').ok_or("no end")?;
+        let (end, _) = rest.split_once('=').ok_or("no answer")?;
+        let given = long_text(alloc, front, count.parse()?, end)?;
+        let answer = answer(alloc, given.as_bytes())?;
+        writeln!(text, "{front}={count}={end}={answer}")?;
     }
     Ok(())
 }
 
 #[test]
 fn counts_the_octets_of_a_line(rt: HostRuntime) -> Result<(), Fail> {
-    let alloc = rt.alloc();
-    for line in LONG_LINES.lines() {
-        let (front, rest) = line.split_once('=').ok_or("no count")?;
-        let (count, rest) = rest.split_once('=').ok_or("no end")?;
-        let (end, want) = rest.split_once('=').ok_or("no answer")?;
-        let front = text_of(alloc, front)?;
-        let end = text_of(alloc, end)?;
-        let count: u32 = count.parse().unwrap_or(0);
-        let long = repeated(alloc, &front, "0", count)?;
-        let text = joined(alloc, &long, &end)?;
-        assert_eq!(rt;
-            answer(alloc, text.as_bytes())?.as_str(),
-            want,
-            "for {line}"
-        );
-    }
+    let mut text = String::new(rt.alloc());
+    tell_long_lines(rt.alloc(), &mut text)?;
+    assert_eq!(rt; text.as_str().trim_end(), LONG_LINES);
     Ok(())
 }
 
@@ -169,31 +194,32 @@ fn counts_the_octets_of_a_line(rt: HostRuntime) -> Result<(), Fail> {
 fn counts_the_rows(rt: HostRuntime) -> Result<(), Fail> {
     let alloc = rt.alloc();
     let most = many_rows(alloc, 4096)?;
-    assert_eq!(rt; read_case(alloc, most.as_bytes())?.table.len(), 4096);
+    let rows = read_case(alloc, most.as_bytes())?.table.len();
     let more = many_rows(alloc, 4097)?;
-    assert_eq!(rt; answer(alloc, more.as_bytes())?.as_str(), "TableFull 4098");
+    let bad = answer(alloc, more.as_bytes())?;
+    let text = format!(in alloc; "{rows} rows, {bad}")?;
+    assert_eq!(rt; text.as_str(), "4096 rows, TableFull 4098");
     Ok(())
 }
 
-/// A section with 100,000 lines of it takes no other one.
-fn is_full_of(rt: &impl Abort, alloc: Global, front: &str, line: &str) -> Result<(), Fail> {
+/// Tells what a section with 100,000 lines of it gives, and what the same with another line.
+fn tell_full(alloc: Global, text: &mut String, front: &str, line: &str) -> Result<(), Fail> {
     let most = repeated(alloc, front, line, 100_000)?;
-    assert_eq!(rt;
-        answer(alloc, most.as_bytes())?.as_str(),
-        "good",
-        "for {line}"
-    );
+    let good = answer(alloc, most.as_bytes())?;
     let more = joined(alloc, &most, "#\nx")?;
-    assert_eq!(rt;
-        answer(alloc, more.as_bytes())?.as_str(),
-        "TooManyLines 100004",
-        "for {line}"
-    );
+    let bad = answer(alloc, more.as_bytes())?;
+    writeln!(text, "{good}, {bad}")?;
     Ok(())
 }
 
 #[test]
 fn counts_the_lines_of_a_section(rt: HostRuntime) -> Result<(), Fail> {
-    is_full_of(&rt, rt.alloc(), "[trace]\n#\n", "1 00\n")?;
-    is_full_of(&rt, rt.alloc(), "\n[schedule]\n", "read 1\n")
+    let mut text = String::new(rt.alloc());
+    tell_full(rt.alloc(), &mut text, "[trace]\n#\n", "1 00\n")?;
+    tell_full(rt.alloc(), &mut text, "\n[schedule]\n", "read 1\n")?;
+    assert_eq!(rt;
+        text.as_str(),
+        "good, TooManyLines 100004\ngood, TooManyLines 100004\n"
+    );
+    Ok(())
 }

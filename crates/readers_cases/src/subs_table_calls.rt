@@ -1,24 +1,24 @@
 //! Lines of the subscriber table. What they give is worked out by hand from RFC 8259 and the kinds and ranges of the columns.
 
-use echo_base::Bad;
+use echo_base::{Bad, Reason};
 use std::alloc::{AllocError, Global};
 use std::test::Fail;
 use subs_table::read_row;
 
-/// The columns of a good line: key, name and value.
+/// The columns of a good line: key, name and value. No two of its numbers are the same.
 const GOOD: &str = r#"imsi Imsi "208930000000001"
-tmsi Tmsi 1
+tmsi Tmsi 305419896
 rand Rand "000102030405060708090a0b0c0d0e0f"
 autn Autn "101112131415161718191a1b1c1d1e1f"
 res Res "a0a1a2a3a4a5a6a7"
-key Key "1111111111111111111111111111111111111111111111111111111111111111"
+key Key "202122232425262728292a2b2c2d2e2f303132333435363738393a3b3c3d3e3f"
 apn Apn "internet"
 ip Ip "0a2d0001"
-sgw Sgw "c0a80001"
-teid Teid 1
-ambr_dl AmbrDl 1000000000
-ambr_ul AmbrUl 1000000000
-forbidden Forbidden [9]"#;
+sgw Sgw "c0a80002"
+teid Teid 1000
+ambr_dl AmbrDl 2000000000
+ambr_ul AmbrUl 300000000
+forbidden Forbidden [9,258]"#;
 
 /// Lines that are no object, one a line.
 const NO_OBJECTS: &str = r#"
@@ -40,8 +40,8 @@ true
 const OTHER_KINDS: &str =
     r#"null true {} -1 1.0 1e0 -0 -1.5 "" "A-z_" [null] [-1] [1.0] ["9"] [[9]] [65536] 18446744073709551616"#;
 
-/// The good line with another value of a column, and what reading it gives. `-` leaves the column out; a value may go on with
-/// columns, and the last value of a repeated key counts.
+/// The good line with another value of a column, and what reading it gives. `-` leaves the column out, and columns may stand
+/// behind it as behind any value; the last value of a repeated key counts.
 const CASES: &str = r#"imsi "000000000000000" good
 imsi "999999999999999" good
 imsi "20893000000001" BadColumn(Imsi)
@@ -60,6 +60,8 @@ rand "000102030405060708090a0b0c0d0e0f10" BadColumn(Rand)
 rand "000102030405060708090a0b0c0d0e0g" BadColumn(Rand)
 autn "101112131415161718191a1b1c1d1e" BadColumn(Autn)
 autn "101112131415161718191a1b1c1d1e1f20" BadColumn(Autn)
+autn "101112131415161718191A1B1C1D1E1F" good
+autn "101112131415161718191a1b1c1d1e1x" BadColumn(Autn)
 res "a0a1a2a3" good
 res "000102030405060708090a0b0c0d0e0f" good
 res "a0a1a2" BadColumn(Res)
@@ -67,6 +69,8 @@ res "a0a1a2a3a" BadColumn(Res)
 res "000102030405060708090a0b0c0d0e0f10" BadColumn(Res)
 key "11111111111111111111111111111111111111111111111111111111111111" BadColumn(Key)
 key "111111111111111111111111111111111111111111111111111111111111111111" BadColumn(Key)
+key "111111111111111111111111111111111111111111111111111111111111111A" good
+key "111111111111111111111111111111111111111111111111111111111111111x" BadColumn(Key)
 apn "a" good
 apn "abcdefghijklmnopqrstuvwxyz0189" good
 apn "abcdefghijklmnopqrstuvwxyz01890" BadColumn(Apn)
@@ -81,6 +85,7 @@ ip "0a2d000100" BadColumn(Ip)
 ip "+a2d0001" BadColumn(Ip)
 sgw "c0a800" BadColumn(Sgw)
 sgw "c0a8000100" BadColumn(Sgw)
+sgw "c0a8000g" BadColumn(Sgw)
 teid 1 good
 teid 4000000000 good
 teid 0 BadColumn(Teid)
@@ -110,15 +115,22 @@ teid - MissingColumn(Teid)
 ambr_dl - MissingColumn(AmbrDl)
 ambr_ul - MissingColumn(AmbrUl)
 forbidden - MissingColumn(Forbidden)
+forbidden -,"imsi":1 MissingColumn(Forbidden)
+tmsi -,"imsi":1 MissingColumn(Tmsi)
+imsi -,"forbidden":0 MissingColumn(Imsi)
 teid 0,"tmsi":-1 BadColumn(Tmsi)
 forbidden 9,"ambr_ul":null BadColumn(AmbrUl)
 imsi 1,"forbidden":[null] BadColumn(Imsi)
 key "","res":"" BadColumn(Res)"#;
 
-/// Adds a column to a line, or leaves it out where its value is `-`.
+/// Adds a column to a line, or what stands behind `-,` in its place, or nothing where its value is `-`.
 fn push_column(line: &mut String, key: &str, value: &str) -> Result<(), AllocError> {
     if value == "-" {
         return Ok(());
+    }
+    if let Some(others) = value.strip_prefix("-,") {
+        line.push_str(others)?;
+        return line.push_str(",");
     }
     line.push_str("\"")?;
     line.push_str(key)?;
@@ -143,27 +155,107 @@ pub(crate) fn line_with(alloc: Global, key: &str, value: &str) -> Result<String,
     Ok(line)
 }
 
-/// What reading a line gives, as the tables write it.
-fn answer(alloc: Global, line: &[u8]) -> Result<String, AllocError> {
+/// Writes what reading a line gives, as the tables write it.
+fn tell(alloc: Global, text: &mut String, line: &[u8]) -> Result<(), AllocError> {
     match read_row(alloc, line, 1) {
-        Ok(_) => String::from_str(alloc, "good"),
-        Err(Bad::Refused(refusal)) => {
-            let reason = refusal.reason;
-            format!(in alloc; "{reason:?}")
-        }
+        Ok(_) => text.push_str("good\n"),
+        Err(Bad::Refused(refusal)) => tell_reason(alloc, text, &refusal.reason),
         Err(Bad::OutOfMemory) => Err(AllocError),
     }
 }
 
+/// Writes a reason.
+fn tell_reason(alloc: Global, text: &mut String, reason: &Reason) -> Result<(), AllocError> {
+    let told = format!(in alloc; "{reason:?}\n")?;
+    text.push_str(told.as_str())
+}
+
+/// Writes a case, and what reading its line gives.
+fn tell_case(alloc: Global, text: &mut String, key: &str, value: &str) -> Result<(), Fail> {
+    text.push_str(key)?;
+    text.push_str(" ")?;
+    text.push_str(value)?;
+    text.push_str(" ")?;
+    let line = line_with(alloc, key, value)?;
+    tell(alloc, text, line.as_bytes())?;
+    Ok(())
+}
+
+/// Writes each case of the table again, with what its line gives.
+fn tell_cases(alloc: Global, text: &mut String) -> Result<(), Fail> {
+    for case in CASES.lines() {
+        let (key, rest) = case.split_once(' ').ok_or("no key")?;
+        let (value, _) = rest.split_once(' ').ok_or("no value")?;
+        tell_case(alloc, text, key, value)?;
+    }
+    Ok(())
+}
+
+/// Writes, for a column and each value that no column takes, what its line gives.
+fn tell_kinds(alloc: Global, text: &mut String, key: &str) -> Result<(), Fail> {
+    for value in OTHER_KINDS.split(' ') {
+        tell_case(alloc, text, key, value)?;
+    }
+    Ok(())
+}
+
+/// Writes what is wanted there.
+fn tell_wanted(text: &mut String, key: &str, name: &str) -> Result<(), AllocError> {
+    for value in OTHER_KINDS.split(' ') {
+        text.push_str(key)?;
+        text.push_str(" ")?;
+        text.push_str(value)?;
+        text.push_str(" BadColumn(")?;
+        text.push_str(name)?;
+        text.push_str(")\n")?;
+    }
+    Ok(())
+}
+
+/// Writes for each column what is told of it and, in the other text, what is wanted.
+fn tell_columns(alloc: Global, text: &mut String, wanted: &mut String) -> Result<(), Fail> {
+    for column in GOOD.lines() {
+        let (key, rest) = column.split_once(' ').ok_or("no key")?;
+        let (name, _) = rest.split_once(' ').ok_or("no name")?;
+        tell_kinds(alloc, text, key)?;
+        tell_wanted(wanted, key, name)?;
+    }
+    Ok(())
+}
+
+/// Writes what an object gives that has so many arrays in one another.
+fn tell_nested(alloc: Global, text: &mut String, arrays: usize) -> Result<(), Fail> {
+    let (front, back) = ("[".repeat(alloc, arrays)?, "]".repeat(alloc, arrays)?);
+    let line = format!(in alloc; "{{\"a\":{front}{back}}}")?;
+    tell(alloc, text, line.as_bytes())?;
+    Ok(())
+}
+
+/// Writes what each line gives that is no object, or too deep, and what two objects give.
+fn tell_no_objects(alloc: Global, text: &mut String) -> Result<(), Fail> {
+    for line in NO_OBJECTS.lines() {
+        tell(alloc, text, line.as_bytes())?;
+    }
+    let deep = "[".repeat(alloc, 200)?;
+    let deep = format!(in alloc; "{{\"a\":{deep}")?;
+    tell(alloc, text, deep.as_bytes())?;
+    tell_nested(alloc, text, 127)?;
+    tell(alloc, text, b"{\"a\":\"\xff\"}")?;
+    tell(alloc, text, b"\xef\xbb\xbf{}")?;
+    tell(alloc, text, b" \t{ \"\\u0069msi\" : 1 } \r")?;
+    tell_nested(alloc, text, 126)?;
+    Ok(())
+}
+
 /// The row of the good line.
-const ROW: &str = "Subscriber { number: 7, imsi: 208930000000001, tmsi: 1, \
+const ROW: &str = "Subscriber { number: 7, imsi: 208930000000001, tmsi: 305419896, \
 rand: ListOf { items: [0, 1, 2, 3, 4, 5, 6, 7, 8, 9, 10, 11, 12, 13, 14, 15] }, \
 autn: ListOf { items: [16, 17, 18, 19, 20, 21, 22, 23, 24, 25, 26, 27, 28, 29, 30, 31] }, \
 res: ListOf { items: [160, 161, 162, 163, 164, 165, 166, 167] }, \
-key: ListOf { items: [17, 17, 17, 17, 17, 17, 17, 17, 17, 17, 17, 17, 17, 17, 17, 17, \
-17, 17, 17, 17, 17, 17, 17, 17, 17, 17, 17, 17, 17, 17, 17, 17] }, \
-apn: ListOf { items: [105, 110, 116, 101, 114, 110, 101, 116] }, ip: 170721281, sgw: 3232235521, teid: 1, \
-ambr_dl: 1000000000, ambr_ul: 1000000000, forbidden: ListOf { items: [9] } }";
+key: ListOf { items: [32, 33, 34, 35, 36, 37, 38, 39, 40, 41, 42, 43, 44, 45, 46, 47, \
+48, 49, 50, 51, 52, 53, 54, 55, 56, 57, 58, 59, 60, 61, 62, 63] }, \
+apn: ListOf { items: [105, 110, 116, 101, 114, 110, 101, 116] }, ip: 170721281, sgw: 3232235522, teid: 1000, \
+ambr_dl: 2000000000, ambr_ul: 300000000, forbidden: ListOf { items: [9, 258] } }";
 
 #[test]
 fn reads_every_column(rt: HostRuntime) -> Result<(), Fail> {
@@ -177,55 +269,27 @@ fn reads_every_column(rt: HostRuntime) -> Result<(), Fail> {
 
 #[test]
 fn reads_columns(rt: HostRuntime) -> Result<(), Fail> {
-    let alloc = rt.alloc();
-    for case in CASES.lines() {
-        let (key, rest) = case.split_once(' ').ok_or("no key")?;
-        let (value, want) = rest.split_once(' ').ok_or("no value")?;
-        let line = line_with(alloc, key, value)?;
-        assert_eq!(rt;
-            answer(alloc, line.as_bytes())?.as_str(),
-            want,
-            "for {case}"
-        );
-    }
+    let mut text = String::new(rt.alloc());
+    tell_cases(rt.alloc(), &mut text)?;
+    assert_eq!(rt; text.as_str().trim_end(), CASES);
     Ok(())
 }
 
 #[test]
 fn refuses_every_other_kind(rt: HostRuntime) -> Result<(), Fail> {
-    let alloc = rt.alloc();
-    for column in GOOD.lines() {
-        let (key, rest) = column.split_once(' ').ok_or("no key")?;
-        let (name, _) = rest.split_once(' ').ok_or("no name")?;
-        let want = format!(in alloc; "BadColumn({name})")?;
-        for value in OTHER_KINDS.split(' ') {
-            let line = line_with(alloc, key, value)?;
-            assert_eq!(rt;
-                answer(alloc, line.as_bytes())?.as_str(),
-                want.as_str(),
-                "for {key} {value}"
-            );
-        }
-    }
+    let mut text = String::new(rt.alloc());
+    let mut wanted = String::new(rt.alloc());
+    tell_columns(rt.alloc(), &mut text, &mut wanted)?;
+    assert_eq!(rt; text.as_str(), wanted.as_str());
     Ok(())
 }
 
 #[test]
 fn refuses_what_is_no_object(rt: HostRuntime) -> Result<(), Fail> {
-    let alloc = rt.alloc();
-    for line in NO_OBJECTS.lines() {
-        assert_eq!(rt;
-            answer(alloc, line.as_bytes())?.as_str(),
-            "BadJson",
-            "for {line}"
-        );
-    }
-    let deep = "[".repeat(alloc, 200)?;
-    let deep = format!(in alloc; "{{\"a\":{deep}")?;
-    assert_eq!(rt; answer(alloc, deep.as_bytes())?.as_str(), "BadJson");
-    assert_eq!(rt; answer(alloc, b"{\"a\":\"\xff\"}")?.as_str(), "BadJson");
-    assert_eq!(rt; answer(alloc, b"\xef\xbb\xbf{}")?.as_str(), "BadJson");
-    let spaced = b" \t{ \"\\u0069msi\" : 1 } \r";
-    assert_eq!(rt; answer(alloc, spaced)?.as_str(), "MissingColumn(Tmsi)");
+    let mut text = String::new(rt.alloc());
+    tell_no_objects(rt.alloc(), &mut text)?;
+    let mut wanted = "BadJson\n".repeat(rt.alloc(), 18)?;
+    wanted.push_str("MissingColumn(Tmsi)\nMissingColumn(Imsi)\n")?;
+    assert_eq!(rt; text.as_str(), wanted.as_str());
     Ok(())
 }

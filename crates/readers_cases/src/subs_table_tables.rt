@@ -5,7 +5,6 @@ ghost use Rattle.device_types.specs.Subscriber.{IsSubscriber};
 use crate::subs_table_calls::line_with;
 use device_types::{DeviceId, Subscriber};
 use std::alloc::Global;
-use std::process::Abort;
 use std::test::Fail;
 use subs_table::{SubsTable, read_row};
 
@@ -29,42 +28,66 @@ fn row_with(alloc: Global, number: u32, imsi: &str, tmsi: &str) -> Result<Subscr
     Ok(row)
 }
 
-/// Adds the rows of a table of cases.
-fn add_each(
-    rt: &impl Abort,
+/// Adds a row, and writes the answer.
+fn tell_answer(
     alloc: Global,
     table: &mut SubsTable,
-    cases: &str,
+    text: &mut String,
+    imsi: &str,
+    tmsi: &str,
 ) -> Result<(), Fail> {
-    for case in cases.lines() {
+    let row = row_with(alloc, table.len() + 1, imsi, tmsi)?;
+    let answer = table.add(row);
+    let told = format!(in alloc; "{imsi} {tmsi} {answer:?}\n")?;
+    text.push_str(told.as_str())?;
+    Ok(())
+}
+
+/// Adds the rows of the table of cases, and writes each again with its answer.
+fn tell_rows(alloc: Global, table: &mut SubsTable, text: &mut String) -> Result<(), Fail> {
+    for case in ROWS.lines() {
         let (imsi, rest) = case.split_once(' ').ok_or("no IMSI")?;
-        let (tmsi, want) = rest.split_once(' ').ok_or("no M-TMSI")?;
-        let number = table.len() + 1;
-        let row = row_with(alloc, number, imsi, tmsi)?;
-        let answer = table.add(row);
-        assert_eq!(rt;
-            format!(in alloc; "{answer:?}")?.as_str(),
-            want,
-            "for {case}"
-        );
+        let (tmsi, _) = rest.split_once(' ').ok_or("no M-TMSI")?;
+        tell_answer(alloc, table, text, imsi, tmsi)?;
     }
     Ok(())
 }
+
+/// Writes what look-ups give.
+fn tell_found(alloc: Global, table: &SubsTable, text: &mut String) -> Result<(), Fail> {
+    if table.len() < 3 {
+        return Err("fewer rows".into());
+    }
+    let imsi = table.row(DeviceId(3)).imsi;
+    let (rows, len) = (table.rows().len(), table.len());
+    let (first, second) = (table.by_imsi(208930000000002), table.by_imsi(2));
+    let (third, fourth) = (table.by_tmsi(0), table.by_tmsi(2));
+    let told = format!(in alloc; "{len} {rows} {imsi} {first:?} {second:?} {third:?} {fourth:?}")?;
+    text.push_str(told.as_str())?;
+    Ok(())
+}
+
+/// Writes the devices in the order of their IMSIs.
+fn tell_order(alloc: Global, table: &SubsTable, text: &mut String) -> Result<(), Fail> {
+    let order = table.in_imsi_order(alloc)?;
+    let told = format!(in alloc; " {order:?}")?;
+    text.push_str(told.as_str())?;
+    Ok(())
+}
+
+/// What look-ups give, and the order.
+const FOUND: &str =
+    "3 3 1 Some(DeviceId(2)) None Some(DeviceId(3)) None [DeviceId(3), DeviceId(1), DeviceId(2)]";
 
 #[test]
 fn finds_what_was_added(rt: HostRuntime) -> Result<(), Fail> {
     let alloc = rt.alloc();
     let mut table = SubsTable::new(alloc);
-    add_each(&rt, alloc, &mut table, ROWS)?;
-    assert_eq!(rt; table.len(), 3);
-    assert_eq!(rt; table.rows().len(), 3);
-    assert_eq!(rt; table.row(DeviceId(3)).imsi, 1);
-    assert_eq!(rt; table.by_imsi(208930000000002), Some(DeviceId(2)));
-    assert_eq!(rt; table.by_imsi(2), None);
-    assert_eq!(rt; table.by_tmsi(0), Some(DeviceId(3)));
-    assert_eq!(rt; table.by_tmsi(2), None);
-    let order = table.in_imsi_order(alloc)?;
-    let order = format!(in alloc; "{order:?}")?;
-    assert_eq!(rt; order.as_str(), "[DeviceId(3), DeviceId(1), DeviceId(2)]");
+    let mut text = String::new(alloc);
+    tell_rows(alloc, &mut table, &mut text)?;
+    tell_found(alloc, &table, &mut text)?;
+    tell_order(alloc, &table, &mut text)?;
+    let wanted = format!(in alloc; "{ROWS}\n{FOUND}")?;
+    assert_eq!(rt; text.as_str(), wanted.as_str());
     Ok(())
 }

@@ -44,10 +44,9 @@ all_columns row = option_map_or (λ column. Err (refused (MissingColumn column))
 unfoldable pub column_at : {A : Type 0} → Column → Kind A → Data → Result A Refusal
 column_at column kind row = option_map_or Ok (option_and_then kind (get (key_of column) row)) (Err (refused (BadColumn column)))
 
--- the row of that number: a line for each column, with its kind and range
-unfoldable pub subscriber_at : ℕ → Data → Result Subscriber Refusal
-subscriber_at number row = do
-  all ← all_columns row
+-- the row of that number: a line for each column, with its kind and range; the first that is bad is told
+unfoldable pub each_column : ℕ → Data → Result Subscriber Refusal
+each_column number row = do
   imsi ← column_at Imsi (decimal 15) row
   tmsi ← column_at Tmsi (whole 0 4294967295) row
   rand ← column_at Rand (hexadecimal 16 16) row
@@ -62,6 +61,12 @@ subscriber_at number row = do
   ambr_ul ← column_at AmbrUl (whole 0 10000000000) row
   forbidden ← column_at Forbidden (wholes 16 65535) row
   Ok (record { number = number; imsi = imsi; tmsi = tmsi; rand = rand; autn = autn; res = res; key = key; apn = apn; ip = ip; sgw = sgw; teid = teid; ambr_dl = ambr_dl; ambr_ul = ambr_ul; forbidden = forbidden })
+
+-- a column that is missing is told before one that is bad
+unfoldable pub subscriber_at : ℕ → Data → Result Subscriber Refusal
+subscriber_at number row = do
+  all ← all_columns row
+  each_column number row
 
 -- ---- reading a line
 

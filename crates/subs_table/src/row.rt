@@ -4,7 +4,7 @@ ghost use Rattle.serde_json.specs.View.{view};
 ghost use Rattle.echo_base.specs.declared.reason.Reason.TheVariants.{BadJson};
 ghost use Rattle.echo_base.specs.Answer.{refused, Answers, IsAnswer};
 ghost use Rattle.device_types.specs.Subscriber.{IsSubscriber};
-ghost use Rattle.subs_table.specs.Row.{object_of, subscriber_at, row_of};
+ghost use Rattle.subs_table.specs.Row.{object_of, each_column, subscriber_at, row_of};
 
 use crate::columns::{
     need_columns, read_address, read_areas, read_imsi, read_name, read_octets, read_whole,
@@ -36,14 +36,13 @@ fn read_object(alloc: Global, line: &[u8]) -> Result<Value, Bad>
     Ok(value)
 }
 
-/// Reads the columns of an object.
-#[tactic(auto, unfolding(crate::specs::Row::subscriber_at))]
-fn read_columns(alloc: Global, row: &Value, number: u32) -> Result<Subscriber, Bad>
-    ensures row { IsAnswer (subscriber_at number (view row.now)) result }
+/// Reads each column of an object in turn.
+#[tactic(auto, unfolding(crate::specs::Row::each_column))]
+fn read_each_column(alloc: Global, row: &Value, number: u32) -> Result<Subscriber, Bad>
+    ensures row { IsAnswer (each_column number (view row.now)) result }
     ensures range { IfOk result IsSubscriber }
     ensures numbered { IfOk result (λ row. row.number ≡ number) }
 {
-    need_columns(row)?;
     let imsi = read_imsi(row, Column::Imsi)?;
     let tmsi = read_whole(row, Column::Tmsi, 0, 4_294_967_295)?;
     let rand = read_octets(alloc, row, Column::Rand, 16, 16)?;
@@ -73,6 +72,17 @@ fn read_columns(alloc: Global, row: &Value, number: u32) -> Result<Subscriber, B
         ambr_ul,
         forbidden,
     })
+}
+
+/// Reads the columns of an object. One that is missing is told before one that is bad.
+#[tactic(auto, unfolding(crate::specs::Row::subscriber_at))]
+fn read_columns(alloc: Global, row: &Value, number: u32) -> Result<Subscriber, Bad>
+    ensures row { IsAnswer (subscriber_at number (view row.now)) result }
+    ensures range { IfOk result IsSubscriber }
+    ensures numbered { IfOk result (λ row. row.number ≡ number) }
+{
+    need_columns(row)?;
+    read_each_column(alloc, row, number)
 }
 
 /// Reads a line of the table as the row of that number, from 1. A line that is not UTF-8, no JSON or no object is
