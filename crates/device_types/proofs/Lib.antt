@@ -3,6 +3,7 @@ pub mod Apart
 pub mod Calls
 pub mod Connecting
 pub mod Courses
+pub mod Elsewhere
 pub mod Few
 pub mod Joined
 pub mod Journals
@@ -10,4 +11,5 @@ pub mod Keeping
 pub mod Members
 pub mod Peers
 pub mod Prefixes
+pub mod Tests
 pub mod Worked

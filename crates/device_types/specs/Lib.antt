@@ -23,5 +23,6 @@ pub mod Ready
 pub mod Rule
 pub mod Service
 pub mod Session
+pub mod StepLaws
 pub mod StepTable
 pub mod Subscriber

@@ -44,7 +44,8 @@ pub use no_room::NoRoom;
 pub use session::{Bearer, Link, Session, Stage};
 pub use step::{Entry, Reply, Step};
 pub use step_laws::{
-    answers_in_range, one_row_fits, step_awaits_one, step_can_be_written, step_keeps_connection,
+    answers_in_range, elsewhere_fits_no_row, listed_areas_are_forbidden, one_row_fits,
+    settled_awaits_nothing, step_awaits_one, step_can_be_written, step_keeps_connection,
     step_keeps_ranges, step_makes_few, step_of_row,
 };
 pub use subscriber::{DeviceId, Subscriber};

@@ -1,5 +1,6 @@
 //! Laws of the step table, as clauses of functions that do nothing.
-ghost use Rattle.std.specs.Prelude.{◌≡◌, ◌≤◌, ◌<◌, ℕ, [], length, filter, All};
+ghost use Rattle.std.specs.Prelude.{◌≡◌, ◌↔◌, ◌≤◌, ◌<◌, ℕ, true, false, [], length, filter, All};
+ghost use Rattle.device_types.specs.declared.input.Input.TheVariants as inputs;
 ghost use Rattle.device_types.specs.Acts.{made};
 ghost use Rattle.device_types.specs.Answer.{IsAnswer};
 ghost use Rattle.device_types.specs.Awaited.{awaited_by};
@@ -8,12 +9,15 @@ ghost use Rattle.device_types.specs.Effect.{IsWritable, IsSent, IsConnected};
 ghost use Rattle.device_types.specs.Input.{IsInput};
 ghost use Rattle.device_types.specs.Journal.{is_awaited};
 ghost use Rattle.device_types.specs.PeerAnswer.{answer_of};
+ghost use Rattle.device_types.specs.Rule.{forbidden, settled};
 ghost use Rattle.device_types.specs.Session.{IsSession};
+ghost use Rattle.device_types.specs.StepLaws.{comes, IsElsewhere, IsListed};
 ghost use Rattle.device_types.specs.StepTable.{fit_count, step_of, step_table, Follows};
 ghost use Rattle.device_types.specs.Subscriber.{IsSubscriber};
 
 use crate::effect::Effects;
 use crate::input::Input;
+use crate::message::Message;
 use crate::session::Session;
 use crate::step::Step;
 use crate::subscriber::Subscriber;
@@ -31,6 +35,28 @@ pub fn step_of_row(_row: &Subscriber, _session: &Session, _input: &Input, _step:
         → step_of _row.now _session.now _input.now ≡ _step.now }
     ensures none { fit_count _row.now _session.now _input.now ≡ 0
         → step_of _row.now _session.now _input.now ≡ made _session.now [] }
+{}
+
+/// A message that did not come on the session's S1 connection fits no row, but for those with which a device comes: an attach, a
+/// service request, and a tracking area update or a detach that is the first message of its connection.
+pub fn elsewhere_fits_no_row(_row: &Subscriber, _session: &Session, _message: &Message)
+    requires elsewhere { IsElsewhere _session.now _message.now }
+    requires later { comes _message.now.body ≡ false }
+    ensures { fit_count _row.now _session.now (inputs.Message _message.now) ≡ 0 }
+{}
+
+/// An area is forbidden exactly where it is in the subscriber's list.
+pub fn listed_areas_are_forbidden(_row: &Subscriber)
+    ensures { (area : ℕ) → (forbidden _row.now area ≡ true) ↔ IsListed area _row.now.forbidden }
+{}
+
+/// A session is settled exactly where it awaits no answer; so is the next one where the step makes no call whose answer is awaited.
+#[tactic(auto, using(crate::proofs::Tests::settled_awaits_none, crate::proofs::Tests::settled_by_step))]
+pub fn settled_awaits_nothing(_row: &Subscriber, _session: &Session, _input: &Input)
+    ensures stage { (settled _session.now ≡ true) ↔ (awaited_by _session.now ≡ []) }
+    ensures step { 1 ≤ fit_count _row.now _session.now _input.now
+        → (settled (step_of _row.now _session.now _input.now).session ≡ true)
+        ↔ (filter is_awaited (step_of _row.now _session.now _input.now).effects ≡ []) }
 {}
 
 /// The session stays in its ranges.
