@@ -42,11 +42,10 @@ def say(tool: str, line: str) -> None:
     print(f"{tool}: {line}", file=sys.stderr, flush=True)
 
 
-def run_tool(tool: str, work: Callable[[], None]) -> int:
-    """The exit status of the work: 0, or 2 where it was refused, which one line on standard error tells."""
+def run_tool(tool: str, work: Callable[[], Optional[int]]) -> int:
+    """The exit status of the work: what it gives, if not 0, or 2 where it was refused, which one line on standard error tells."""
     try:
-        work()
-        return 0
+        return work() or 0
     except BadInput as refusal:
         say(tool, str(refusal))
     except OSError as fault:

@@ -22,7 +22,7 @@ EXAMPLES = TOOLS.parent / "examples"
 PLAIN = ["plain_1", "plain_2", "plain_3"]
 REPLAYS = ["replay_1", "replay_2", "replay_3"]
 
-HOW_FAR = re.compile(r"[a-z0-9]+: [0-9]+( of [0-9]+)? (messages of each device|frames|frames with S1AP)")
+HOW_FAR = re.compile(r"[a-z0-9]+: [0-9]+( of [0-9]+)? (messages of each device|frames|frames with SCTP)")
 
 
 def needs(*commands: str) -> Callable[[type], type]:

@@ -30,11 +30,11 @@ def is_from_station(line: str) -> bool:
 
 
 def packet_of_chunks(source: str, chunks: List[Tuple[int, int, int, bytes]]) -> bytes:
-    """A packet with these DATA chunks, each with its flags, its TSN, its payload identifier and its octets."""
+    """A packet with these DATA chunks, each with its flags, its TSN, its payload identifier and its octets, of the one association of its source."""
     body = b""
     for flags, number, payload, octets in chunks:
         body += struct.pack(">BBHIHHI", 0, flags, 16 + len(octets), number, 0, 0, payload) + octets + bytes(-len(octets) % 4)
-    front = struct.pack(">HHI", S1AP_PORT, S1AP_PORT, 7)
+    front = struct.pack(">HH4s", S1AP_PORT, S1AP_PORT, IPv4Address(source).packed)
     sctp = front + struct.pack("<I", crc32c(front + bytes(4) + body)) + body
     return ipv4_packet(IPv4Address(source), IPv4Address("10.0.0.1"), 0, sctp)
 
@@ -315,7 +315,9 @@ class BadCaptures(InFolder):
 
     def test_a_capture_that_breaks_off(self) -> None:
         capture = self.file("capture", (EXAMPLES / "attach.pcap").read_bytes()[:-1])
-        self.refused("cut short", "pcap2case", capture, "-", given=subscribers_of(ATTACH))
+        done = run("pcap2case", capture, "-", given=subscribers_of(ATTACH))
+        self.assertEqual((done.returncode, trace_of(done.stdout)), (1, trace_of(ATTACH)[:-1]))
+        self.assertIn("cut short", told(done)[-1])
 
     def test_a_capture_without_s1ap(self) -> None:
         for octets in (pcap_of([]), pcap_of_packets([packet_of_chunks("10.1.0.1", [(3, 1, 27, b"\0\x0c\0\0")])])):

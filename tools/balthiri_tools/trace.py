@@ -1,0 +1,50 @@
+"""The trace of a capture: the PDUs of its base stations as lines of a case text, and how much of it is none of them."""
+
+from __future__ import annotations
+
+from collections import Counter
+from dataclasses import dataclass, field
+from typing import List
+
+from .capture import FRAGMENTS_MISSING, Capture
+from .case_text import MOST_OCTETS_OF_A_LINE
+from .messages import kind_of
+from .sctp import BREAKS_OFF, CUT, CUT_BEFORE, IN_I_DATA, NOT_WHOLE
+from .stations import stations_of
+
+OF_THE_MME, OTHER, TOO_LONG = "of the MME", "of other procedures", "too long for a line"
+# What may have been lines of the trace.
+LOST = (TOO_LONG, CUT, CUT_BEFORE, NOT_WHOLE, IN_I_DATA, BREAKS_OFF, FRAGMENTS_MISSING)
+
+
+@dataclass
+class Trace:
+    """The lines of a trace with their comments, how many PDUs they are, how much was left out, by what it is, and what is said where the capture breaks off."""
+
+    lines: List[str] = field(default_factory=list)
+    pdus: int = 0
+    left_out: "Counter[str]" = field(default_factory=Counter)
+    end: str = ""
+
+    def is_missing_lines(self) -> bool:
+        """Whether S1AP of a base station was left out that would have been a line, or something that may have been."""
+        return bool(self.end) or any(self.left_out[it] for it in LOST)
+
+    def told_left_out(self) -> str:
+        """What was left out: how much of the MME and of other procedures always, of others where there is some."""
+        return "left out: " + ", ".join(f"{number} {what}" for what, number in self.left_out.items() if number or what in (OF_THE_MME, OTHER))
+
+
+def trace_of(capture: Capture) -> Trace:
+    trace = Trace(left_out=Counter({OF_THE_MME: 0, OTHER: 0}), end=capture.end)
+    kinds = [(it, kind_of(it.message)) for it in capture.messages]
+    stations = stations_of([it for it, kind in kinds if kind and kind.is_up])
+    for it, kind in kinds:
+        line = f"{stations[it.association]} {it.message.hex()}" if kind and kind.is_up else ""
+        if 0 < len(line) <= MOST_OCTETS_OF_A_LINE:
+            trace.pdus += 1
+            trace.lines += [f"# frame {it.frame} at {it.time}", line]
+        else:
+            trace.left_out[TOO_LONG if line else OF_THE_MME if kind else OTHER] += 1
+    trace.left_out.update(capture.left_out)
+    return trace
