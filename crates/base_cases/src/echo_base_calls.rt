@@ -345,8 +345,8 @@ fn converts_into_bad(rt: HostRuntime) -> Result<(), Fail> {
 
 /// Texts, and the octets that their hexadecimal digits are (RFC 4648, 8), in either case.
 const HEXADECIMAL: &str = "\
- Some([])
 00 Some([0])
+ Some([])
 0aFF Some([10, 255])
 0 None
 0g None
@@ -357,7 +357,7 @@ const HEXADECIMAL: &str = "\
 #[test]
 fn decodes_hexadecimal_digits(rt: HostRuntime) -> Result<(), Fail> {
     let mut text = String::new(rt.alloc());
-    for digits in ["", "00", "0aFF", "0", "0g", "+1", "0a0"] {
+    for digits in ["00", "", "0aFF", "0", "0g", "+1", "0a0"] {
         let octets = decode_hex(rt.alloc(), digits.as_bytes())?;
         writeln!(text, "{digits} {octets:?}")?;
     }
