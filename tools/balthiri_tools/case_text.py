@@ -71,12 +71,13 @@ class Event:
 
 @dataclass
 class CaseText:
-    """The sections of a case text, and its first section as it was written."""
+    """The sections of a case text, its first section as it was written, and the comments of the schedule by the number of the event behind them."""
 
     subscribers: List[Subscriber] = field(default_factory=list)
     trace: List[TraceLine] = field(default_factory=list)
     schedule: List[Event] = field(default_factory=list)
     subscriber_lines: List[bytes] = field(default_factory=list)
+    comments: Dict[int, str] = field(default_factory=dict)
 
     def with_trace(self, lines: List[TraceLine]) -> bytes:
         """The case text of the same subscribers and these lines of the trace, without a schedule."""
@@ -119,6 +120,9 @@ def read_case(octets: bytes) -> CaseText:
     for line, whole in enumerate(octets.split(b"\n"), 1):
         ends_here = whole[:-1] if whole.endswith(b"\r") else whole
         text = ends_here.decode("latin-1")
+        if text.startswith("#") and section == SCHEDULE:
+            event = len(case.schedule) + 1
+            case.comments[event] = f"{case.comments.get(event, '')} {ends_here[1:].decode('utf-8', 'replace')}".strip()
         if not text or text.startswith("#"):
             continue
         if text.startswith("["):

@@ -1,14 +1,10 @@
-"""A message sequence chart: its columns and lines, as mscgen text, and as the pictures that mscgen makes of it."""
+"""A message sequence chart: its columns and lines, and its text in the language of mscgen."""
 
 from __future__ import annotations
 
-import shutil
-import subprocess
-from dataclasses import dataclass
+from dataclasses import dataclass, field
 from enum import Enum
-from typing import Dict, List, Optional
-
-from .command import BadInput
+from typing import Dict, List, Optional, Tuple
 
 AGENTS, STORE, GATEWAY, SUBSCRIBER, MME = "agents", "store", "gateway", "subscriber", "mme"
 PEERS = {GATEWAY: "gateway", SUBSCRIBER: "subscriber server"}
@@ -48,7 +44,7 @@ class Mark(Enum):
 
 @dataclass(frozen=True)
 class Line:
-    """A line of a chart. A box and a note have one column; a line across has none."""
+    """A line of a chart. A box and a note have one column; a line across has none. What is to be said before the line is its caption."""
 
     label: str
     name: str
@@ -56,6 +52,7 @@ class Line:
     source: str = ""
     target: str = ""
     mark: Mark = Mark.NONE
+    caption: str = ""
 
     def columns(self) -> List[str]:
         return [it for it in (self.source, self.target) if it]
@@ -65,7 +62,16 @@ class Line:
         label = self.label + (f"\\n{self.name}" if self.name else "")
         colour = f', textcolour="{self.mark.value}", linecolour="{self.mark.value}"' if self.mark is not Mark.NONE else ""
         ends = f"{self.source} {self.form.value} {self.target}" if self.source else self.form.value
-        return f'  {ends} [label="{label}"{colour}];'
+        caption = f'  ||| [label="{quoted(self.caption)}"];\n' if self.caption else ""
+        return f'{caption}  {ends} [label="{label}"{colour}];'
+
+
+def quoted(text: str) -> str:
+    """The text as it stands between quotation marks in the language of mscgen."""
+    return text.replace("\\", "\\\\").replace('"', '\\"')
+
+
+Legend = Dict[Tuple[Form, Mark], str]
 
 
 def _pixels_a_column(line: Line, places: Dict[str, int]) -> int:
@@ -77,9 +83,10 @@ def _pixels_a_column(line: Line, places: Dict[str, int]) -> int:
 
 @dataclass
 class Chart:
-    """The lines of a chart in order, between the base stations and the replicas that they name."""
+    """The lines of a chart in order, between the base stations and the replicas that they name, and what each form of line says."""
 
     lines: List[Line]
+    legend: Legend = field(default_factory=dict)
 
     def columns(self) -> Dict[str, str]:
         """The columns that some line has, from left to right, with their titles."""
@@ -101,14 +108,3 @@ class Chart:
         columns = ", ".join(f'{column} [label="{title}"]' for column, title in self.columns().items())
         front = ["msc {", f'  width="{width or self.width()}", wordwraparcs="true";', f"  {columns};"]
         return "\n".join([*front, *(it.text() for it in self.lines), "}"]) + "\n"
-
-
-def picture_of(text: str, kind: str) -> bytes:
-    """The picture, `svg` or `png`, that mscgen makes of a chart."""
-    mscgen = shutil.which("mscgen")
-    if mscgen is None:
-        raise BadInput("mscgen is not installed (of Debian: apt-get install mscgen)")
-    ran = subprocess.run([mscgen, "-T", kind, "-i", "-", "-o", "-"], input=text.encode(), stdout=subprocess.PIPE, stderr=subprocess.PIPE, check=False)
-    if ran.returncode != 0:
-        raise BadInput("mscgen: " + " ".join(ran.stderr.decode("utf-8", "replace").split()))
-    return ran.stdout

@@ -2,14 +2,31 @@
 
 from __future__ import annotations
 
-from dataclasses import dataclass, field
+from dataclasses import dataclass, field, replace
 from typing import Dict, List, Optional, Set, Tuple
 
 from .case_text import CaseText, Event
-from .chart import AGENTS, MME, STORE, Form, Line, Mark, replica_column, station_column
+from .chart import AGENTS, MME, STORE, Form, Legend, Line, Mark, replica_column, station_column
 from .messages import name_of
 from .printed import Final, Printed
 from .turns import Message, Turn
+
+# What the forms of lines say, of a transcript and of the machine that never fails.
+LEGEND_OF_REPLAY: Legend = {
+    (Form.ARRIVES, Mark.NONE): "arrives; is read from the store, or written to it",
+    (Form.ON_ITS_WAY, Mark.NONE): "is pushed or settled, and on its way",
+    (Form.ARRIVES, Mark.REPEAT): "again, late, or ahead of its turn",
+    (Form.ON_ITS_WAY, Mark.REPEAT): "is settled again",
+    (Form.FAILS, Mark.STALE): "stale: another wrote since it was read, so nothing is written",
+    (Form.BOX, Mark.STOP): "the replica stops, and forgets what it works on",
+    (Form.NOTE, Mark.VOID): "void: there is nothing to arrive or to be done",
+    (Form.ACROSS, Mark.VOID): "void: there is no such replica",
+}
+LEGEND_OF_PLAIN: Legend = {
+    (Form.ARRIVES, Mark.NONE): "a message, or a call of a peer",
+    (Form.ON_ITS_WAY, Mark.NONE): "the answer to a call",
+    (Form.FAILS, Mark.VOID): "a line of the trace that is refused",
+}
 
 
 @dataclass(frozen=True)
@@ -67,12 +84,13 @@ class Names:
 
 @dataclass
 class Replay:
-    """The events up to some point: what the replicas work on, what was sent, and which replica last gave the reply to a message."""
+    """The events up to some point: what the replicas work on, what was sent, which replica last gave the reply to a message, and of which it was the stored one."""
 
     names: Names
     hands: Dict[int, Hand] = field(default_factory=dict)
     sent: Set[Tuple[int, int]] = field(default_factory=set)
     replied: Dict[Tuple[int, int], int] = field(default_factory=dict)
+    stored: Set[Tuple[int, int]] = field(default_factory=set)
 
     def device_of(self, event: Event) -> int:
         """Whose an event is: of the device that it names, or of what its replica works on or worked on last."""
@@ -107,6 +125,7 @@ class Replay:
             is_repeat = answer.startswith("repeat ")
             if is_repeat and hand:
                 self.replied[hand.device, hand.message] = event.replica
+                self.stored.add((hand.device, hand.message))
             return Line(label, name, Form.ARRIVES, STORE, replica, Mark.REPEAT if is_repeat else Mark.NONE)
         if answer.startswith("stale "):
             return Line(label, name, Form.FAILS, replica, STORE, Mark.STALE)
@@ -121,8 +140,9 @@ class Replay:
         if event.word == "settle":
             return Line(label, name, Form.ON_ITS_WAY, receiver, STORE, Mark.REPEAT if answer.startswith("old ") else Mark.NONE)
         if answer.startswith("accepted "):
-            target = self.names.station_of_down(event.device, event.call) if event.lane == "down" else receiver
-            return Line(label, name, Form.ARRIVES, STORE, target)
+            if event.lane == "down":  # the agent, to which the store pushed it, hands it on
+                return Line(label, name, Form.ARRIVES, AGENTS, self.names.station_of_down(event.device, event.call))
+            return Line(label, name, Form.ARRIVES, STORE, receiver)
         return Line(label, name, Form.ARRIVES, STORE, receiver, Mark.REPEAT)
 
     def _arriving(self, event: Event, label: str) -> Line:
@@ -137,7 +157,8 @@ class Replay:
             return Line(label, name, Form.ARRIVES, AGENTS, replica_column(event.replica))
         if event.word == "reply":
             is_old = label.split(" ")[1] == "old"
-            return Line(label, "reply to " + name, Form.ARRIVES, replica_column(self.replied[key]), AGENTS, Mark.REPEAT if is_old else Mark.NONE)
+            reply = f"{'stored reply' if key in self.stored else 'reply'} to {name}"
+            return Line(label, reply, Form.ARRIVES, replica_column(self.replied[key]), AGENTS, Mark.REPEAT if is_old else Mark.NONE)
         is_again = key in self.sent
         self.sent.add(key)
         if is_again:
@@ -150,7 +171,7 @@ def lines_of_replay(case: CaseText, printed: Printed, messages: List[Message], c
     replay = Replay(Names.of(case, printed, messages))
     lines = []
     for event, answer in zip(case.schedule, printed.answers):
-        line = replay.line(event, answer)
+        line = replace(replay.line(event, answer), caption=case.comments.get(event.number, ""))
         if choice.has(event.number, replay.device_of(event)):
             lines.append(line)
     return lines

@@ -5,47 +5,71 @@ from __future__ import annotations
 import argparse
 import os
 import subprocess
+import sys
+import tempfile
 from dataclasses import dataclass
 from pathlib import Path
-from typing import List
+from typing import List, Tuple
 
 from .case_text import CaseText, Event
 from .command import BadInput
 from .printed import Printed, belongs, read_printed
 
-BUILT = Path(__file__).resolve().parents[2] / "crates" / "echo_cli" / "out" / "echo_cli"
-HOW_TO_BUILD = "`rt ci` at the top of the repository builds it, and so does `rt run -- plain </dev/null` in crates/echo_cli"
-USAGE = 1
+# The wrapper at the top of the repository, which finds the program.
+ECHO = Path(__file__).resolve().parents[2] / "echo"
+OF_WRAPPER, OF_PROGRAM = "./echo: ", "echo: "
+USAGE = "echo: usage"
 
 
-@dataclass(frozen=True)
+@dataclass
 class Program:
-    """The built program echo_cli."""
+    """The program echo_cli, or the wrapper that finds it."""
 
     path: str
+    has_told: bool = False
 
     def printed(self, words: List[str], case: bytes) -> bytes:
         """What the program prints for a case text; a case text that it refuses is bad input."""
-        status, text, error = self._run(words, case)
-        if status == USAGE:
+        status, text, said = self._run(words, case)
+        if USAGE in said:
             raise BadInput(f"{self.path} has no command {words[0]}")
         if status != 0:
-            raise BadInput(error or f"{self.path} ended with status {status}")
+            own = [it for it in said if it.startswith(OF_PROGRAM)] or [it for it in said if it]
+            raise BadInput(own[-1] if own else f"{self.path} ended with status {status}")
         return text
 
     def plain(self, case: bytes) -> Printed:
         return read_printed(self.printed(["plain"], case))
 
-    def _run(self, words: List[str], case: bytes) -> "tuple[int, bytes, str]":
+    def _run(self, words: List[str], case: bytes) -> "Tuple[int, bytes, List[str]]":
         if not os.access(self.path, os.X_OK):
-            raise BadInput(f"no program at {self.path}: {HOW_TO_BUILD}, or --program names another")
-        ran = subprocess.run([self.path, *words], input=case, stdout=subprocess.PIPE, stderr=subprocess.PIPE, check=False)
-        return ran.returncode, ran.stdout, ran.stderr.decode("utf-8", "replace").strip()
+            raise BadInput(f"no program at {self.path}: ./echo at the top of the repository runs it")
+        with tempfile.TemporaryFile() as given, tempfile.TemporaryFile() as text:
+            given.write(case)
+            given.seek(0)
+            with subprocess.Popen([self.path, *words], stdin=given, stdout=text, stderr=subprocess.PIPE) as ran:
+                assert ran.stderr is not None
+                said = [self._heard(it.decode("utf-8", "replace").rstrip("\n")) for it in ran.stderr]
+            text.seek(0)
+            return ran.returncode, text.read(), said
+
+    def _heard(self, line: str) -> str:
+        """A line on standard error. Once it is passed on that the wrapper runs what takes minutes."""
+        if line.startswith(OF_WRAPPER) and "unproved" in line and not self.has_told:
+            self.has_told = True
+            print(line, file=sys.stderr, flush=True)
+        return line
 
 
 def add_program_option(words: argparse.ArgumentParser) -> None:
-    told = "the program echo_cli (if left out, as `rt ci` builds it: crates/echo_cli/out/echo_cli)"
-    words.add_argument("--program", default=str(BUILT), metavar="PATH", help=told)
+    told = "the program echo_cli (if left out, what ./echo at the top of the repository runs)"
+    words.add_argument("--program", default=str(ECHO), metavar="PATH", help=told)
+
+
+def is_built() -> bool:
+    """Whether the wrapper finds a built program."""
+    ran = subprocess.run([str(ECHO), "plain"], input=b"", stdout=subprocess.DEVNULL, stderr=subprocess.DEVNULL, env={**os.environ, "ECHO_ONLY_BUILT": "1"}, check=False)
+    return ran.returncode == 0
 
 
 def _replicas_of(schedule: List[Event], answers: List[str]) -> int:

@@ -2,7 +2,6 @@
 
 from __future__ import annotations
 
-import os
 import re
 import shutil
 import subprocess
@@ -12,7 +11,7 @@ import unittest
 from pathlib import Path
 from typing import Callable, List, Optional
 
-from balthiri_tools.program import BUILT
+from balthiri_tools.program import ECHO, is_built
 
 TESTS = Path(__file__).resolve().parent
 TOOLS = TESTS.parent
@@ -22,26 +21,26 @@ EXAMPLES = TOOLS.parent / "examples"
 PLAIN = ["plain_1", "plain_2", "plain_3"]
 REPLAYS = ["replay_1", "replay_2", "replay_3"]
 
+IS_BUILT = is_built()
+
 HOW_FAR = re.compile(r"[a-z0-9]+: [0-9]+( of [0-9]+)? (messages of each device|frames|frames with SCTP)")
 
 
 def needs(*commands: str) -> Callable[[type], type]:
     """Skips the tests of a class where one of these commands is not installed, or the program is not built."""
     missing = [it for it in commands if it != "program" and shutil.which(it) is None]
-    if "program" in commands and not os.access(BUILT, os.X_OK):
-        missing.append("the built program, crates/echo_cli/out/echo_cli (`rt ci` makes it)")
+    if "program" in commands and not IS_BUILT:
+        missing.append("the built program (`rt ci` makes it)")
     return unittest.skipIf(bool(missing), f"missing: {', '.join(missing)}")
 
 
 def has_replay() -> bool:
     """Whether the built program has the command `replay`."""
-    if not os.access(BUILT, os.X_OK):
-        return False
-    return subprocess.run([str(BUILT), "replay"], input=b"", stdout=subprocess.DEVNULL, stderr=subprocess.DEVNULL, check=False).returncode == 0
+    return IS_BUILT and subprocess.run([str(ECHO), "replay"], input=b"", stdout=subprocess.DEVNULL, stderr=subprocess.DEVNULL, check=False).returncode == 0
 
 
 def run_program(word: str, case: bytes) -> bytes:
-    return subprocess.run([str(BUILT), word], input=case, stdout=subprocess.PIPE, check=True).stdout
+    return subprocess.run([str(ECHO), word], input=case, stdout=subprocess.PIPE, stderr=subprocess.DEVNULL, check=True).stdout
 
 
 def run(tool: str, *words: object, given: bytes = b"") -> "subprocess.CompletedProcess[bytes]":

@@ -303,7 +303,7 @@ class BadCases(InFolder):
     def test_no_such_file_no_program_no_such_word(self) -> None:
         for tool in ("case2pcap", "ladder"):
             self.refused("No such file", tool, self.folder / "none", EXAMPLES / "attach_text.txt")
-            self.refused("builds it", tool, EXAMPLES / "attach.txt", EXAMPLES / "attach_text.txt", "--program", self.folder / "none")
+            self.refused("./echo at the top of the repository runs it", tool, EXAMPLES / "attach.txt", EXAMPLES / "attach_text.txt", "--program", self.folder / "none")
             self.refused("--help", tool, EXAMPLES / "attach.txt")
 
 

@@ -1,20 +1,24 @@
 """Charts against the transcripts that they are made of."""
 
 import re
+import shutil
 import subprocess
 import sys
 import unittest
 from pathlib import Path
-from typing import List, Tuple
+from typing import Dict, List, Tuple
+from xml.etree import ElementTree
 
 from balthiri_tools.case_text import CaseText, read_case
-from balthiri_tools.chart import Chart, Form, Line, Mark, picture_of
-from balthiri_tools.ladder_lines import Choice, lines_of_replay
+from balthiri_tools.chart import Chart, Form, Line, Mark
+from balthiri_tools.ladder_lines import LEGEND_OF_REPLAY, Choice, lines_of_replay
+from balthiri_tools.picture import MOST_PIXELS, ROWS_BETWEEN_TITLES, Picture, png_of
 from balthiri_tools.printed import belongs, read_printed
 from balthiri_tools.turns import messages_of
-from support import DATA, EXAMPLES, REPLAYS, TOOLS, InFolder, has_replay, needs
+from support import DATA, EXAMPLES, REPLAYS, TOOLS, InFolder, has_replay, needs, run, run_program, told
 
 ALL = Choice(None, 1, 10**9)
+PARTS = "--from, --to and --device choose a part of it"
 README_CHARTS = ["stop", "race"]
 FILES = [(DATA / f"{it}.txt", DATA / f"{it}_text.txt") for it in REPLAYS] + [(EXAMPLES / f"{it}.txt", EXAMPLES / f"{it}_text.txt") for it in README_CHARTS]
 
@@ -29,13 +33,15 @@ def read_both(case_file: Path, text_file: Path) -> "Tuple[CaseText, List[str], L
 
 def chart_of(case_file: Path, text_file: Path, choice: Choice = ALL) -> Chart:
     case, printed = read_case(case_file.read_bytes()), read_printed(text_file.read_bytes())
-    return Chart(lines_of_replay(case, printed, messages_of(case, printed), choice))
+    return Chart(lines_of_replay(case, printed, messages_of(case, printed), choice), LEGEND_OF_REPLAY)
 
 
 def drawn(chart: Chart) -> "List[Tuple[str, str, str]]":
-    """Of each line of the chart's text what stands before its label, the first and the second line of the label."""
+    """Of each line of the chart's text what stands before its label, the first and the second line of the label; captions are no lines."""
     found = []
     for it in chart.text(None).splitlines()[3:-1]:
+        if it.startswith("  ||| "):
+            continue
         match = re.fullmatch(r'  (.*?) \[label="(?:\u00d7 )?([^"\\]*)(?:\\n([^"\\]*))?"(?:, textcolour="[a-z#0-9]+", linecolour="[a-z#0-9]+")?\];', it)
         assert match, it
         found.append((match[1], match[2], match[3] or ""))
@@ -77,7 +83,7 @@ class Transcripts(unittest.TestCase):
                     self.assertTrue(line.label.startswith("\u00d7 "))
         self.assertEqual(seen, {"stopped", "stale", "repeat", "void"})
 
-    def test_the_stop_between_commit_and_reply(self) -> None:
+    def test_a_lost_reply(self) -> None:
         lines = drawn(chart_of(EXAMPLES / "stop.txt", EXAMPLES / "stop_text.txt"))
         expected = [
             ("station1 => agents", "1 sent", "Attach request 1"),
@@ -88,7 +94,7 @@ class Transcripts(unittest.TestCase):
             ("agents => agents", "6 sent", "Attach request 1"),
             ("agents => replica2", "7 taken", "Attach request 1"),
             ("store => replica2", "8 repeat 1", "Attach request 1"),
-            ("replica2 => agents", "9 acked 1", "reply to Attach request 1"),
+            ("replica2 => agents", "9 acked 1", "stored reply to Attach request 1"),
             ("store >> subscriber", "10 pushed", "vectors 1"),
             ("store => subscriber", "11 accepted 1", "vectors 1"),
             ("subscriber => replica2", "12 taken", "answer to vectors 1"),
@@ -96,7 +102,7 @@ class Transcripts(unittest.TestCase):
             ("replica2 => store", "14 committed 2", "answer to vectors 1"),
             ("subscriber >> store", "15 settled 1", "vectors 1"),
             ("store >> agents", "16 pushed", "Authentication request 1"),
-            ("store => station1", "17 accepted 1", "Authentication request 1"),
+            ("agents => station1", "17 accepted 1", "Authentication request 1"),
             ("agents >> store", "18 settled 1", "Authentication request 1"),
         ]
         self.assertEqual(lines, expected)
@@ -143,25 +149,96 @@ class Widths(unittest.TestCase):
         self.assertEqual(list(Chart(lines).columns()), ["station9", "station12", "agents", "replica9", "replica10", "store", "gateway", "subscriber"])
 
 
-def words_of(picture: bytes) -> List[bytes]:
-    """The words of an SVG in order; where they stand differs from one mscgen to another."""
-    return re.findall(rb"<text[^>]*>([^<]*)", picture)
+Element = Dict[str, str]
 
 
-@needs("mscgen")
+def elements(svg: bytes, tag: str) -> List[Element]:
+    """The elements of this kind, with what they say as `text`."""
+    return [{**it.attrib, "text": it.text or ""} for it in ElementTree.fromstring(svg) if it.tag.endswith("}" + tag)]
+
+
+def place(svg: bytes, text: str) -> "Tuple[float, float]":
+    """Where the first text of these words stands."""
+    found = [it for it in elements(svg, "text") if it["text"] == text]
+    return float(found[0]["x"]), float(found[0]["y"])
+
+
 class Pictures(unittest.TestCase):
-    def test_mscgen_draws_each_chart(self) -> None:
-        for files in FILES:
-            text = chart_of(*files).text(None)
-            self.assertTrue(picture_of(text, "png").startswith(b"\x89PNG"))
-            self.assertIn(b"<svg", picture_of(text, "svg"))
+    def svg(self, name: str) -> bytes:
+        return Picture(chart_of(EXAMPLES / f"{name}.txt", EXAMPLES / f"{name}_text.txt")).svg(None)
 
     def test_the_pictures_of_the_readme_are_made_by_the_tool(self) -> None:
         for it in README_CHARTS:
-            made = picture_of(chart_of(EXAMPLES / f"{it}.txt", EXAMPLES / f"{it}_text.txt").text(None), "svg")
-            drawn = (TOOLS.parent / "docs" / f"ladder_{it}.svg").read_bytes()
-            self.assertEqual(words_of(made), words_of(drawn))
-            self.assertGreater(len(words_of(drawn)), 8)
+            self.assertEqual(self.svg(it), (TOOLS.parent / "docs" / f"ladder_{it}.svg").read_bytes())
+
+    def test_a_picture_has_each_label_name_and_caption(self) -> None:
+        for files in FILES:
+            chart = chart_of(*files)
+            said = " ".join(it["text"] for it in elements(Picture(chart).svg(None), "text"))
+            for line in chart.lines:
+                self.assertTrue(line.label in said and line.name in said and line.caption in said)
+
+    def test_no_line_runs_through_a_label(self) -> None:
+        for files in FILES:
+            svg = Picture(chart_of(*files)).svg(None)
+            self.assertNotIn(b"crispEdges", svg)
+            level = sorted(float(it["y1"]) for it in elements(svg, "line") if it["y1"] == it["y2"])
+            texts = [float(it["y"]) for it in elements(svg, "text") if "font-style" not in it and it.get("text-anchor") == "middle"]
+            self.assertTrue(level and texts)
+            for y in texts:  # letters reach from 9 above to 3 below where a text stands
+                self.assertEqual([it for it in level if y - 9 <= it <= y + 3], [])
+
+    def test_a_stop_stands_on_its_replica(self) -> None:
+        svg = self.svg("stop")
+        x, y = place(svg, "\u00d7 5 stopped")
+        self.assertEqual(x, place(svg, "replica 1")[0])
+        boxes = [it for it in elements(svg, "rect") if it.get("stroke") == "red" and abs(float(it["y"]) + float(it["height"]) / 2 - y) < 8]
+        self.assertEqual([float(it["x"]) + float(it["width"]) / 2 for it in boxes], [x])
+
+    def test_a_message_to_the_device_goes_from_the_store_to_the_agent_and_on(self) -> None:
+        svg, columns = self.svg("stop"), ("store", "agents", "base station 1")
+        store, agents, station = (place(svg, it)[0] for it in columns)
+        for label, ends in (("16 pushed", (store, agents)), ("17 accepted 1", (agents, station)), ("18 settled 1", (agents, store))):
+            y = place(svg, label)[1]
+            arrow = next(it for it in elements(svg, "line") if it["y1"] == it["y2"] and 0 < float(it["y1"]) - y < 10)
+            self.assertEqual((float(arrow["x1"]), float(arrow["x2"])), ends)
+            self.assertEqual("stroke-dasharray" in arrow, "accepted" not in label)
+
+    def test_the_legend_says_what_each_form_is(self) -> None:
+        for files in FILES:
+            chart = chart_of(*files)
+            used = {(it.form, it.mark) for it in chart.lines}
+            said = {it["text"] for it in elements(Picture(chart).svg(None), "text")}
+            self.assertEqual({it for it, text in LEGEND_OF_REPLAY.items() if text in said}, used)
+
+    def test_titles_stand_again_in_a_long_picture(self) -> None:
+        chart = chart_of(*FILES[1])
+        titles = [it for it in elements(Picture(chart).svg(None), "text") if it["text"] == "store"]
+        self.assertEqual(len(titles), -(-len(chart.lines) // ROWS_BETWEEN_TITLES))
+
+    def test_a_width_scales_the_whole(self) -> None:
+        picture = Picture(chart_of(*FILES[0]))
+        root = ElementTree.fromstring(picture.svg(picture.whole_width // 2))
+        self.assertEqual(root.attrib["width"], str(picture.whole_width // 2))
+        self.assertAlmostEqual(int(root.attrib["height"]), picture.height / 2, delta=2)
+        self.assertEqual(root.attrib["viewBox"], f"0 0 {picture.whole_width} {picture.height}")
+
+
+@needs("mscgen")
+class TextsOfMscgen(unittest.TestCase):
+    def test_mscgen_draws_each_chart(self) -> None:
+        for files in FILES:
+            words = ["mscgen", "-T", "svg", "-i", "-", "-o", "-"]
+            ran = subprocess.run(words, input=chart_of(*files).text(None).encode(), stdout=subprocess.PIPE, stderr=subprocess.PIPE, check=False)
+            self.assertEqual(ran.returncode, 0, ran.stderr)
+            self.assertIn(b"<svg", ran.stdout)
+
+
+@needs("rsvg-convert")
+class PicturesOfPoints(unittest.TestCase):
+    def test_each_chart(self) -> None:
+        for files in FILES:
+            self.assertTrue(png_of(Picture(chart_of(*files)).svg(None)).startswith(b"\x89PNG"))
 
 
 PLAIN_ATTACH = [
@@ -224,18 +301,44 @@ class Tool(InFolder):
             self.assertEqual(self.ran("ladder", case_file, text_file).stdout.decode(), chart_of(case_file, text_file).text(None))
 
 
-@needs("program", "mscgen")
+@needs("program")
 class ToolPictures(InFolder):
+    files = EXAMPLES / "attach.txt", EXAMPLES / "attach_text.txt"
+
     def test_the_ending_of_the_file_says_what_it_is(self) -> None:
-        files = EXAMPLES / "attach.txt", EXAMPLES / "attach_text.txt"
-        for name, beginning in (("a.svg", b"<!DOCTYPE svg"), ("a.png", b"\x89PNG"), ("a.msc", b"msc {")):
-            self.ran("ladder", *files, "-o", self.folder / name)
+        for name, beginning in (("a.svg", b"<svg "), ("a.msc", b"msc {")):
+            self.ran("ladder", *self.files, "-o", self.folder / name)
             self.assertTrue((self.folder / name).read_bytes().startswith(beginning))
 
-    def test_where_mscgen_is_missing(self) -> None:
-        files = EXAMPLES / "attach.txt", EXAMPLES / "attach_text.txt"
-        words = [sys.executable, str(TOOLS / "ladder"), *map(str, files), "-o", str(self.folder / "a.svg")]
+    @needs("rsvg-convert")
+    def test_a_picture_of_points(self) -> None:
+        self.ran("ladder", *self.files, "-o", self.folder / "a.png")
+        self.assertTrue((self.folder / "a.png").read_bytes().startswith(b"\x89PNG"))
+
+    def test_where_rsvg_convert_is_missing(self) -> None:
+        words = [sys.executable, str(TOOLS / "ladder"), *map(str, self.files), "-o", str(self.folder / "a.png")]
+        for it in ("sh", "dirname", "readlink"):  # what the wrapper of the program needs
+            (self.folder / it).symlink_to(shutil.which(it) or "")
         done = subprocess.run(words, stdout=subprocess.PIPE, stderr=subprocess.PIPE, env={"PATH": str(self.folder)}, check=False)
         self.assertEqual((done.returncode, done.stdout), (2, b""))
-        self.assertIn("mscgen is not installed", done.stderr.decode())
-        self.assertFalse((self.folder / "a.svg").exists())
+        self.assertIn("rsvg-convert is not installed", done.stderr.decode())
+        self.assertFalse((self.folder / "a.png").exists())
+
+    def test_a_long_chart(self) -> None:
+        # events that come to nothing, one a line: a take of what is not on its link
+        case = (EXAMPLES / "attach.txt").read_bytes() + b"[schedule]\n" + b"take 1 1 1\n" * 600
+        files = self.file("case", case), self.file("text", run_program("replay", case))
+        long = f"ladder: the chart has 600 lines: {PARTS}"
+        self.assertEqual(told(self.ran("ladder", *files, "-o", self.folder / "a.svg")), [long])
+        self.assertEqual(told(self.ran("ladder", *files, "-o", self.folder / "a.msc")), [long])
+        self.assertEqual(told(self.ran("ladder", *files, "--to", "500", "-o", self.folder / "a.svg")), [])
+        self.refused_high(*files, "--width", "400")
+        self.assertEqual(told(self.ran("ladder", *files, "--width", "400", "--any-height", "-o", self.folder / "b.svg")), [long])
+        high = int(ElementTree.fromstring((self.folder / "b.svg").read_bytes()).attrib["height"])
+        self.assertGreater(high, MOST_PIXELS)
+
+    def refused_high(self, *words: object) -> None:
+        done = run("ladder", *words, "-o", self.folder / "none.svg")
+        self.assertEqual((done.returncode, done.stdout, (self.folder / "none.svg").exists()), (2, b"", False))
+        self.assertIn(PARTS, done.stderr.decode())
+        self.assertIn("--any-height", done.stderr.decode())
