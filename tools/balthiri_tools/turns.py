@@ -1,16 +1,16 @@
 """Which message of which device each line of a trace is, and what the machine makes of each message.
 
-The program prints what becomes of whole devices. It is asked for the first message of each device, for the first two, and so on: what a
-device gains from one to the next is what that message made. A line that the program refuses is no message.
+The program prints what becomes of whole devices; which message made what is found by `counts`. A line that the program refuses is no message.
 """
 
 from __future__ import annotations
 
 from dataclasses import dataclass, field
-from typing import Dict, List, Tuple
+from typing import Dict, List
 
 from .case_text import CaseText, TraceLine
 from .command import BadInput, Progress
+from .counts import Counts, Message, counts_of
 from .messages import identity_of
 from .printed import Down, Final, Printed
 from .program import Program
@@ -31,15 +31,6 @@ class Call:
     @property
     def is_awaited(self) -> bool:
         return self.words != NOTICE
-
-
-@dataclass(frozen=True)
-class Message:
-    """A line of the trace as a message of a device, numbered from 1."""
-
-    device: int
-    number: int
-    line: TraceLine
 
 
 @dataclass
@@ -80,28 +71,21 @@ def _check_counts(case: CaseText, printed: Printed, counts: Dict[int, int]) -> N
             raise BadInput(f"device {it.imsi}: the program took other messages than its lines tell")
 
 
-def _gained(before: Final, after: Final) -> "tuple[List[Call], List[Down]]":
+def _turn(message: Message, final: Final, before: Counts, after: Counts) -> Turn:
+    """A message with the calls and downs from one count to another, of those that a device has."""
     calls = []
-    for lane in ("gateway", "subscriber"):
-        since = len(before.calls(lane))
-        calls += [Call(lane, number, words) for number, words in enumerate(after.calls(lane)[since:], since + 1)]
+    for lane, first, last in (("gateway", before.gateway, after.gateway), ("subscriber", before.subscriber, after.subscriber)):
+        calls += [Call(lane, number, final.calls(lane)[number - 1]) for number in range(first + 1, last + 1)]
     calls.sort(key=lambda it: ORDER_OF_CALLS.index(it.words.split(" ")[0]))
-    return calls, after.downs[len(before.downs) :]
+    return Turn(message, calls, final.downs[before.down : after.down])
 
 
 def turns_of(program: Program, case: CaseText, printed: Printed, progress: Progress) -> List[Turn]:
     """The messages of the trace in its order, each with what it made."""
     messages = messages_of(case, printed)
-    imsis = {it.device: it.imsi for it in case.subscribers}
-    turns: Dict[Tuple[int, int], Turn] = {}
-    before = {it.imsi: Final(it.imsi, 0) for it in case.subscribers}
-    most = max([it.number for it in messages], default=0)
-    for number in range(1, most + 1):
-        progress.at(number, most)
-        fronts = [it.line for it in messages if it.number <= number]
-        after = program.plain(case.with_trace(fronts)).by_imsi()
-        for it in messages:
-            if it.number == number:
-                turns[it.device, number] = Turn(it, *_gained(before[imsis[it.device]], after[imsis[it.device]]))
-        before = after
-    return [turns[it.device, it.number] for it in messages]
+    finals = {it.device: printed.by_imsi()[it.imsi] for it in case.subscribers}
+    by_device: Dict[int, List[Message]] = {}
+    for it in messages:
+        by_device.setdefault(it.device, []).append(it)
+    counts = counts_of(program, case, by_device, finals, progress)
+    return [_turn(it, finals[it.device], *counts[it.device][it.number - 1 : it.number + 1]) for it in messages]
