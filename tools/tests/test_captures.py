@@ -102,6 +102,12 @@ class Dissected(InFolder):
         self.assertEqual([it for it in found if it not in WHOLE], [])
         self.assertEqual(len(found), len(downs))
 
+    def test_the_one_message_that_is_called_malformed(self) -> None:
+        # the UE CAPABILITY INFO INDICATION: the two octets of its radio capability are no message of RRC
+        words = ["tshark", "-n", "-r", str(EXAMPLES / "attach.pcap"), "-Y", "_ws.malformed", "-T", "fields", "-e", "frame.number", "-e", "s1ap.UERadioCapability"]
+        found = subprocess.run(words, stdout=subprocess.PIPE, stderr=subprocess.DEVNULL, check=True).stdout.decode().split()
+        self.assertEqual([it.replace(":", "") for it in found], ["8", "0102"])
+
     def test_each_kind_of_down(self) -> None:
         # worked by hand: MME-UE-S1AP-ID 1, eNB-UE-S1AP-ID 1, and the NAS message
         messages = ["07520000" + "11" * 15 + "10" + "22" * 16, "0754", "075d000002e0e0", "07440c", "074e0a", "074b0c", "074900", "0746"]
