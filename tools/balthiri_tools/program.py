@@ -68,8 +68,8 @@ def add_program_option(words: argparse.ArgumentParser) -> None:
 
 def is_built() -> bool:
     """Whether the wrapper finds a built program."""
-    ran = subprocess.run([str(ECHO), "plain"], input=b"", stdout=subprocess.DEVNULL, stderr=subprocess.DEVNULL, env={**os.environ, "ECHO_ONLY_BUILT": "1"}, check=False)
-    return ran.returncode == 0
+    built = {**os.environ, "ECHO_ONLY_BUILT": "1"}
+    return subprocess.run([str(ECHO), "plain"], input=b"", stdout=subprocess.DEVNULL, stderr=subprocess.DEVNULL, env=built, check=False).returncode == 0
 
 
 def _replicas_of(schedule: List[Event], answers: List[str]) -> int:

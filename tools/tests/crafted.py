@@ -221,7 +221,8 @@ def out_of_order() -> List[Record]:
     at = {it: data(10 + it, 65534 + it, UP[it]) for it in range(4)}
     other = data(20, 7, UP[4], stream=2)
     unordered = data(21, 0, UP[5], flags=WHOLE | 4)
-    return [*(whole(up(it)) for it in (at[0], at[2], other, at[3])), whole(up(data(1, 0, UP[0]), source="10.1.0.2", tag=3)), *(whole(up(it)) for it in (at[1], unordered))]
+    another = up(data(1, 0, UP[0]), source="10.1.0.2", tag=3)
+    return [whole(it) for it in (up(at[0]), up(at[2]), up(other), up(at[3]), another, up(at[1]), up(unordered))]
 
 
 def payloads() -> List[Record]:

@@ -11,6 +11,7 @@ import unittest
 from pathlib import Path
 from typing import Callable, List, Optional
 
+from balthiri_tools.command import Progress
 from balthiri_tools.program import ECHO, is_built
 
 TESTS = Path(__file__).resolve().parent
@@ -67,6 +68,16 @@ def subscribers_of(case: bytes) -> bytes:
 def told(done: "subprocess.CompletedProcess[bytes]") -> List[str]:
     """What a tool told on standard error, but for how far it was, which it tells on a slow machine."""
     return [it for it in done.stderr.decode().splitlines() if not HOW_FAR.fullmatch(it)]
+
+
+class Quiet(Progress):
+    """Tells nothing."""
+
+    def __init__(self) -> None:
+        super().__init__("", "")
+
+    def at(self, done: int, whole: Optional[int] = None) -> None:
+        pass
 
 
 class InFolder(unittest.TestCase):

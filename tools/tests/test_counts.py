@@ -4,10 +4,10 @@ import unittest
 from typing import Callable, Dict, List, Optional, Tuple
 
 from balthiri_tools.case_text import CaseText, Subscriber, TraceLine, read_case
-from balthiri_tools.command import Progress
 from balthiri_tools.counts import SHORT, Counts, Message, counts_of
 from balthiri_tools.printed import Down, Final, Printed
 from crafted import DOWN, UP
+from support import Quiet
 
 # Of a message, by the indices in UP of the messages up to it: the effects of its step, then those of the answer to each call that is awaited.
 Effect = Tuple[str, str]
@@ -151,7 +151,7 @@ class CountsOfDevices(unittest.TestCase):
         for line in case.trace:
             messages[line.station].append(Message(line.station, len(messages[line.station]) + 1, line))
         finals = dict(zip(kinds, program.finals(case)))
-        found = counts_of(program, case, messages, finals, Progress("test", "messages"))  # type: ignore[arg-type]
+        found = counts_of(program, case, messages, finals, Quiet())  # type: ignore[arg-type]
         for device, all_kinds in kinds.items():
             expected = [Counts()]
             for at in range(len(all_kinds)):

@@ -5,11 +5,10 @@ import unittest
 from typing import Dict, List, Tuple
 
 from balthiri_tools.capture import read_capture
-from balthiri_tools.command import Progress
 from balthiri_tools.sctp import Packet, messages_of
 from balthiri_tools.trace import trace_of
 from crafted import BEGINS, CAPTURES, ENDS, MME, STATION, UP, WHOLE, data, sctp
-from support import DATA, EXAMPLES, InFolder, needs, run, subscribers_of, told
+from support import DATA, EXAMPLES, InFolder, Quiet, needs, run, subscribers_of, told
 
 FOLDER = DATA / "captures"
 SUBSCRIBERS = subscribers_of((EXAMPLES / "attach.txt").read_bytes())
@@ -77,7 +76,7 @@ class Files(unittest.TestCase):
 @needs("tshark")
 class Traces(unittest.TestCase):
     def trace(self, name: str) -> "Tuple[List[str], List[str], str, bool]":
-        trace = trace_of(read_capture(str(FOLDER / name), Progress("test", "frames")))
+        trace = trace_of(read_capture(str(FOLDER / name), Quiet()))
         lines = [it for it in trace.lines if not it.startswith("#")]
         self.assertEqual(len(lines), trace.pdus)
         return lines, trace.told_left_out()[len("left out: ") :].split(", "), trace.end, trace.is_missing_lines()
@@ -99,9 +98,9 @@ class Traces(unittest.TestCase):
 
     def test_frames_and_times(self) -> None:
         for name, frames in ATTACH_FRAMES.items():
-            comments = [it for it in trace_of(read_capture(str(FOLDER / name), Progress("test", "frames"))).lines if it.startswith("#")]
+            comments = [it for it in trace_of(read_capture(str(FOLDER / name), Quiet())).lines if it.startswith("#")]
             self.assertEqual([it.split(" at ")[0] for it in comments], [f"# frame {it}" for it in frames])
-        nanosecond = trace_of(read_capture(str(FOLDER / "nanosecond.pcap"), Progress("test", "frames")))
+        nanosecond = trace_of(read_capture(str(FOLDER / "nanosecond.pcap"), Quiet()))
         self.assertEqual(nanosecond.lines[2], "# frame 3 at 2.000000002")
 
 

@@ -104,7 +104,8 @@ class Logs(InFolder):
         self.assertEqual(set(read_log(lines).edits), {("low", "a"), ("low", "b"), ("low", "an edit from nothing"), ("only", "an edit from nothing")})
 
     def test_words_and_files(self) -> None:
-        for words, expected in ((["--table", DATA / "plain_1.txt"], "no call"), (["--table", self.folder / "none"], "No such file"), (["--table", BEFORE, "low"], "--help")):
+        none = self.folder / "none"
+        for words, expected in ((["--table", DATA / "plain_1.txt"], "no call"), (["--table", none], "No such file"), (["--table", BEFORE, "low"], "--help")):
             done = run("gate_minutes", *words)
             self.assertEqual((done.returncode, done.stdout), (2, b""))
             self.assertIn(expected, done.stderr.decode())
