@@ -22,12 +22,13 @@ BEGINNINGS = (b"\xa1\xb2\xc3\xd4", b"\xd4\xc3\xb2\xa1", b"\xa1\xb2\x3c\x4d", b"\
 SCTP_IN_UDP = 9899  # the port of SCTP in UDP (RFC 6951)
 UDP_HEADER = 8
 FRAGMENTS_MISSING = "IP packets of which fragments are missing or cut"
+ELSEWHERE = f"frames whose SCTP stands neither in IP nor in UDP at port {SCTP_IN_UDP}"
 
 NEXT_HEADERS = ("ipv6.nxt", "ipv6.fraghdr.nxt", "ipv6.hopopts.nxt", "ipv6.dstopts.nxt", "ipv6.routing.nxt")
 IS_SCTP = " or ".join(f"{it} == {SCTP_IN_IP}" for it in ("ip.proto", *NEXT_HEADERS)) + f" or udp.port == {SCTP_IN_UDP}"
-FILTER = f"({IS_SCTP}) and not icmp and not icmpv6"  # an ICMP message quotes the front of another packet
+FILTER = f"(({IS_SCTP}) and not icmp and not icmpv6) or sctp"  # an ICMP message quotes the front of another packet
 
-FIELDS = ("frame.number", "frame.time_epoch", "frame.len", "frame.cap_len", "data.data", "udp.length")
+FIELDS = ("frame.number", "frame.time_epoch", "frame.len", "frame.cap_len", "data.data", "udp.length", "sctp.srcport")
 FIELDS += ("ip.src", "ip.proto", "ip.len", "ip.hdr_len", "ip.id", "ip.flags.mf", "ip.frag_offset", "ip.fragment.count")
 FIELDS += ("ipv6.src", "ipv6.nxt", "ipv6.plen", "ipv6.fraghdr.ident", "ipv6.fragment.count")
 
@@ -48,11 +49,12 @@ def _check_beginning(name: str, told: str) -> None:
 
 
 class _Frames:
-    """The frames that tshark tells of, and the IP packets whose fragments have not all come."""
+    """The frames that tshark tells of, and what is no packet here: IP packets whose fragments have not all come, and SCTP elsewhere."""
 
     def __init__(self, name: str) -> None:
         self.name = name
         self.unfinished: Set[Tuple[str, ...]] = set()
+        self.elsewhere = 0
         self.end = ""
 
     def lines(self) -> Iterator[List[str]]:
@@ -74,7 +76,9 @@ class _Frames:
         for number, values in enumerate(self.lines(), 1):
             progress.at(number)
             it = dict(zip(FIELDS, values))
-            if not self._is_fragment(it):
+            if it["sctp.srcport"]:
+                self.elsewhere += 1
+            elif not self._is_fragment(it):
                 yield _packet(it)
 
     def _is_fragment(self, it: Dict[str, str]) -> bool:
@@ -125,7 +129,7 @@ def _read(name: str, told: str, progress: Progress) -> Capture:
     _check_beginning(name, told)
     frames = _Frames(name)
     messages, left_out = messages_of(frames.packets(progress))
-    left_out[FRAGMENTS_MISSING] += len(frames.unfinished)
+    left_out.update({FRAGMENTS_MISSING: len(frames.unfinished), ELSEWHERE: frames.elsewhere})
     return Capture(messages, left_out, frames.end.replace(f'"{name}"', f'"{told}"'))
 
 

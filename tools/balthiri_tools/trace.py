@@ -6,7 +6,7 @@ from collections import Counter
 from dataclasses import dataclass, field
 from typing import List
 
-from .capture import FRAGMENTS_MISSING, Capture
+from .capture import ELSEWHERE, FRAGMENTS_MISSING, Capture
 from .case_text import MOST_OCTETS_OF_A_LINE
 from .messages import kind_of
 from .sctp import BREAKS_OFF, CUT, CUT_BEFORE, IN_I_DATA, NOT_WHOLE
@@ -14,7 +14,7 @@ from .stations import stations_of
 
 OF_THE_MME, OTHER, TOO_LONG = "of the MME", "of other procedures", "too long for a line"
 # What may have been lines of the trace.
-LOST = (TOO_LONG, CUT, CUT_BEFORE, NOT_WHOLE, IN_I_DATA, BREAKS_OFF, FRAGMENTS_MISSING)
+LOST = (TOO_LONG, CUT, CUT_BEFORE, NOT_WHOLE, IN_I_DATA, BREAKS_OFF, FRAGMENTS_MISSING, ELSEWHERE)
 
 
 @dataclass

@@ -22,7 +22,7 @@ UP_TAG, DOWN_TAG = 0xAAAAAAAA, 0xBBBBBBBB
 S1AP = 18
 ENDS, BEGINS, WHOLE = 1, 2, 3
 
-ETHERNET, NULL, RAW, SLL, SLL2 = 1, 0, 101, 113, 276
+ETHERNET, NULL, RAW, SLL, SLL2, BARE_SCTP = 1, 0, 101, 113, 276, 248
 IPV4_KIND, IPV6_KIND, VLAN_KIND = 0x0800, 0x86DD, 0x8100
 
 
@@ -270,4 +270,5 @@ CAPTURES: Dict[str, bytes] = {
     "cut_file.pcap": pcap(each(ethernet))[:-9],
     "cut_file.pcapng": pcapng(each(ethernet))[:-9],
     "reasons.pcap": pcap(reasons()),
+    "bare_sctp.pcap": pcap([whole(sctp(data(0, 0, UP[0])))], BARE_SCTP),
 }

@@ -56,6 +56,8 @@ MISSING: Dict[str, Tuple[Lines, List[str], str]] = {
         + ["1 IP packets of which fragments are missing or cut"],
         "",
     ),
+    # a link whose frames are SCTP
+    "bare_sctp.pcap": ([], ["0 of the MME", "0 of other procedures", "1 frames whose SCTP stands neither in IP nor in UDP at port 9899"], ""),
 }
 
 ATTACH_FRAMES = {"ethernet.pcap": [1, 3, 5, 7, 8, 9], "bundles.pcap": [1, 1, 2, 2, 3, 3], "out_of_order.pcap": [1, 3, 5, 6, 2, 4, 7]}
@@ -149,6 +151,9 @@ class Tool(InFolder):
 
     def test_the_status_tells_what_is_missing(self) -> None:
         for name, (lines, _, end) in MISSING.items():
+            if not lines:
+                self.refused("no S1AP in this capture; left out: 0 of the MME", "pcap2case", FOLDER / name, "-", given=SUBSCRIBERS)
+                continue
             status, found, said = self.back(FOLDER / name, "-", given=SUBSCRIBERS)
             self.assertEqual((status, found), (1, lines_of(lines)), name)
             self.assertEqual(len(said), 2 if end else 1)
