@@ -12,7 +12,7 @@ from dataclasses import dataclass, field
 from typing import Dict, Iterator, List, NamedTuple, Optional, Tuple
 
 from .case_text import MOST_EVENTS, CaseText, TraceLine
-from .command import BadInput, Progress
+from .command import Progress
 from .messages import kind_of, name_of
 from .printed import Final
 from .program import Program
@@ -62,6 +62,7 @@ class Asked:
 
     program: Program
     case: CaseText
+    most_events: int = MOST_EVENTS
 
     def finals(self, messages: List[Message]) -> Dict[str, Final]:
         """What becomes of each device, where the trace has these messages alone."""
@@ -180,31 +181,33 @@ class Probe:
         return iter(sorted(calls, key=lambda it: self.device.effects[it[0]][it[1] - 1] == NOTICE))
 
 
-def first_wrong(asked: Asked, device: Device) -> Optional[int]:
-    """The first message whose guess is wrong, of those that have one; None where all are right."""
-    known, probe = len(device.counts) - 1, Probe(device)
-    for number in range(1, known + 1):
+def first_wrong(asked: Asked, device: Device) -> Tuple[Optional[int], int]:
+    """The first message whose guess is wrong, None where all are right, of as many messages as a schedule can show; and how many these are."""
+    probe, shown = Probe(device), 0
+    for number in range(1, len(device.counts)):
         probe.message(number)
-    if len(probe.events) > MOST_EVENTS:
-        raise BadInput(f"device {device.imsi} has too many messages: what each of them makes takes more events than a case text may have")
-    answers = asked.answers(device.messages[:known], probe.events)
-    for number, expected, answer in zip(probe.of_message, probe.expected, answers):
+        if len(probe.events) > asked.most_events:
+            break
+        shown = number
+    events = probe.events[: asked.most_events]
+    for number, expected, answer in zip(probe.of_message, probe.expected, asked.answers(device.messages[: len(device.counts) - 1], events)):
         if answer != expected:
-            return number
-    return None
+            return number, shown
+    return None, shown
+
+
+def _next(asked: Asked, device: Device) -> Counts:
+    """The counts after the message behind those whose counts are there."""
+    return counts_in(asked.finals(device.messages[: len(device.counts)])[device.imsi])
 
 
 def _ask(asked: Asked, device: Device) -> None:
     """Asks for the counts after the next message. Where those before it were guessed wrongly, it goes back to the first that was."""
-    number = len(device.counts)
-    before = counts_in(asked.finals(device.messages[: number - 1])[device.imsi])
+    before = counts_in(asked.finals(device.messages[: len(device.counts) - 1])[device.imsi])
     if before != device.counts[-1]:
-        wrong = first_wrong(asked, device)
-        assert wrong is not None
-        del device.counts[wrong:]
-        _ask(asked, device)
-        return
-    device.counts.append(counts_in(asked.finals(device.messages[:number])[device.imsi]))
+        wrong, _ = first_wrong(asked, device)
+        del device.counts[wrong or len(device.counts) - 1 :]
+    device.counts.append(_next(asked, device))
 
 
 def _follow(asked: Asked, device: Device, seen: Seen, progress: Progress) -> None:
@@ -215,17 +218,21 @@ def _follow(asked: Asked, device: Device, seen: Seen, progress: Progress) -> Non
             if not seen.guesses(device):
                 _ask(asked, device)
                 seen.learn(device, len(device.counts) - 1)
-        wrong = first_wrong(asked, device)
+        wrong, shown = first_wrong(asked, device)
         if wrong is None:
-            return
+            break
         del device.counts[wrong:]
         seen.forget(device, wrong)
+    # of more messages than a schedule can show each is asked for
+    del device.counts[shown + 1 :]
+    while len(device.counts) <= len(device.messages):
+        progress.at(len(device.counts), len(device.messages))
+        device.counts.append(_next(asked, device))
 
 
-def counts_of(program: Program, case: CaseText, messages: Dict[int, List[Message]], finals: Dict[int, Final], progress: Progress) -> Dict[int, List[Counts]]:
+def counts_of(asked: Asked, messages: Dict[int, List[Message]], finals: Dict[int, Final], progress: Progress) -> Dict[int, List[Counts]]:
     """Of each device that has messages the counts after none of them, after one, and so on."""
-    asked = Asked(program, case)
-    devices = {it.device: Device.of(it.imsi, messages[it.device], finals[it.device]) for it in case.subscribers if it.device in messages}
+    devices = {it.device: Device.of(it.imsi, messages[it.device], finals[it.device]) for it in asked.case.subscribers if it.device in messages}
     most = min(SHORT, max((len(it) for it in messages.values()), default=0))
     for number in range(1, most + 1):
         progress.at(number, most)

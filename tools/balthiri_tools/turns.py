@@ -10,7 +10,7 @@ from typing import Dict, List
 
 from .case_text import CaseText, TraceLine
 from .command import BadInput, Progress
-from .counts import Counts, Message, counts_of
+from .counts import Asked, Counts, Message, counts_of
 from .messages import identity_of
 from .printed import Down, Final, Printed
 from .program import Program
@@ -87,5 +87,5 @@ def turns_of(program: Program, case: CaseText, printed: Printed, progress: Progr
     by_device: Dict[int, List[Message]] = {}
     for it in messages:
         by_device.setdefault(it.device, []).append(it)
-    counts = counts_of(program, case, by_device, finals, progress)
+    counts = counts_of(Asked(program, case), by_device, finals, progress)
     return [_turn(it, finals[it.device], *counts[it.device][it.number - 1 : it.number + 1]) for it in messages]

@@ -3,8 +3,8 @@
 import unittest
 from typing import Callable, Dict, List, Optional, Tuple
 
-from balthiri_tools.case_text import CaseText, Subscriber, TraceLine, read_case
-from balthiri_tools.counts import SHORT, Counts, Message, counts_of
+from balthiri_tools.case_text import MOST_EVENTS, CaseText, Subscriber, TraceLine, read_case
+from balthiri_tools.counts import SHORT, Asked, Counts, Message, counts_of
 from balthiri_tools.printed import Down, Final, Printed
 from crafted import DOWN, UP
 from support import Quiet
@@ -141,7 +141,7 @@ def rule_of_the_tenth(kinds: List[int]) -> List[List[Effect]]:
 
 
 class CountsOfDevices(unittest.TestCase):
-    def check(self, rule: Rule, kinds: Dict[int, List[int]]) -> int:
+    def check(self, rule: Rule, kinds: Dict[int, List[int]], most_events: int = MOST_EVENTS) -> int:
         """Checks what is found against the rule, and returns how often the program was asked."""
         program = Played(rule)
         trace = [(device, kind) for at in range(max(map(len, kinds.values()))) for device, found in kinds.items() for kind in found[at : at + 1]]
@@ -151,7 +151,7 @@ class CountsOfDevices(unittest.TestCase):
         for line in case.trace:
             messages[line.station].append(Message(line.station, len(messages[line.station]) + 1, line))
         finals = dict(zip(kinds, program.finals(case)))
-        found = counts_of(program, case, messages, finals, Quiet())  # type: ignore[arg-type]
+        found = counts_of(Asked(program, case, most_events), messages, finals, Quiet())  # type: ignore[arg-type]
         for device, all_kinds in kinds.items():
             expected = [Counts()]
             for at in range(len(all_kinds)):
@@ -174,3 +174,8 @@ class CountsOfDevices(unittest.TestCase):
     def test_wrong_guesses_are_found(self) -> None:
         for number in (100, 131):
             self.check(rule_of_the_tenth, {1: ([0, 1, 2, 3, 4, 5, 5, 2] * 20)[:number], 2: [2, 5] * 30})
+
+    def test_beyond_what_a_schedule_can_show_each_message_is_asked_for(self) -> None:
+        kinds = {1: [0, 1, 2, 3, 4, 5] * 10}
+        self.assertGreater(self.check(plain_rule, kinds, most_events=300), SHORT + 20)
+        self.check(rule_of_the_tenth, kinds, most_events=300)
