@@ -63,7 +63,7 @@ class _Drawing:
         """An arrow from left to right or back: dotted while on its way, with a cross where it fails."""
         is_to_right = to_x > x
         ends = to_x if form is not Form.FAILS else to_x + (-8 if is_to_right else 8)
-        self.line(x, y, ends, y, colour, "2 4" if form is Form.ON_ITS_WAY else "")
+        self.line(x, y, ends, y, colour, "4 4" if form is Form.ON_ITS_WAY else "")
         if form is Form.FAILS:
             self.cross(ends, y, colour)
         else:
