@@ -1,0 +1,178 @@
+//! The octets of what goes down, worked out by hand from TS 36.413 and TS 24.301. No two like numbers of a message are the same.
+ghost use Rattle.std.specs.Prelude.{◌^◌, ◌<◌, IfOk};
+ghost use Rattle.device_types.specs.Cause.{IsCauseCode};
+ghost use Rattle.device_types.specs.Down.{IsDown};
+ghost use Rattle.device_types.specs.Keys.{IsKey};
+ghost use Rattle.device_types.specs.Subscriber.{IsSubscriber};
+
+use device_types::{Accept, CauseCode, Down, Key, NasOut, Subscriber, TryCopy};
+use entry_edge::down_bytes;
+use std::alloc::Global;
+use std::test::Fail;
+use subs_table::read_row;
+
+/// The row of the device, which is the second.
+const ROW: &str =
+    r#"{"imsi":"208930000000009","tmsi":23,"rand":"000102030405060708090a0b0c0d0e0f","autn":"101112131415161718191a1b1c1d1e1f","res":"a0a1a2a3","key":"202122232425262728292a2b2c2d2e2f303132333435363738393a3b3c3d3e3f","apn":"m2m","ip":"0a2d0001","sgw":"c0a80001","teid":4,"ambr_dl":6,"ambr_ul":8,"forbidden":[]}"#;
+
+/// What goes down, and its octets: NAS messages; contexts that are set up, with an ATTACH ACCEPT and without one; releases, for a root
+/// of the NAS causes and for causes behind the extension marks of the radio network's and of NAS. Those of the second, third and last
+/// line go to eNB UE S1AP ID 197,637, the others to 7.
+const DOWNS: &str = "\
+AUTHENTICATION REJECT: 000b4016000003000000020002000800020007001a0003020754
+TRACKING AREA UPDATE REJECT: 000b40190000030000000200020008000480030405001a000403074b0c
+set up, accepted: 000900808100000600000002000200080004800304050042000a18773594006011e1a30000180031000034002c450009200f80c0a80002000001021d074201e0060002f839000300105205c1010904036d326d05010a2d0009006b00051c000c000000490020202122232425262728292a2b2c2d2e2f303132333435363738393a3b3c3d3e3f
+set up: 0009005f0000060000000200020008000200070042000800058002540be40000180013000034000e050009200f80c0a8000300000405006b000518000e0000004900200000000000000000000000000000000000000000000000000000000000000000
+released, root: 0017001000000200630004000200070002400122
+released, extended: 001700110000020063000400020007000240020850
+released, last: 0017001300000200630006000280030405000240022bf0
+";
+
+/// An eNB UE S1AP ID of one octet.
+const SMALL: u32 = 7;
+
+/// One of three octets.
+const LARGE: u32 = 0x03_0405;
+
+/// A release.
+fn released(enb: u32, cause: CauseCode) -> Down
+    requires enb { enb < 2 ^ 24 }
+    requires cause { IsCauseCode cause }
+    ensures { IsDown result }
+{
+    Down::Release {
+        station: 3,
+        enb,
+        cause,
+    }
+}
+
+/// The key of a row.
+#[tactic(auto, using(crate::proofs::Keys::full_is_key))]
+fn key_of(row: &Subscriber) -> Result<Key, Fail>
+    requires { IsSubscriber row.now }
+    ensures { IfOk result IsKey }
+{
+    Ok(Key::new(row.key.copy()?))
+}
+
+/// The context of an attach.
+fn set_up_and_accepted(row: &Subscriber) -> Result<Down, Fail>
+    requires { IsSubscriber row.now }
+    ensures { IfOk result IsDown }
+{
+    Ok(Down::Setup {
+        station: 3,
+        enb: LARGE,
+        dl: 2_000_000_000,
+        ul: 300_000_000,
+        sgw: 0xc0a8_0002,
+        teid: 0x0102,
+        eea: 0xf0,
+        eia: 0x60,
+        key: key_of(row)?,
+        accept: Accept::Yes {
+            plmn: 0x02_f839,
+            tac: 3,
+            pti: 5,
+            ip: 0x0a2d_0009,
+        },
+    })
+}
+
+/// The context of a service, with the largest rate that there is.
+fn set_up(alloc: Global) -> Down
+    ensures { IsDown result }
+{
+    let key = Key::zeros(alloc);
+    // That each octet is below 256 is a clause of `octets`.
+    let _count = key.octets().len();
+    Down::Setup {
+        station: 3,
+        enb: SMALL,
+        dl: 5,
+        ul: 10_000_000_000,
+        sgw: 0xc0a8_0003,
+        teid: 0x0405,
+        eea: 0xe0,
+        eia: 0x70,
+        key,
+        accept: Accept::No,
+    }
+}
+
+/// Tells the octets of a message to the device of the row.
+fn tell(
+    alloc: Global,
+    text: &mut String,
+    row: &Subscriber,
+    name: &str,
+    down: &Down,
+) -> Result<(), Fail>
+    requires row { IsSubscriber row.now }
+    requires down { IsDown down.now }
+{
+    let octets = down_bytes(alloc, row, down)?;
+    let digits = hex::encode(alloc, octets.octets())?;
+    writeln!(text, "{name}: {digits}")?;
+    Ok(())
+}
+
+/// Tells NAS messages.
+fn tell_messages(alloc: Global, text: &mut String, row: &Subscriber) -> Result<(), Fail>
+    requires { IsSubscriber row.now }
+{
+    let (station, enb) = (3, SMALL);
+    let nas = NasOut::AuthReject;
+    let down = Down::Nas { station, enb, nas };
+    tell(alloc, text, row, "AUTHENTICATION REJECT", &down)?;
+    let enb = LARGE;
+    let nas = NasOut::AreaReject { cause: 12 };
+    let down = Down::Nas { station, enb, nas };
+    tell(alloc, text, row, "TRACKING AREA UPDATE REJECT", &down)
+}
+
+/// Tells contexts that are set up.
+fn tell_setups(alloc: Global, text: &mut String, row: &Subscriber) -> Result<(), Fail>
+    requires { IsSubscriber row.now }
+{
+    let down = set_up_and_accepted(row)?;
+    tell(alloc, text, row, "set up, accepted", &down)?;
+    tell(alloc, text, row, "set up", &set_up(alloc))
+}
+
+/// A cause.
+fn cause(group: u8, extended: bool, index: u8) -> CauseCode
+    ensures { result ≡ record { group = group; extended = extended; index = index } }
+{
+    CauseCode {
+        group,
+        extended,
+        index,
+    }
+}
+
+/// Tells releases.
+#[tactic(auto, unfolding(device_types::specs::Cause::cause_roots))]
+fn tell_releases(alloc: Global, text: &mut String, row: &Subscriber) -> Result<(), Fail>
+    requires { IsSubscriber row.now }
+{
+    let down = released(SMALL, cause(2, false, 1));
+    tell(alloc, text, row, "released, root", &down)?;
+    let down = released(SMALL, cause(0, true, 5));
+    tell(alloc, text, row, "released, extended", &down)?;
+    let down = released(LARGE, cause(2, true, 63));
+    tell(alloc, text, row, "released, last", &down)
+}
+
+#[test]
+fn downs_have_their_octets(rt: HostRuntime) -> Result<(), Fail> {
+    let alloc = rt.alloc();
+    let row = read_row(alloc, ROW.as_bytes(), 2)?;
+    let mut text = String::new(alloc);
+    tell_messages(alloc, &mut text, &row)?;
+    tell_setups(alloc, &mut text, &row)?;
+    tell_releases(alloc, &mut text, &row)?;
+    assert_eq!(rt; text.as_str(), DOWNS);
+    Ok(())
+}

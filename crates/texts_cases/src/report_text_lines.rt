@@ -1,0 +1,216 @@
+//! Lines of texts: what `show` prints of each message, the session of a device in each stage, and statuses, by hand.
+ghost use Rattle.std.specs.Prelude.{◌≡◌, [], length};
+
+use crate::report_text_calls::FIRST;
+use case_form::TraceLine;
+use device_types::*;
+use echo_base::Status;
+use report_text::{final_text, show_text, status_line};
+use std::alloc::Global;
+use std::str;
+use std::test::Fail;
+use subs_table::{SubsTable, read_row};
+
+/// Texts of a trace, whose first line is line 7.
+const TRACE: &str = "\
+2017001400000300004002000100084002000103E74001AA
+2017000f00000200004002000100084002000100
+0g
+000c403e000005000800020007001a00161507417108298039000000001002e06000040205d011004300060002f8390102006440080000f110000000100086400130
+000d4035000005000000020001000800020007001a000c0b075308a0a1a2a3a4a5a6a7006440080000f11000000010004340060002f8390102
+000b4017000003000000020001000800020007001a000403074e0a
+0009005f0000060000000200020008000200070042000800058002540be40000180013000034000e050009200f80c0a8000300000405006b000518000e0000004900200000000000000000000000000000000000000000000000000000000000000000
+200900220000030000400200010008400200070033400f000032400a0a1fc0a8000200000002
+40090015000003000040020001000840020007000240020280
+00124015000003000000020001000800020007000240020850
+0017001000000200630004000100070002400122
+2017000f000002000040020001000840020007
+00164016000003000000020001000800020007004a4003020102
+";
+
+/// What they are: a message with an IE that is passed over, two that are refused, and one of each message.
+const SHOWN: &str = "\
+line 7 UEContextReleaseComplete 2017000f000002000040020001000840020001
+line 8 refused 13 TrailingBytes at 19
+line 9 refused 29 BadHex
+line 10 InitialUEMessage 000c403e000005000800020007001a00161507417108298039000000001002e06000040205d011004300060002f8390102006440080000f110000000100086400130
+line 11 UplinkNASTransport 000d4035000005000000020001000800020007001a000c0b075308a0a1a2a3a4a5a6a7006440080000f11000000010004340060002f8390102
+line 12 DownlinkNASTransport 000b4017000003000000020001000800020007001a000403074e0a
+line 13 InitialContextSetupRequest 0009005f0000060000000200020008000200070042000800058002540be40000180013000034000e050009200f80c0a8000300000405006b000518000e0000004900200000000000000000000000000000000000000000000000000000000000000000
+line 14 InitialContextSetupResponse 200900220000030000400200010008400200070033400f000032400a0a1fc0a8000200000002
+line 15 InitialContextSetupFailure 40090015000003000040020001000840020007000240020280
+line 16 UEContextReleaseRequest 00124015000003000000020001000800020007000240020850
+line 17 UEContextReleaseCommand 0017001000000200630004000100070002400122
+line 18 UEContextReleaseComplete 2017000f000002000040020001000840020007
+line 19 UECapabilityInfoIndication 00164016000003000000020001000800020007004a4003020102
+";
+
+/// The line of a trace with that text.
+fn line(alloc: Global, line: u32, text: &str) -> Result<TraceLine, Fail> {
+    Ok(TraceLine {
+        line,
+        station: 1,
+        text: Octets::from(Vec::from_slice(alloc, text.as_bytes())?),
+    })
+}
+
+/// The lines of the trace.
+fn trace(alloc: Global) -> Result<Vec<TraceLine>, Fail> {
+    let mut trace = Vec::new(alloc);
+    for (number, text) in (7_u32..).zip(TRACE.lines()) {
+        trace.push(line(alloc, number, text)?)?;
+    }
+    Ok(trace)
+}
+
+#[test]
+fn lines_are_shown(rt: HostRuntime) -> Result<(), Fail> {
+    let alloc = rt.alloc();
+    let trace = trace(alloc)?;
+    let text = show_text(alloc, &trace)?;
+    assert_eq!(rt; str::from_utf8(text.octets())?, SHOWN);
+    Ok(())
+}
+
+/// The stages, in the order of their lines.
+const STAGES: [Stage; 16] = [
+    Stage::Detached,
+    Stage::AwaitVectors,
+    Stage::Authenticating,
+    Stage::Securing,
+    Stage::AwaitLocation,
+    Stage::AwaitCreate,
+    Stage::Accepting,
+    Stage::AcceptingContext,
+    Stage::AcceptingDone,
+    Stage::AwaitModify,
+    Stage::Connecting,
+    Stage::Connected,
+    Stage::AwaitRelease,
+    Stage::Releasing,
+    Stage::Idle,
+    Stage::AwaitDelete,
+];
+
+/// The line of a session in each stage.
+const SESSIONS: &str = "\
+session detached link off area 000000 0 bearer none radio 0
+session await-vectors link off area 000000 0 bearer none radio 0
+session authenticating link off area 000000 0 bearer none radio 0
+session securing link off area 000000 0 bearer none radio 0
+session await-location link off area 000000 0 bearer none radio 0
+session await-create link off area 000000 0 bearer none radio 0
+session accepting link off area 000000 0 bearer none radio 0
+session accepting-context link off area 000000 0 bearer none radio 0
+session accepting-done link off area 000000 0 bearer none radio 0
+session await-modify link off area 000000 0 bearer none radio 0
+session connecting link off area 000000 0 bearer none radio 0
+session connected link off area 000000 0 bearer none radio 0
+session await-release link off area 000000 0 bearer none radio 0
+session releasing link off area 000000 0 bearer none radio 0
+session idle link off area 000000 0 bearer none radio 0
+session await-delete link off area 000000 0 bearer none radio 0
+";
+
+/// What becomes of a device that sends nothing, but for its stage.
+fn end_in(alloc: Global, stage: Stage) -> DeviceEnd
+    ensures { result.downs ≡ [] }
+{
+    let mut session = Session::opening(alloc);
+    session.stage = stage;
+    DeviceEnd {
+        messages: 0,
+        steps: 0,
+        downs: Downs::new(alloc),
+        gateway: GwCalls::new(alloc),
+        subscriber: SubCalls::new(alloc),
+        session,
+    }
+}
+
+/// Tells the line of a session in that stage.
+fn tell_stage(alloc: Global, text: &mut String, table: &SubsTable, stage: Stage) -> Result<(), Fail>
+    requires { length table.now ≡ 1 }
+{
+    let mut finals = Finals::new(alloc);
+    finals.push(end_in(alloc, stage))?;
+    let told = final_text(alloc, table, &[], &finals)?;
+    let (_, line) = str::from_utf8(told.octets())?
+        .split_once('\n')
+        .ok_or("no session")?;
+    text.push_str(line)?;
+    Ok(())
+}
+
+/// Tells the line of a session in each stage.
+fn tell_stages(alloc: Global, text: &mut String, table: &SubsTable) -> Result<(), Fail>
+    requires { length table.now ≡ 1 }
+{
+    for stage in STAGES {
+        tell_stage(alloc, text, table, stage)?;
+    }
+    Ok(())
+}
+
+#[test]
+fn a_line_a_stage(rt: HostRuntime) -> Result<(), Fail> {
+    let alloc = rt.alloc();
+    let mut table = SubsTable::new(alloc);
+    table.add(read_row(alloc, FIRST.as_bytes(), 1)?)?;
+    let mut text = String::new(alloc);
+    tell_stages(alloc, &mut text, &table)?;
+    assert_eq!(rt; text.as_str(), SESSIONS);
+    Ok(())
+}
+
+/// Statuses; the names of 6, 19 and 22 are TooLong, BadJson and RepeatedImsi, and no reason has number 200.
+const STATUSES: [Status; 9] = [
+    Status::Done,
+    Status::Usage,
+    Status::CaseRefused { number: 6, line: 0 },
+    Status::CaseRefused {
+        number: 19,
+        line: 2,
+    },
+    Status::CaseRefused {
+        number: 22,
+        line: 3,
+    },
+    Status::CaseRefused {
+        number: 200,
+        line: 4,
+    },
+    Status::ReadFault,
+    Status::WriteFault,
+    Status::OutOfMemory,
+];
+
+/// Their lines.
+const STATUS_LINES: &str = "\
+echo: done
+echo: usage
+echo: case refused 6 TooLong line 0
+echo: case refused 19 BadJson line 2
+echo: case refused 22 RepeatedImsi line 3
+echo: case refused 200 line 4
+echo: read fault
+echo: write fault
+echo: out of memory
+";
+
+/// Tells the line of each status.
+fn tell_statuses(alloc: Global, text: &mut String) -> Result<(), Fail> {
+    for status in STATUSES {
+        let line = status_line(alloc, &status)?;
+        text.push_str(str::from_utf8(line.octets())?)?;
+    }
+    Ok(())
+}
+
+#[test]
+fn lines_of_statuses(rt: HostRuntime) -> Result<(), Fail> {
+    let mut text = String::new(rt.alloc());
+    tell_statuses(rt.alloc(), &mut text)?;
+    assert_eq!(rt; text.as_str(), STATUS_LINES);
+    Ok(())
+}
