@@ -41,6 +41,15 @@ pub const UNSPECIFIED: CauseCode = CauseCode {
     index: 3,
 };
 
+/// The EMM cause "UE identity cannot be derived by the network" (3GPP TS 24.301, 9.9.3.9).
+pub const IDENTITY_NOT_DERIVED: u8 = 9;
+
+/// The EMM cause "implicitly detached".
+pub const IMPLICITLY_DETACHED: u8 = 10;
+
+/// The EMM cause "tracking area not allowed".
+pub const AREA_NOT_ALLOWED: u8 = 12;
+
 /// A NAS message to a device, by the S1 connection to this base station, where its eNB-UE-S1AP-ID is `enb`.
 pub fn nas_to(station: u16, enb: u32, nas: NasOut) -> Effect
     ensures { result ≡ nas_to station enb nas }
