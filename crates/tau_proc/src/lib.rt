@@ -1,13 +1,18 @@
 //! The tracking area update (3GPP TS 23.401, 5.3.3).
 #![tactic(auto)]
 
-ghost use Rattle.std.specs.Prelude.{◌≡◌, IfOk, true, false};
+ghost use Rattle.std.specs.Prelude.{◌≡◌, ◌∷◌, [], IfOk, true, false};
+ghost use Rattle.device_types.specs.Acts.{run, sets, tells, tells_to, moves_connection, frees_bearers, normal_release};
 ghost use Rattle.device_types.specs.AreaUpdate.{area_message};
 ghost use Rattle.device_types.specs.Rule.{fitting};
 ghost use Rattle.device_types.specs.StepTable.{area_rules};
 ghost use Rattle.device_types.specs.declared.message.Body.TheVariants as bodies;
+ghost use Rattle.device_types.specs.declared.nas_out.NasOut.TheVariants.{AreaReject, AreaAccept};
 
-use bearer_proc::{NORMAL_RELEASE, behind, free_link, move_link, nas_message, nas_to, with_effect};
+use bearer_proc::{
+    AREA_NOT_ALLOWED, IDENTITY_NOT_DERIVED, NORMAL_RELEASE, behind, free_link, move_link,
+    nas_message, nas_to, with_effect,
+};
 use device_types::{Body, Input, Message, NasOut, Session, Stage, Step, Subscriber, TryCopy};
 use std::alloc::AllocError;
 
@@ -55,25 +60,60 @@ fn first_update(
     ensures { IfOk result (λ step. step ≡ fitting (area_message row.now session.now message.now (bodies.Area true plmn tac)) session.now) }
 {
     if session.is_held() {
-        let Step {
-            mut session,
-            mut effects,
-        } = move_link(session.copy()?, message.station, message.enb)?;
         if row.is_forbidden(tac) {
-            effects.push(nas_message(&session, NasOut::AreaReject { cause: 12 }))?;
-            return Ok(Some(behind(effects, free_link(session, NORMAL_RELEASE)?)?));
+            return Ok(Some(reject_idle(session, message)?));
         }
-        session.plmn = plmn;
-        session.tac = tac;
-        effects.push(nas_message(&session, NasOut::AreaAccept))?;
-        return Ok(Some(behind(effects, free_link(session, NORMAL_RELEASE)?)?));
+        return Ok(Some(accept_idle(session, message, plmn, tac)?));
     }
     if session.is_settled() {
-        let reject = NasOut::AreaReject { cause: 9 };
-        let effect = nas_to(message.station, message.enb, reject);
-        return Ok(Some(with_effect(session.copy()?, effect)?));
+        return Ok(Some(reject_detached(session, message)?));
     }
     Ok(None)
+}
+
+/// The area of a device that was idle is one where it is not served.
+fn reject_idle(session: &Session, message: &Message) -> Result<Step, AllocError>
+    ensures { IfOk result (λ step. step ≡ run (moves_connection message.now.station message.now.enb ∷ tells (AreaReject 12) ∷ frees_bearers normal_release ∷ []) session.now) }
+{
+    let Step {
+        session,
+        mut effects,
+    } = move_link(session.copy()?, message.station, message.enb)?;
+    let reject = NasOut::AreaReject {
+        cause: AREA_NOT_ALLOWED,
+    };
+    effects.push(nas_message(&session, reject))?;
+    behind(effects, free_link(session, NORMAL_RELEASE)?)
+}
+
+/// The area of a device that was idle is taken.
+fn accept_idle(
+    session: &Session,
+    message: &Message,
+    plmn: u32,
+    tac: u16,
+) -> Result<Step, AllocError>
+    ensures { IfOk result (λ step. step ≡ run (moves_connection message.now.station message.now.enb ∷ sets (λ t. record t { plmn = plmn; tac = tac }) ∷ tells AreaAccept ∷ frees_bearers normal_release ∷ []) session.now) }
+{
+    let Step {
+        mut session,
+        mut effects,
+    } = move_link(session.copy()?, message.station, message.enb)?;
+    session.plmn = plmn;
+    session.tac = tac;
+    effects.push(nas_message(&session, NasOut::AreaAccept))?;
+    behind(effects, free_link(session, NORMAL_RELEASE)?)
+}
+
+/// The device is not registered: its identity is of no use here.
+fn reject_detached(session: &Session, message: &Message) -> Result<Step, AllocError>
+    ensures { IfOk result (λ step. step ≡ run (tells_to message.now.station message.now.enb (AreaReject 9) ∷ []) session.now) }
+{
+    let reject = NasOut::AreaReject {
+        cause: IDENTITY_NOT_DERIVED,
+    };
+    let effect = nas_to(message.station, message.enb, reject);
+    with_effect(session.copy()?, effect)
 }
 
 /// An update of a device that is connected.
@@ -89,13 +129,28 @@ fn later_update(
     if !(session.is_here(message) && session.is_at(Stage::Connected)) {
         return Ok(None);
     }
-    let mut session = session.copy()?;
     if row.is_forbidden(tac) {
-        let effect = nas_message(&session, NasOut::AreaReject { cause: 12 });
-        return Ok(Some(with_effect(session, effect)?));
+        return Ok(Some(reject_here(session)?));
     }
-    session.plmn = plmn;
-    session.tac = tac;
-    let effect = nas_message(&session, NasOut::AreaAccept);
-    Ok(Some(with_effect(session, effect)?))
+    Ok(Some(accept_here(session, plmn, tac)?))
+}
+
+/// The area of a connected device is one where it is not served.
+fn reject_here(session: &Session) -> Result<Step, AllocError>
+    ensures { IfOk result (λ step. step ≡ run (tells (AreaReject 12) ∷ []) session.now) }
+{
+    let reject = NasOut::AreaReject {
+        cause: AREA_NOT_ALLOWED,
+    };
+    with_effect(session.copy()?, nas_message(session, reject))
+}
+
+/// The area of a connected device is taken.
+fn accept_here(session: &Session, plmn: u32, tac: u16) -> Result<Step, AllocError>
+    ensures { IfOk result (λ step. step ≡ run (sets (λ t. record t { plmn = plmn; tac = tac }) ∷ tells AreaAccept ∷ []) session.now) }
+{
+    let mut next = session.copy()?;
+    next.plmn = plmn;
+    next.tac = tac;
+    with_effect(next, nas_message(session, NasOut::AreaAccept))
 }
