@@ -1,28 +1,28 @@
 //! The service request, and the release of the S1 connection (3GPP TS 23.401, 5.3.4.1 and 5.3.5).
 #![tactic(auto)]
 
-ghost use Rattle.std.specs.Prelude.{◌≡◌, ◌^◌, ◌-◌, min, length, IfOk};
+ghost use Rattle.std.specs.Prelude.{◌≡◌, ◌^◌, ◌-◌, ◌∷◌, [], min, length, IfOk};
+ghost use Rattle.device_types.specs.Acts.{run, enters, tells_to, sets_up, moves_connection};
 ghost use Rattle.device_types.specs.Rule.{fitting};
 ghost use Rattle.device_types.specs.Service.{service_message, service_answer};
 ghost use Rattle.device_types.specs.StepTable.{service_rules};
+ghost use Rattle.device_types.specs.declared.down.Accept.TheVariants.{No};
 ghost use Rattle.device_types.specs.declared.message.Body.TheVariants as bodies;
+ghost use Rattle.device_types.specs.declared.nas_out.NasOut.TheVariants.{ServiceReject};
+ghost use Rattle.device_types.specs.declared.session.Stage.TheVariants.{Connecting};
 
 use bearer_proc::{
-    UNSPECIFIED, context_setup, free_link, move_link, nas_to, release_context, with_effect,
-    without_effect,
+    IMPLICITLY_DETACHED, UNSPECIFIED, context_setup, free_link, move_link, nas_to, release_context,
+    with_effect, without_effect,
 };
 use device_types::{
-    Accept, Answer, Bearer, Body, Effect, GwCall, Input, Link, Message, NasOut, Octets, Session,
-    Stage, Step, Subscriber, TryCopy,
+    Accept, Answer, Bearer, Body, CauseCode, Effect, GwCall, Input, Link, Message, NasOut, Octets,
+    Session, Stage, Step, TryCopy,
 };
 use std::alloc::AllocError;
 
 /// The step of the service request and of the release: Some exactly where one of their rows fits, and then the step of that row.
-pub fn service_step(
-    _row: &Subscriber,
-    session: &Session,
-    input: &Input,
-) -> Result<Option<Step>, AllocError>
+pub fn service_step(session: &Session, input: &Input) -> Result<Option<Step>, AllocError>
     ensures { IfOk result (λ step. step ≡ fitting (service_rules session.now input.now) session.now) }
 {
     match input {
@@ -37,20 +37,8 @@ fn on_message(session: &Session, message: &Message) -> Result<Option<Step>, Allo
     match &message.body {
         Body::Service => request(session, message),
         Body::ContextDone { addr, teid } => context_done(session, message, *addr, *teid),
-        Body::ContextFailed => {
-            if session.is_here(message) && session.is_at(Stage::Connecting) {
-                return Ok(Some(free_link(session.copy()?, UNSPECIFIED)?));
-            }
-            Ok(None)
-        }
-        Body::ReleaseAsked { cause } => {
-            if session.is_here(message)
-                && (session.is_at(Stage::Connecting) || session.is_at(Stage::Connected))
-            {
-                return Ok(Some(free_link(session.copy()?, *cause)?));
-            }
-            Ok(None)
-        }
+        Body::ContextFailed => context_failed(session, message),
+        Body::ReleaseAsked { cause } => release_asked(session, message, *cause),
         Body::Released => released(session, message),
         Body::Capability { octets } => capability(session, message, octets),
         _ => Ok(None),
@@ -62,20 +50,36 @@ fn request(session: &Session, message: &Message) -> Result<Option<Step>, AllocEr
     ensures { IfOk result (λ step. step ≡ fitting (service_message session.now message.now bodies.Service) session.now) }
 {
     if session.is_held() {
-        let Step {
-            mut session,
-            mut effects,
-        } = move_link(session.copy()?, message.station, message.enb)?;
-        effects.push(context_setup(&session, Accept::No)?)?;
-        session.stage = Stage::Connecting;
-        return Ok(Some(Step { session, effects }));
+        return Ok(Some(set_up(session, message)?));
     }
     if session.is_settled() {
-        let reject = NasOut::ServiceReject { cause: 10 };
-        let effect = nas_to(message.station, message.enb, reject);
-        return Ok(Some(with_effect(session.copy()?, effect)?));
+        return Ok(Some(reject(session, message)?));
     }
     Ok(None)
+}
+
+/// The device is registered: its context is set up on the connection of the request.
+fn set_up(session: &Session, message: &Message) -> Result<Step, AllocError>
+    ensures { IfOk result (λ step. step ≡ run (moves_connection message.now.station message.now.enb ∷ sets_up No ∷ enters Connecting ∷ []) session.now) }
+{
+    let Step {
+        mut session,
+        mut effects,
+    } = move_link(session.copy()?, message.station, message.enb)?;
+    effects.push(context_setup(&session, Accept::No)?)?;
+    session.stage = Stage::Connecting;
+    Ok(Step { session, effects })
+}
+
+/// The device is not registered.
+fn reject(session: &Session, message: &Message) -> Result<Step, AllocError>
+    ensures { IfOk result (λ step. step ≡ run (tells_to message.now.station message.now.enb (ServiceReject 10) ∷ []) session.now) }
+{
+    let reject = NasOut::ServiceReject {
+        cause: IMPLICITLY_DETACHED,
+    };
+    let effect = nas_to(message.station, message.enb, reject);
+    with_effect(session.copy()?, effect)
 }
 
 /// The base station has set up the context.
@@ -95,6 +99,32 @@ fn context_done(
     session.side_teid = teid;
     session.stage = Stage::AwaitModify;
     Ok(Some(with_effect(session, Effect::Gateway(GwCall::Modify(addr, teid)))?))
+}
+
+/// The base station could not set up the context.
+fn context_failed(session: &Session, message: &Message) -> Result<Option<Step>, AllocError>
+    ensures { IfOk result (λ step. step ≡ fitting (service_message session.now message.now bodies.ContextFailed) session.now) }
+{
+    if session.is_here(message) && session.is_at(Stage::Connecting) {
+        return Ok(Some(free_link(session.copy()?, UNSPECIFIED)?));
+    }
+    Ok(None)
+}
+
+/// The base station asks for the release.
+fn release_asked(
+    session: &Session,
+    message: &Message,
+    cause: CauseCode,
+) -> Result<Option<Step>, AllocError>
+    ensures { IfOk result (λ step. step ≡ fitting (service_message session.now message.now (bodies.ReleaseAsked cause)) session.now) }
+{
+    if session.is_here(message)
+        && (session.is_at(Stage::Connecting) || session.is_at(Stage::Connected))
+    {
+        return Ok(Some(free_link(session.copy()?, cause)?));
+    }
+    Ok(None)
 }
 
 /// The base station has released the context.
