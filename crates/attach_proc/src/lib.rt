@@ -1,20 +1,25 @@
 //! Attach (3GPP TS 23.401, 5.3.2.1).
 #![tactic(auto)]
 
-ghost use Rattle.std.specs.Prelude.{◌≡◌, IfOk};
+ghost use Rattle.std.specs.Prelude.{◌≡◌, ◌∷◌, [], IfOk, false};
+ghost use Rattle.device_types.specs.Acts.{run, sets, enters, tells, asks, moves_connection, drops_ue, normal_release, authentication_failure};
 ghost use Rattle.device_types.specs.Attach.{attach_message, attach_answer};
 ghost use Rattle.device_types.specs.Rule.{fitting};
 ghost use Rattle.device_types.specs.StepTable.{attach_rules};
+ghost use Rattle.device_types.specs.declared.effect.SubCall.TheVariants as subscriber;
 ghost use Rattle.device_types.specs.declared.input.Answer.TheVariants as answers;
 ghost use Rattle.device_types.specs.declared.message.Body.TheVariants as bodies;
+ghost use Rattle.device_types.specs.declared.nas_out.NasOut.TheVariants.{AuthReject, SecurityCommand, AttachReject};
+ghost use Rattle.device_types.specs.declared.session.Stage.TheVariants.{AwaitVectors, Securing};
+ghost use Rattle.device_types.specs.declared.subscriber.Subscriber.{Subscriber};
 
 use bearer_proc::{
-    AUTHENTICATION_FAILURE, NORMAL_RELEASE, UNSPECIFIED, behind, context_setup, drop_device,
-    move_link, nas_message, with_effect, without_effect,
+    AREA_NOT_ALLOWED, AUTHENTICATION_FAILURE, NORMAL_RELEASE, UNSPECIFIED, behind, context_setup,
+    drop_device, move_link, nas_message, with_effect, without_effect,
 };
 use device_types::{
-    Accept, Answer, Bearer, Body, Effect, Effects, GwCall, Input, Key, Message, NasOut, Octets,
-    Session, Stage, Step, SubCall, Subscriber, TryCopy,
+    Accept, Answer, Bearer, Body, CauseCode, Effect, Effects, GwCall, Input, Key, Message, NasOut,
+    Octets, Session, Stage, Step, SubCall, Subscriber, TryCopy,
 };
 use std::alloc::AllocError;
 
@@ -47,30 +52,13 @@ fn on_message(
             eia,
             pti,
         } => request(row, session, message, *plmn, *tac, *eea, *eia, *pti),
-        Body::Response { res } => response(row, session, message, res),
-        Body::Secured => secured(row, session, message),
-        Body::SecurityRefused => {
-            if session.is_here(message) && session.is_at(Stage::Securing) {
-                return Ok(Some(drop_device(session.copy()?, UNSPECIFIED)?));
-            }
-            Ok(None)
-        }
-        Body::ContextDone { addr, teid } => context_done(row, session, message, *addr, *teid),
-        Body::AttachDone => attach_done(row, session, message),
-        Body::ContextFailed => {
-            if session.is_here(message)
-                && (session.is_at(Stage::Accepting) || session.is_at(Stage::AcceptingDone))
-            {
-                return Ok(Some(drop_device(session.copy()?, UNSPECIFIED)?));
-            }
-            Ok(None)
-        }
-        Body::ReleaseAsked { cause } => {
-            if session.is_here(message) && session.is_attaching() {
-                return Ok(Some(drop_device(session.copy()?, *cause)?));
-            }
-            Ok(None)
-        }
+        Body::Response { res } => response(session, message, res),
+        Body::Secured => secured(session, message),
+        Body::SecurityRefused => security_refused(session, message),
+        Body::ContextDone { addr, teid } => context_done(session, message, *addr, *teid),
+        Body::AttachDone => attach_done(session, message),
+        Body::ContextFailed => context_failed(session, message),
+        Body::ReleaseAsked { cause } => release_asked(session, message, *cause),
         _ => Ok(None),
     }
 }
@@ -91,14 +79,43 @@ fn request(
     if !session.is_settled() {
         return Ok(None);
     }
+    if row.is_forbidden(tac) {
+        return Ok(Some(reject_area(session, message)?));
+    }
+    Ok(Some(accept_request(session, message, plmn, tac, eea, eia, pti)?))
+}
+
+/// The area is one where the device is not served.
+fn reject_area(session: &Session, message: &Message) -> Result<Step, AllocError>
+    ensures { IfOk result (λ step. step ≡ run (moves_connection message.now.station message.now.enb ∷ tells (AttachReject 12) ∷ drops_ue normal_release ∷ []) session.now) }
+{
+    let Step {
+        session,
+        mut effects,
+    } = move_link(session.copy()?, message.station, message.enb)?;
+    let reject = NasOut::AttachReject {
+        cause: AREA_NOT_ALLOWED,
+    };
+    effects.push(nas_message(&session, reject))?;
+    behind(effects, drop_device(session, NORMAL_RELEASE)?)
+}
+
+/// The request is taken: the subscriber server is asked for an authentication vector.
+fn accept_request(
+    session: &Session,
+    message: &Message,
+    plmn: u32,
+    tac: u16,
+    eea: u8,
+    eia: u8,
+    pti: u8,
+) -> Result<Step, AllocError>
+    ensures { IfOk result (λ step. step ≡ run (moves_connection message.now.station message.now.enb ∷ sets (λ t. record t { plmn = plmn; tac = tac; eea = eea; eia = eia; pti = pti; registered = false }) ∷ asks subscriber.Vectors ∷ enters AwaitVectors ∷ []) session.now) }
+{
     let Step {
         mut session,
         mut effects,
     } = move_link(session.copy()?, message.station, message.enb)?;
-    if row.is_forbidden(tac) {
-        effects.push(nas_message(&session, NasOut::AttachReject { cause: 12 }))?;
-        return Ok(Some(behind(effects, drop_device(session, NORMAL_RELEASE)?)?));
-    }
     session.plmn = plmn;
     session.tac = tac;
     session.eea = eea;
@@ -107,43 +124,50 @@ fn request(
     session.registered = false;
     session.stage = Stage::AwaitVectors;
     effects.push(Effect::Subscriber(SubCall::Vectors))?;
-    Ok(Some(Step { session, effects }))
+    Ok(Step { session, effects })
 }
 
 /// The response to the challenge.
-fn response(
-    _row: &Subscriber,
-    session: &Session,
-    message: &Message,
-    res: &Octets,
-) -> Result<Option<Step>, AllocError>
-    ensures { IfOk result (λ step. step ≡ fitting (attach_message _row.now session.now message.now (bodies.Response res.now)) session.now) }
+fn response(session: &Session, message: &Message, res: &Octets) -> Result<Option<Step>, AllocError>
+    ensures { IfOk result (λ step. (row : Subscriber) → step ≡ fitting (attach_message row session.now message.now (bodies.Response res.now)) session.now) }
 {
     if !(session.is_here(message) && session.is_at(Stage::Authenticating)) {
         return Ok(None);
     }
-    let mut next = session.copy()?;
     if res.octets() == session.res.octets() {
-        next.stage = Stage::Securing;
-        let command = NasOut::SecurityCommand {
-            eea: session.eea,
-            eia: session.eia,
-        };
-        let effect = nas_message(&next, command);
-        return Ok(Some(with_effect(next, effect)?));
+        return Ok(Some(choose_algorithms(session)?));
     }
-    let mut effects = Effects::new(next.alloc());
-    effects.push(nas_message(&next, NasOut::AuthReject))?;
-    Ok(Some(behind(effects, drop_device(next, AUTHENTICATION_FAILURE)?)?))
+    Ok(Some(reject_response(session)?))
+}
+
+/// The device is who it says: the algorithms that it can are chosen.
+fn choose_algorithms(session: &Session) -> Result<Step, AllocError>
+    ensures { IfOk result (λ step. step ≡ run (tells (SecurityCommand session.now.eea session.now.eia) ∷ enters Securing ∷ []) session.now) }
+{
+    let mut next = session.copy()?;
+    next.stage = Stage::Securing;
+    let command = NasOut::SecurityCommand {
+        eea: session.eea,
+        eia: session.eia,
+    };
+    with_effect(next, nas_message(session, command))
+}
+
+/// The device is not who it says.
+fn reject_response(session: &Session) -> Result<Step, AllocError>
+    ensures { IfOk result (λ step. step ≡ run (tells AuthReject ∷ drops_ue authentication_failure ∷ []) session.now) }
+{
+    let mut effects = Effects::new(session.alloc());
+    effects.push(nas_message(session, NasOut::AuthReject))?;
+    behind(
+        effects,
+        drop_device(session.copy()?, AUTHENTICATION_FAILURE)?,
+    )
 }
 
 /// The device has taken the algorithms.
-fn secured(
-    _row: &Subscriber,
-    session: &Session,
-    message: &Message,
-) -> Result<Option<Step>, AllocError>
-    ensures { IfOk result (λ step. step ≡ fitting (attach_message _row.now session.now message.now bodies.Secured) session.now) }
+fn secured(session: &Session, message: &Message) -> Result<Option<Step>, AllocError>
+    ensures { IfOk result (λ step. (row : Subscriber) → step ≡ fitting (attach_message row session.now message.now bodies.Secured) session.now) }
 {
     if !(session.is_here(message) && session.is_at(Stage::Securing)) {
         return Ok(None);
@@ -153,15 +177,50 @@ fn secured(
     Ok(Some(with_effect(session, Effect::Subscriber(SubCall::Location))?))
 }
 
+/// The device has refused the algorithms.
+fn security_refused(session: &Session, message: &Message) -> Result<Option<Step>, AllocError>
+    ensures { IfOk result (λ step. (row : Subscriber) → step ≡ fitting (attach_message row session.now message.now bodies.SecurityRefused) session.now) }
+{
+    if session.is_here(message) && session.is_at(Stage::Securing) {
+        return Ok(Some(drop_device(session.copy()?, UNSPECIFIED)?));
+    }
+    Ok(None)
+}
+
+/// The base station could not set up the context.
+fn context_failed(session: &Session, message: &Message) -> Result<Option<Step>, AllocError>
+    ensures { IfOk result (λ step. (row : Subscriber) → step ≡ fitting (attach_message row session.now message.now bodies.ContextFailed) session.now) }
+{
+    if session.is_here(message)
+        && (session.is_at(Stage::Accepting) || session.is_at(Stage::AcceptingDone))
+    {
+        return Ok(Some(drop_device(session.copy()?, UNSPECIFIED)?));
+    }
+    Ok(None)
+}
+
+/// The base station asks for the release.
+fn release_asked(
+    session: &Session,
+    message: &Message,
+    cause: CauseCode,
+) -> Result<Option<Step>, AllocError>
+    ensures { IfOk result (λ step. (row : Subscriber) → step ≡ fitting (attach_message row session.now message.now (bodies.ReleaseAsked cause)) session.now) }
+{
+    if session.is_here(message) && session.is_attaching() {
+        return Ok(Some(drop_device(session.copy()?, cause)?));
+    }
+    Ok(None)
+}
+
 /// The base station has set up the context.
 fn context_done(
-    _row: &Subscriber,
     session: &Session,
     message: &Message,
     addr: u32,
     teid: u32,
 ) -> Result<Option<Step>, AllocError>
-    ensures { IfOk result (λ step. step ≡ fitting (attach_message _row.now session.now message.now (bodies.ContextDone addr teid)) session.now) }
+    ensures { IfOk result (λ step. (row : Subscriber) → step ≡ fitting (attach_message row session.now message.now (bodies.ContextDone addr teid)) session.now) }
 {
     if !session.is_here(message) {
         return Ok(None);
@@ -184,12 +243,8 @@ fn context_done(
 }
 
 /// The device has accepted.
-fn attach_done(
-    _row: &Subscriber,
-    session: &Session,
-    message: &Message,
-) -> Result<Option<Step>, AllocError>
-    ensures { IfOk result (λ step. step ≡ fitting (attach_message _row.now session.now message.now bodies.AttachDone) session.now) }
+fn attach_done(session: &Session, message: &Message) -> Result<Option<Step>, AllocError>
+    ensures { IfOk result (λ step. (row : Subscriber) → step ≡ fitting (attach_message row session.now message.now bodies.AttachDone) session.now) }
 {
     if !session.is_here(message) {
         return Ok(None);
