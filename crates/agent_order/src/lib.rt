@@ -7,7 +7,6 @@ ghost use Rattle.device_types.specs.Line.{IsNumbered};
 use device_types::Message;
 use std::marker::Model;
 
-
 /// The messages of a device in order, numbered from 1 without gaps, and the number of the last one that is acknowledged, or 0.
 /// Contracts see both.
 #[derive(Debug, Drop)]
