@@ -77,21 +77,34 @@ impl<const W: u64> Window<W> {
         Taken::Acked(n)
     }
 
+    /// What message `k` to the device comes to.
+    fn down_taken(&self, k: u64) -> DownTaken
+        ensures { result ≡ down_taken self.now.downs k }
+    {
+        let last = self.accepted.items().len() as u64;
+        if k <= last {
+            return DownTaken::Repeat(k);
+        }
+        if k - last > 1 {
+            return DownTaken::Ahead(last);
+        }
+        DownTaken::Accepted(k)
+    }
+
     /// Message `k` to the device arrives. For want of memory the window stays as it was.
     pub fn take_down(&mut self, k: u64, down: Down) -> Result<DownTaken, AllocError>
         ensures value { IfOk result (λ taken. taken ≡ down_taken self.old.downs k) }
         ensures state { IfOk result (λ taken. self.new ≡ after_down self.old down taken) }
         ensures err { OnErr result (self.new ≡ self.old) }
     {
-        let last = self.accepted.items().len() as u64;
-        if k <= last {
-            return Ok(DownTaken::Repeat(k));
+        match self.down_taken(k) {
+            DownTaken::Accepted(k) => {
+                self.accepted.push(down)?;
+                Ok(DownTaken::Accepted(k))
+            }
+            DownTaken::Repeat(k) => Ok(DownTaken::Repeat(k)),
+            DownTaken::Ahead(last) => Ok(DownTaken::Ahead(last)),
         }
-        if k - last > 1 {
-            return Ok(DownTaken::Ahead(last));
-        }
-        self.accepted.push(down)?;
-        Ok(DownTaken::Accepted(k))
     }
 
     /// The line of the device. What is acknowledged was sent, and the line has it.
