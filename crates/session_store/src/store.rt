@@ -81,6 +81,21 @@ fn repeated_reply(row: &DeviceRow, asked: Asked, look: Look) -> Result<Option<Re
     }
 }
 
+/// What is seen of a row about an input: with the reply exactly where it is a repeat.
+fn seen_of(row: &DeviceRow, asked: Asked) -> Result<Seen, AllocError>
+    requires { IsAsked asked }
+    ensures ok { IfOk result (λ seen. seen ≡ seen_of row.now.journal asked) }
+    ensures told { IfOk result (λ seen. IsSome seen.reply ↔ IsRepeat seen.look) }
+{
+    let look = look_to(row, asked);
+    Ok(Seen {
+        version: row.version(),
+        session: row.session()?,
+        look,
+        reply: repeated_reply(row, asked, look)?,
+    })
+}
+
 impl<L: RowLaw> Store<L> {
     /// The store of so many devices, none of which was ever seen. It fails for want of memory alone.
     pub fn new(alloc: Global, law: L, devices: u32) -> Result<Store<L>, AllocError>
@@ -110,13 +125,7 @@ impl<L: RowLaw> Store<L> {
         ensures told { IfOk result (λ seen. IsSome seen.reply ↔ IsRepeat seen.look) }
     {
         let row = &self.rows[d.0 as usize - 1];
-        let look = look_to(row, asked);
-        Ok(Seen {
-            version: row.version(),
-            session: row.session()?,
-            look,
-            reply: repeated_reply(row, asked, look)?,
-        })
+        seen_of(row, asked)
     }
 
     /// Writes an entry, where the row of the device still has the version that was read: nothing but the journal of that row
