@@ -212,19 +212,21 @@ def _ask(asked: Asked, device: Device) -> None:
 
 def _follow(asked: Asked, device: Device, seen: Seen, progress: Progress) -> None:
     """Finds the counts of a long device behind those that are known."""
+    known = set(range(1, len(device.counts)))
     while True:
         while len(device.counts) <= len(device.messages):
             progress.at(len(device.counts), len(device.messages))
             if not seen.guesses(device):
                 _ask(asked, device)
                 seen.learn(device, len(device.counts) - 1)
+                known.add(len(device.counts) - 1)
         wrong, shown = first_wrong(asked, device)
-        if wrong is None:
+        if wrong is None or wrong in known:
             break
         del device.counts[wrong:]
         seen.forget(device, wrong)
-    # of more messages than a schedule can show each is asked for
-    del device.counts[shown + 1 :]
+    # of more messages than a schedule can show, and behind one that it does not show as it is, each is asked for
+    del device.counts[min(shown, wrong or shown) + 1 :]
     while len(device.counts) <= len(device.messages):
         progress.at(len(device.counts), len(device.messages))
         device.counts.append(_next(asked, device))

@@ -11,6 +11,7 @@ from balthiri_tools.case_text import CaseText, TraceLine, read_event
 from balthiri_tools.frames import frames_of
 from balthiri_tools.packets import PCAP_HEADER, S1AP_PAYLOAD, S1AP_PORT, Frame, crc32c, ipv4_packet, pcap_of
 from balthiri_tools.printed import Down, Printed
+from balthiri_tools.program import ECHO
 from balthiri_tools.turns import Message, Turn
 from support import DATA, EXAMPLES, PLAIN, InFolder, has_replay, needs, run, run_program, subscribers_of, told, trace_of
 
@@ -130,6 +131,21 @@ class Made(InFolder):
     def test_the_capture_of_the_examples(self) -> None:
         done = self.ran("case2pcap", EXAMPLES / "attach.txt", "-", given=ATTACH_TEXT)
         self.assertEqual(done.stdout, (EXAMPLES / "attach.pcap").read_bytes())
+
+
+@needs("program")
+class Large(InFolder):
+    """The largest cases that the program makes: some five thousand messages each way, of one device, of some, and of as many as there may be."""
+
+    def test_five_thousand_messages_each_way(self) -> None:
+        for devices, rounds in ((1, 799), (40, 19), (800, 0)):
+            words = [str(ECHO), "make", "--number=7", f"--devices={devices}", f"--rounds={rounds}", "--text"]
+            case = subprocess.run(words, stdout=subprocess.PIPE, stderr=subprocess.DEVNULL, check=True).stdout
+            text = run_program("plain", case)
+            done = self.ran("case2pcap", self.file("case", case), "-", "-o", self.folder / "made", given=text)
+            up, down = len(trace_of(case)), text.count(b"\ndown ")
+            self.assertGreater(min(up, down), 2000)
+            self.assertEqual(told(done), [f"case2pcap: {up} messages up, {down} down; left out: 0 lines of the trace that are no message of a base station"])
 
 
 @needs("program", "tshark")

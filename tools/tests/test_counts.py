@@ -1,7 +1,7 @@
 """Which message made what, of a program that only plays one: each device does what a rule of the test says."""
 
 import unittest
-from typing import Callable, Dict, List, Optional, Tuple
+from typing import Callable, Dict, List, Optional, Tuple, Type
 
 from balthiri_tools.case_text import MOST_EVENTS, CaseText, Subscriber, TraceLine, read_case
 from balthiri_tools.counts import SHORT, Asked, Counts, Message, counts_of
@@ -141,9 +141,9 @@ def rule_of_the_tenth(kinds: List[int]) -> List[List[Effect]]:
 
 
 class CountsOfDevices(unittest.TestCase):
-    def check(self, rule: Rule, kinds: Dict[int, List[int]], most_events: int = MOST_EVENTS) -> int:
+    def check(self, rule: Rule, kinds: Dict[int, List[int]], most_events: int = MOST_EVENTS, played: "Type[Played]" = Played) -> int:
         """Checks what is found against the rule, and returns how often the program was asked."""
-        program = Played(rule)
+        program = played(rule)
         trace = [(device, kind) for at in range(max(map(len, kinds.values()))) for device, found in kinds.items() for kind in found[at : at + 1]]
         case = CaseText([Subscriber(it, f"{it:015}", it) for it in kinds], [TraceLine(at, device, UP[kind].hex()) for at, (device, kind) in enumerate(trace, 9)])
         case.subscriber_lines = [b'{"imsi":"%015d","tmsi":%d}' % (it, it) for it in kinds]
@@ -179,3 +179,10 @@ class CountsOfDevices(unittest.TestCase):
         kinds = {1: [0, 1, 2, 3, 4, 5] * 10}
         self.assertGreater(self.check(plain_rule, kinds, most_events=300), SHORT + 20)
         self.check(rule_of_the_tenth, kinds, most_events=300)
+
+    def test_where_no_schedule_shows_what_is_right(self) -> None:
+        class Odd(Played):
+            def printed(self, words: List[str], octets: bytes) -> bytes:
+                return super().printed(words, octets).replace(b"event 400: ", b"event 400: void hand ")
+
+        self.check(plain_rule, {1: [0, 1, 2, 3, 4, 5] * 20}, played=Odd)
