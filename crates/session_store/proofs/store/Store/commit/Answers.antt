@@ -1,4 +1,5 @@
 use Rattle.std.proofs.Common.{◌≡◌, List, length, take, sym, subst, lit<, arith}
+use Rattle.std.proofs.lemmas.Grind.{common_steps}
 use Rattle.std.proofs.lemmas.List.{take_all}
 use Rattle.device_types.specs.declared.look.Look.TheVariants.{Ready}
 use Rattle.device_types.specs.declared.step.Entry.{Entry}
@@ -46,3 +47,7 @@ invariant_of-self g c =
 
 pub returns-clause-lawful : goal.returns-clause-lawful
 returns-clause-lawful g c = (invariant_of-self g c).lawful
+
+-- the goal that an edit turns: what has an answer is tried by that alone
+pub returns-clause-ok : goal.returns-clause-ok
+returns-clause-ok g c = grind (arith, common_steps)
