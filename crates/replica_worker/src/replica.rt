@@ -2,12 +2,13 @@
 ghost use Rattle.std.specs.Prelude.{◌≡◌, ◌↔◌, ℕ, IfOk, OnOk, OnErr, IsSome, IsSomeAnd};
 ghost use Rattle.device_types.specs.Input.{IsInput};
 ghost use Rattle.replica_worker.specs.Hands.{held_in, CanBeRead, step_at, hand_after};
+ghost use Rattle.replica_worker.specs.Replies.{reply_when};
 ghost use Rattle.replica_worker.specs.Writes.{OwnsHeld, MayWrite, IsReady, IsWritten, WritesHeld, written_reply, TookMessage};
 ghost use Rattle.session_store.specs.Rows.{Begins};
 ghost use Rattle.session_store.specs.Seen.{IsRepeat, asked_of, look_to, repeated_reply};
 
 use crate::hand::{Hand, asked_of, hand_of, into_held};
-use crate::replies::{reply_when, told_in};
+use crate::replies::{Told, reply_when, told_in};
 use device_machine::step;
 use device_types::{DeviceId, Input, Look, NoRoom, Reply, Session, Step, Subscriber};
 use session_row::Commit;
@@ -32,6 +33,14 @@ pub struct Wrote {
     pub commit: Commit,
     /// The reply to the message, where the step of a message was committed.
     pub reply: Option<Reply>,
+}
+
+/// What a write comes to that came to this, where that is told of a message.
+fn written(told: Option<Told>, commit: Commit) -> Wrote
+    ensures { result ≡ record { commit = commit; reply = reply_when told commit } }
+{
+    let reply = reply_when(told, commit);
+    Wrote { commit, reply }
 }
 
 /// A replica: it takes an input, reads the row, and writes the step that it has made. It keeps nothing between inputs, so that
@@ -79,18 +88,25 @@ impl Replica {
         &self.hand
     }
 
+    /// It holds that, and not what it held before.
+    fn hold(&mut self, hand: Hand)
+        ensures { self.new ≡ hand }
+    {
+        self.hand = hand;
+    }
+
     /// It takes an input of a device, whatever it held before. It takes no memory.
     pub fn take(&mut self, d: DeviceId, input: Input)
         ensures { self.new ≡ Hand.Taken d input }
     {
-        self.hand = Hand::Taken { d, input };
+        self.hold(Hand::Taken { d, input });
     }
 
     /// It stops, and loses what it held. It takes no memory.
     pub fn stop(&mut self)
         ensures { self.new ≡ Hand.Empty }
     {
-        self.hand = Hand::Empty;
+        self.hold(Hand::Empty);
     }
 
     /// Reads the row of the device of the input that it holds, where `row` is the device's subscriber. Where the row is ready for the
@@ -121,7 +137,7 @@ impl Replica {
         let Some((d, input)) = into_held(mem::replace(&mut self.hand, Hand::Empty)) else {
             unreachable!();
         };
-        self.hand = hand_of(d, input, seen.version, step);
+        self.hold(hand_of(d, input, seen.version, step));
         Ok(Looked {
             look: seen.look,
             reply: seen.reply,
@@ -149,12 +165,9 @@ impl Replica {
             unreachable!();
         };
         match store.commit(d, version, entry) {
-            Ok(commit) => Ok(Wrote {
-                commit,
-                reply: reply_when(told, commit),
-            }),
+            Ok(commit) => Ok(written(told, commit)),
             Err(NoRoom(entry)) => {
-                self.hand = Hand::Ready { d, version, entry };
+                self.hold(Hand::Ready { d, version, entry });
                 Err(AllocError)
             }
         }

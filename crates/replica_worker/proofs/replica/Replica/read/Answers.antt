@@ -1,5 +1,7 @@
 use Rattle.std.proofs.Common.{◌≡◌, Some, IsSomeAnd, rules, sym, subst, ap, ◌∙◌}
+use Rattle.replica_worker.specs.declared.hand.Hand.{Hand}
 use Rattle.replica_worker.specs.Hands.{held_in, CanBeRead, hand_after}
+use Rattle.replica_worker.specs.Writes.{MayWrite}
 use Rattle.replica_worker.proofs.May.{asked_in, may_read}
 use Rattle.session_store.specs.declared.asked.Seen.{Seen}
 use Rattle.session_store.specs.Seen.{repeated_reply}
@@ -24,4 +26,5 @@ returns-clause-may g c = λ owns.
     let held : held_in c.args.self.now ≡ Some (d, c.in-Some.input.now) = search rules in
     let hand : IsSomeAnd (held_in c.args.self.now) (λ h. c.hand_of.result ≡ hand_after c.args.row.now h.0 h.1 (g.S.RowStore.known store h.0.0)) = search rules in
     let can = subst (λ n. CanBeRead n (held_in c.args.self.now)) (sym c.in_ok-seen.ensures.devices) c.requires in
-    may_read (g.S.RowStore.charter store) (g.S.RowStore.devices store) (g.S.RowStore.known store) c.args.row.now (held_in c.args.self.now) d c.in-Some.input.now c.hand_of.result held can c.in_ok-seen.ensures.lawful hand owns
+    subst (λ (h : Hand). MayWrite (g.S.RowStore.charter store) (g.S.RowStore.devices store) (g.S.RowStore.known store) h) (sym c.hold.ensures)
+    (may_read (g.S.RowStore.charter store) (g.S.RowStore.devices store) (g.S.RowStore.known store) c.args.row.now (held_in c.args.self.now) d c.in-Some.input.now c.hand_of.result held can c.in_ok-seen.ensures.lawful hand owns)
