@@ -3,7 +3,9 @@ ghost use Rattle.std.specs.Prelude.{◌≡◌, ◌+◌, ◌<◌, ◌≤◌, ℕ,
 ghost use Rattle.device_types.specs.declared.event.Lane.{Lane as TheLane};
 ghost use Rattle.device_types.specs.Journal.{awaited_call, pushed_count, taken_count};
 ghost use Rattle.device_types.specs.Numbers.{IsWithin};
+ghost use Rattle.device_machine.specs.Ends.{finals_of};
 ghost use Rattle.schedule_laws.specs.Setting.{message_count};
+ghost use Rattle.link_schedule.specs.Finals.{finals_in};
 ghost use Rattle.link_schedule.specs.Settled.{journal_in, commits_in, acked_in, accepts_in, settles_in, GoesOn, Advances, IsDone, IsSettled, IsClearLane, IsClear, Pays, PaysFor, cost_to};
 ghost use Rattle.link_schedule.specs.World.{IsWorld};
 
@@ -283,6 +285,7 @@ impl World {
         ensures goes_on { GoesOn self.old self.new }
         ensures world { IsWorld self.new }
         ensures ok { OnOk result (IsSettled self.new) }
+        ensures ends { OnOk result (finals_in self.new ≡ finals_of self.new.setting.rows self.new.setting.book) }
         ensures clear { OnOk result (IsClear self.new) }
         ensures linear { OnOk result (length self.new.events ≤ length self.old.events + cost_to self.old.setting (length self.old.setting.rows)) }
     {
