@@ -65,6 +65,9 @@ le_of n m h = grind (arith, common_steps)
 pub gt_of : (n m : ℕ) → nat_le n m ≡ false → m < n
 gt_of n m h = grind (arith, common_steps)
 
+pub lt_of : (n m : ℕ) → nat_lt n m ≡ true → n < m
+lt_of n m h = grind (arith, common_steps)
+
 pub same_lane_true : (l m : Lane) → same_lane l m ≡ true → l ≡ m
 same_lane_true Down Down h = refl
 same_lane_true Gateway Gateway h = refl

@@ -3,7 +3,9 @@ pub mod EachAnswer
 pub mod Flags
 pub mod Items
 pub mod Laws
+pub mod Origins
 pub mod Promises
 pub mod Runs
 pub mod Steps
+pub mod Told
 pub mod Worked

@@ -2,6 +2,8 @@ pub mod Answer
 pub mod Counts
 pub mod Input
 pub mod Lists
+pub mod Origins
 pub mod Packets
 pub mod Promise
+pub mod Reads
 pub mod Setting

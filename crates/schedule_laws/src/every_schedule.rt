@@ -3,18 +3,21 @@
 ghost use Rattle.std.specs.Prelude.{◌≡◌, ◌≢◌, ◌↔◌, ◌≤◌, ◌<◌, ◌+◌, ◌-◌, ℕ, true, length, take, slice_get, All, Some, IsSome, IsSomeAnd};
 ghost use Rattle.device_types.specs.declared.event.Event.{Event};
 ghost use Rattle.device_types.specs.declared.event.Event.TheVariants as happens;
+ghost use Rattle.device_types.specs.declared.event.EventAnswer.{EventAnswer};
 ghost use Rattle.device_types.specs.declared.event.EventAnswer.TheVariants as told;
 ghost use Rattle.device_types.specs.declared.event.Lane.{Lane};
 ghost use Rattle.device_types.specs.Alone.{entry_of};
-ghost use Rattle.device_types.specs.Journal.{version_of, effects_of, pushed_count, taken_count, reply_of};
+ghost use Rattle.device_types.specs.Journal.{version_of, effects_of, pushed_count, taken_count, reply_of, awaited_call};
 ghost use Rattle.schedule_laws.specs.Answer.{answer, turn, history, IsEvent};
 ghost use Rattle.schedule_laws.specs.Counts.{Arrival, hand, commits, acked, accepted, settled, message_sent, reply_sent, effect_pushed, effect_received, journal};
 ghost use Rattle.schedule_laws.specs.Counts.Arrival.{TheMessage, TheAnswer};
-ghost use Rattle.schedule_laws.specs.Counts.Held.{Ready};
+ghost use Rattle.schedule_laws.specs.Counts.Held.{Nothing, Ready};
 ghost use Rattle.schedule_laws.specs.Input.{input_of};
 ghost use Rattle.schedule_laws.specs.Lists.{Begins};
+ghost use Rattle.schedule_laws.specs.Origins.{ends, IsFrom, IsReadySince};
 ghost use Rattle.schedule_laws.specs.Packets.{message_packet, reply_packet, effect_packet};
 ghost use Rattle.schedule_laws.specs.Promise.{setting, is_void, Holds, IsAsBefore};
+ghost use Rattle.schedule_laws.specs.Reads.{IsToldOfMessage, IsToldOfAnswer};
 ghost use Rattle.schedule_laws.specs.Setting.{window, row_of, messages_of, message_count, entries_to, entries_of};
 
 use device_types::{Book, Event, Subscriber};
@@ -168,4 +171,31 @@ pub fn answers_are_of_made_calls(
     ensures { let s = setting _rows.now _book.now _replicas in let turns = history s _events.now in
         (r d : ℕ) (l : Lane) (k m : ℕ) → Holds d (TheAnswer l k) (hand r turns)
         → answer s turns (happens.Read r) ≢ told.Ahead m }
+{}
+
+/// Each answer to a read comes exactly where it is said to, by what arrived, how many messages were taken, the call whose answer is
+/// awaited, and the version: no other is the answer there.
+pub fn reads_are_told(_rows: &[Subscriber], _book: &Book, _replicas: u32, _events: &[Event])
+    requires { All (IsEvent (setting _rows.now _book.now _replicas)) _events.now }
+    ensures messages { let s = setting _rows.now _book.now _replicas in let turns = history s _events.now in
+        (r d n : ℕ) (a : EventAnswer) → r ≤ _replicas → Holds d (TheMessage n) (hand r turns)
+        → (answer s turns (happens.Read r) ≡ a)
+        ↔ IsToldOfMessage (taken_count (journal s d turns)) (awaited_call (journal s d turns)) (commits d turns) n a }
+    ensures answers { let s = setting _rows.now _book.now _replicas in let turns = history s _events.now in
+        (r d : ℕ) (l : Lane) (k : ℕ) (a : EventAnswer) → r ≤ _replicas → Holds d (TheAnswer l k) (hand r turns)
+        → (answer s turns (happens.Read r) ≡ a) ↔ IsToldOfAnswer (awaited_call (journal s d turns)) (commits d turns) l k a }
+{}
+
+/// What a replica holds came with its origin, the last event that brought it anything, and is there until the replica stops or its
+/// write comes to something, committed or stale; without an origin it holds nothing. It has a step, at the version that was read,
+/// exactly where the last read behind the origin was told so.
+pub fn hands_have_origins(_rows: &[Subscriber], _book: &Book, _replicas: u32, _events: &[Event])
+    ensures held { let s = setting _rows.now _book.now _replicas in let turns = history s _events.now in
+        (r d : ℕ) (what : Arrival) → Holds d what (hand r turns) ↔ IsFrom r d what turns }
+    ensures ready { let s = setting _rows.now _book.now _replicas in let turns = history s _events.now in
+        (r d v : ℕ) (what : Arrival) → (hand r turns ≡ Ready d what v) ↔ IsReadySince r d what v turns }
+    ensures nothing { let s = setting _rows.now _book.now _replicas in let turns = history s _events.now in
+        (r : ℕ) → (hand r turns ≡ Nothing) ↔ ((d : ℕ) (what : Arrival) → IsFrom r d what turns → ⊥) }
+    ensures ended { let s = setting _rows.now _book.now _replicas in let turns = history s _events.now in
+        (r : ℕ) (e : Event) → ends r (e, answer s turns e) ≡ true → hand r (turn s turns e) ≡ Nothing }
 {}
