@@ -99,6 +99,7 @@ class Rows {
     this.reveal(at);
     this.draw();
     this.pick(this.items[at], at);
+    this.reveal(at); // what was picked may have opened beside or below
   }
 
   reveal(at) {

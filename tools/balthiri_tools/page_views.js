@@ -22,7 +22,8 @@ class Page {
   constructor(run) {
     this.run = run;
     this.device = 0;
-    this.tab = run.events.length ? "events" : "messages";
+    this.firstTab = run.events.length ? "events" : "messages";
+    this.tab = this.firstTab;
     this.kinds = new Set();
     this.find = "";
     this.details = new Details(run, this);
@@ -368,7 +369,7 @@ class Page {
     if (this.isReading) return;
     const words = new URLSearchParams();
     if (this.device) words.set("device", this.run.devices[this.device - 1].imsi);
-    if (this.tab !== "events") words.set("tab", this.tab);
+    if (this.tab !== this.firstTab) words.set("tab", this.tab);
     if (this.kinds.size) words.set("answers", [...this.kinds].join(","));
     if (this.find) words.set("find", this.find);
     if (this.pickedEvent >= 0) words.set("event", this.pickedEvent + 1);
@@ -381,7 +382,7 @@ class Page {
     this.kinds = new Set((words.get("answers") ?? "").split(",").filter((it) => this.chips.has(it)));
     this.find = (words.get("find") ?? "").toLowerCase();
     byId("find").value = this.find;
-    this.setTab(TABS.includes(words.get("tab")) ? words.get("tab") : this.tab);
+    this.setTab(TABS.includes(words.get("tab")) ? words.get("tab") : this.firstTab);
     this.setDevice(this.run.devices.find((it) => it.imsi === words.get("device"))?.device ?? 0);
     if (words.has("event")) this.goToEvent(Number(words.get("event")), false);
     this.isReading = false;

@@ -145,7 +145,7 @@ class Tool(InFolder):
         self.refused("standard input", "page", "-", "--text", "-")
         self.refused("--help", "page", case, "--replicas", "17")
         self.refused("none.txt", "page", self.folder / "none.txt", "--text", text)
-        self.refused("no program", "page", case, "--program", self.folder / "none")
+        self.refused("none", "page", case, "--program", self.folder / "none")
 
 
 @needs("program")

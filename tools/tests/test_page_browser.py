@@ -292,6 +292,17 @@ class Ladder(InBrowser):
         # taken by 1, by 2, committed by 1, stale of 2; then the answer by 1, by 2, committed by 2, and 1 keeps it
         self.assertEqual(found, ["", first, both, both, both, second, "", "", "", "", first, both, both, first, first, first])
 
+    def test_of_a_device_a_replica_is_thick_while_it_holds_what_is_of_it(self) -> None:
+        case, text = MadeRun(devices=2, messages=1, events=24).texts()
+        case = case.replace(b"take 1 2 1\n", b"take 3 2 1\n")  # replica 3 in place of 1 works for device 2
+        (self.folder / "two.txt").write_bytes(case)
+        (self.folder / "two_text.txt").write_bytes(text)
+        self.open(self.folder / "two.txt", self.folder / "two_text.txt", f"#device={imsi_of(1)}")
+        self.assertEqual(self.value("page.held[11]"), 0)  # behind the last event of device 1
+        self.assertEqual(self.value("page.held[13]"), 0)  # device 2 has sent, and replica 3 taken
+        self.value("page.setDevice(2)")
+        self.assertEqual(self.value("page.held[13]"), 4)
+
     def test_void_events_are_marked_where_they_would_have_been(self) -> None:
         self.open_example("replay_2")
         self.assertEqual(self.drawn()[:2], [("replica 1", "note void", "", "Attach request 1"), ("replica 1", "note void", "", "")])
@@ -330,7 +341,7 @@ class Details(InBrowser):
     def test_any_text_of_a_case_is_shown_as_text(self) -> None:
         name = "<img src=x onerror=alert(1)> & </script>"
         front = (EXAMPLES / "refused.txt").read_bytes().split(b"[trace]\n")[0]
-        case = front + b"[trace]\n1 </script><script>document.title='bad'</script>\n1 <!--<img/src=x/onerror=alert(1)>\n"
+        case = front + b"[trace]\n1 </script><script>document.title='bad'</script>\n1 <!--<script/></script/x<img/src=x/onerror=alert(1)>\n"
         line = front.count(b"\n") + 2
         text = f"refused {line} 29 BadHex\nrefused {line + 1} 29 BadHex\n{NEVER_SEEN}"
         (self.folder / "hostile.txt").write_bytes(case)
@@ -437,9 +448,14 @@ class Looks(InBrowser):
             self.open_example("replay_2")
             self.assertLessEqual(cast(int, self.value("document.documentElement.scrollWidth")), width)
             self.assertGreater(cast(int, self.value('document.getElementById("events").clientHeight')), 200)
+            self.open_example("replay_2", "#event=84")
+            self.assertLessEqual(cast(int, self.value("document.documentElement.scrollWidth")), width)
+            self.assertGreater(cast(int, self.value('document.getElementById("events").clientHeight')), 100)
 
     def test_all_rows_are_printed(self) -> None:
         self.open_example("replay_2")
+        self.value('document.getElementById("events").scrollTop = 2000')
+        self.browser.frame()
         self.browser.call("Emulation.setEmulatedMedia", media="print")
         self.value('dispatchEvent(new Event("beforeprint"))')
         numbers = '[...document.querySelectorAll("#events [data-at]:not([hidden]) > .number")].map((it) => it.textContent).join()'
