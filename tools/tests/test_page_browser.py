@@ -341,7 +341,7 @@ class Details(InBrowser):
     def test_any_text_of_a_case_is_shown_as_text(self) -> None:
         name = "<img src=x onerror=alert(1)> & </script>"
         front = (EXAMPLES / "refused.txt").read_bytes().split(b"[trace]\n")[0]
-        case = front + b"[trace]\n1 </script><script>document.title='bad'</script>\n1 <!--<script/></script/x<img/src=x/onerror=alert(1)>\n"
+        case = front + b"[trace]\n1 </script/><script>document.title='bad'</script>\n1 <!--<script/><img/src=x/onerror=alert(1)>\n"
         line = front.count(b"\n") + 2
         text = f"refused {line} 29 BadHex\nrefused {line + 1} 29 BadHex\n{NEVER_SEEN}"
         (self.folder / "hostile.txt").write_bytes(case)
@@ -353,7 +353,7 @@ class Details(InBrowser):
         self.assertEqual((self.text("h1"), self.text("#made-by"), self.value("document.title")), (name, name, name))
         self.assertEqual(len(self.rows("refused")), 2)
         self.value("page.refusedRows.choose(0)")
-        self.assertEqual(self.text("#details .dump"), "</script><script>document.title='bad'</script>")
+        self.assertEqual(self.text("#details .dump"), "</script/><script>document.title='bad'</script>")
         self.assertEqual(self.value('document.querySelectorAll("img").length'), 0)
 
 
@@ -423,20 +423,23 @@ class Looks(InBrowser):
     def test_dark_and_light_can_be_read(self) -> None:
         contrast = """(() => {
           const canvas = document.createElement("canvas").getContext("2d"), style = getComputedStyle(document.documentElement);
-          const light = (name) => {
-            canvas.fillStyle = style.getPropertyValue(name);
+          const light = (colour) => {
+            canvas.fillStyle = colour;
             canvas.fillRect(0, 0, 1, 1);
             const [r, g, b] = [...canvas.getImageData(0, 0, 1, 1).data].map((it) => (it / 255 <= 0.03928 ? it / 255 / 12.92 : ((it / 255 + 0.055) / 1.055) ** 2.4));
             return 0.2126 * r + 0.7152 * g + 0.0722 * b;
           };
           const ratio = (one, other) => (Math.max(light(one), light(other)) + 0.05) / (Math.min(light(one), light(other)) + 0.05);
-          const papers = ["--paper", "--panel", "--picked"];
-          return ["--ink", "--dim", "--stale", "--repeat", "--accent"].flatMap((ink) => papers.map((paper) => [`${ink} on ${paper}`, ratio(ink, paper)]));
+          const named = (name) => style.getPropertyValue(name), papers = ["--paper", "--panel", "--picked"];
+          const pairs = ["--ink", "--dim", "--stale", "--repeat", "--accent"].flatMap((ink) => papers.map((paper) => [ink, paper]));
+          const chip = document.querySelector('[data-kind="stale"]'), pressed = getComputedStyle(chip);
+          return [...pairs.map(([ink, paper]) => [`${ink} on ${paper}`, ratio(named(ink), named(paper))]), ["a pressed button", ratio(pressed.color, pressed.backgroundColor)]];
         })()"""
         papers = set()
         for scheme in ("light", "dark"):
-            self.browser.call("Emulation.setEmulatedMedia", features=[{"name": "prefers-color-scheme", "value": scheme}])
-            self.open_example("race")
+            media = [{"name": "prefers-color-scheme", "value": scheme}, {"name": "prefers-reduced-motion", "value": "reduce"}]
+            self.browser.call("Emulation.setEmulatedMedia", features=media)
+            self.open_example("race", "#answers=stale")
             papers.add(self.value("getComputedStyle(document.body).backgroundColor"))
             for pair, ratio in cast(List[Tuple[str, float]], self.value(contrast)):
                 self.assertGreaterEqual(ratio, 4.5, f"{scheme}: {pair}")  # WCAG 2.2, 1.4.3
