@@ -1,5 +1,5 @@
 //! The octets of what goes down, worked out by hand from TS 36.413 and TS 24.301. No two like numbers of a message are the same.
-ghost use Rattle.std.specs.Prelude.{◌^◌, ◌<◌, IfOk};
+ghost use Rattle.std.specs.Prelude.{◌≡◌, ◌^◌, ◌<◌, IfOk};
 ghost use Rattle.device_types.specs.Cause.{IsCauseCode};
 ghost use Rattle.device_types.specs.Down.{IsDown};
 ghost use Rattle.device_types.specs.Keys.{IsKey};

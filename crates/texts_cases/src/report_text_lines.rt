@@ -57,7 +57,9 @@ fn line(alloc: Global, line: u32, text: &str) -> Result<TraceLine, Fail> {
 /// The lines of the trace.
 fn trace(alloc: Global) -> Result<Vec<TraceLine>, Fail> {
     let mut trace = Vec::new(alloc);
-    for (number, text) in (7_u32..).zip(TRACE.lines()) {
+    let mut number = 6_u32;
+    for text in TRACE.lines() {
+        number = number.saturating_add(1);
         trace.push(line(alloc, number, text)?)?;
     }
     Ok(trace)
