@@ -1,14 +1,15 @@
-//! A window of two, on a line of three messages.
+//! Windows of two, on lines of three and of five messages.
 ghost use Rattle.std.specs.Prelude.{◌≡◌};
 
 use agent_order::Line;
 use agent_resend::Window;
 use device_types::{Body, CauseCode, Down, Effects, Message, Reply};
-use std::alloc::Global;
+use std::alloc::{AllocError, Global};
 use std::test::Fail;
 
-/// What happens, its number, and what it comes to.
-const STEPS: &str = "\
+/// What happens on a line of three, its number, and what it comes to; at last how many messages to the device were accepted, and
+/// how many of its own are acknowledged.
+const OF_THREE: &str = "\
 send 0 false
 send 1 true
 send 3 false
@@ -28,6 +29,36 @@ down 1 Accepted(1)
 down 1 Repeat(1)
 down 3 Ahead(1)
 down 2 Accepted(2)
+count 0 2 3
+";
+
+/// The same on a line of five, where the number that comes, the greatest that was sent and the one that is acknowledged differ.
+const OF_FIVE: &str = "\
+send 1 true
+send 2 true
+send 1 true
+reply 4 Stranger(2)
+reply 1 Acked(1)
+send 4 false
+send 3 true
+reply 0 Old(1)
+reply 5 Stranger(3)
+reply 3 Acked(3)
+send 5 true
+reply 1 Old(3)
+send 4 true
+reply 9 Stranger(5)
+reply 4 Acked(4)
+send 6 false
+down 7 Ahead(0)
+down 1 Accepted(1)
+down 7 Ahead(1)
+down 2 Accepted(2)
+down 3 Accepted(3)
+down 1 Repeat(1)
+down 2 Repeat(2)
+down 9 Ahead(3)
+count 0 3 4
 ";
 
 fn message(number: u64) -> Message
@@ -53,28 +84,64 @@ fn release() -> Down {
     }
 }
 
-fn answer(alloc: Global, window: &mut Window<2>, what: &str, number: u64) -> Result<String, Fail> {
+/// Tells whether message `n` may be sent, and sends it if so.
+fn tell_send(window: &mut Window<2>, n: u64, told: &mut String) -> Result<(), AllocError> {
+    let may = window.may_send(n);
+    if may {
+        window.sent(n);
+    }
+    writeln!(told, "send {n} {may}")
+}
+
+/// Tells what the reply to message `n` comes to.
+fn tell_reply(
+    alloc: Global,
+    window: &mut Window<2>,
+    n: u64,
+    told: &mut String,
+) -> Result<(), AllocError> {
+    let taken = window.take_reply(&Reply {
+        number: n,
+        version: 0,
+        downs: Effects::new(alloc),
+    });
+    writeln!(told, "reply {n} {taken:?}")
+}
+
+/// Does what a step says, and writes the step again with what it came to.
+fn tell_step(
+    alloc: Global,
+    window: &mut Window<2>,
+    what: &str,
+    n: u64,
+    told: &mut String,
+) -> Result<(), AllocError> {
     match what {
-        "send" => {
-            let may = window.may_send(number);
-            if may {
-                window.sent(number);
-            }
-            Ok(format!(in alloc; "{may}")?)
-        }
-        "reply" => {
-            let taken = window.take_reply(&Reply {
-                number,
-                version: 0,
-                downs: Effects::new(alloc),
-            });
-            Ok(format!(in alloc; "{taken:?}")?)
+        "send" => tell_send(window, n, told),
+        "reply" => tell_reply(alloc, window, n, told),
+        "down" => {
+            let taken = window.take_down(n, release())?;
+            writeln!(told, "down {n} {taken:?}")
         }
         _ => {
-            let taken = window.take_down(number, release())?;
-            Ok(format!(in alloc; "{taken:?}")?)
+            let (downs, acked) = (window.downs().len(), window.line().acked());
+            writeln!(told, "count {n} {downs} {acked}")
         }
     }
+}
+
+fn tell_steps(
+    alloc: Global,
+    window: &mut Window<2>,
+    steps: &str,
+    told: &mut String,
+) -> Result<(), Fail> {
+    for step in steps.lines() {
+        let (what, rest) = step.split_once(" ").ok_or("no number")?;
+        let (n, _) = rest.split_once(" ").ok_or("no answer")?;
+        tell_step(alloc, window, what, n.parse::<u64>()?, told)?;
+    }
+    Ok(())
 }
 
 #[test]
@@ -82,14 +149,20 @@ fn takes_what_arrives(rt: HostRuntime) -> Result<(), Fail> {
     let alloc = rt.alloc();
     let messages = Vec::from_array(alloc, [message(1), message(2), message(3)])?;
     let mut window = Window::new(alloc, Line::new(messages));
-    for step in STEPS.lines() {
-        let (what, rest) = step.split_once(" ").ok_or("no number")?;
-        let (number, came) = rest.split_once(" ").ok_or("no answer")?;
-        let number = number.parse::<u64>()?;
-        let got = answer(alloc, &mut window, what, number)?;
-        assert_eq!(rt; got.as_str(), came, "{step}");
-    }
-    assert_eq!(rt; window.downs().len(), 2);
-    assert_eq!(rt; window.line().acked(), 3);
+    let mut told = String::new(alloc);
+    tell_steps(alloc, &mut window, OF_THREE, &mut told)?;
+    assert_eq!(rt; told.as_str(), OF_THREE);
+    Ok(())
+}
+
+#[test]
+fn tells_the_number_that_it_means(rt: HostRuntime) -> Result<(), Fail> {
+    let alloc = rt.alloc();
+    let messages = [message(1), message(2), message(3), message(4), message(5)];
+    let line = Line::new(Vec::from_array(alloc, messages)?);
+    let mut window = Window::new(alloc, line);
+    let mut told = String::new(alloc);
+    tell_steps(alloc, &mut window, OF_FIVE, &mut told)?;
+    assert_eq!(rt; told.as_str(), OF_FIVE);
     Ok(())
 }

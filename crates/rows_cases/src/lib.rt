@@ -1,4 +1,9 @@
-//! Tests: what no clause says. There is nothing else here.
+//! Tests of agents, rows, stores, replicas and peers: what no clause says of them, through public calls alone. They stand in a crate
+//! of their own, so that the crates below are proved without them, and a test that is changed proves this crate alone. There is
+//! nothing else here.
+//!
+//! Each module has the calls of one crate. A test writes what came of each case into one text, which is compared once with the
+//! table of the cases.
 #![tactic(auto)]
 
 #[cfg(test)]

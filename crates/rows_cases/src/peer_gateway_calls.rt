@@ -1,13 +1,14 @@
 //! Calls of two devices, each once, again and ahead.
-ghost use Rattle.std.specs.Prelude.{◌≡◌, ◌≤◌, length};
+ghost use Rattle.std.specs.Prelude.{◌≡◌, ◌≤◌, length, OnOk};
 ghost use Rattle.device_types.specs.Numbers.{IsWithin};
 
 use device_types::{Areas, DeviceId, GwCall, Octets, Subscriber};
 use peer_gateway::Gateway;
-use std::alloc::Global;
+use std::alloc::{AllocError, Global};
 use std::test::Fail;
 
-/// A device, the number of a call, the call, and what the gateway says: device 1 has the tunnel 1, device 2 the tunnel 256. Each
+/// A device, the number of a call, the call, and what the gateway says. Device 1 has the address 10.45.0.1 (170721281) of the gateway
+/// 192.168.0.1 (3232235521) and the tunnel 1, device 2 the address 10.45.0.2 of the gateway 192.168.0.3 and the tunnel 256. Each
 /// session has a tunnel of its own.
 const OFFERS: &str = "\
 1 2 modify Ahead(0)
@@ -23,33 +24,47 @@ const OFFERS: &str = "\
 1 4 delete Repeat(Deleted)
 1 5 create Accepted(Created(3232235521, 2, 170721281))
 1 1 create Repeat(Created(3232235521, 1, 170721281))
-2 1 create Accepted(Created(3232235521, 256, 170721281))
-2 2 create Accepted(Created(3232235521, 257, 170721281))
-2 3 create Accepted(Created(3232235521, 258, 170721281))
+2 1 create Accepted(Created(3232235523, 256, 170721282))
+2 2 create Accepted(Created(3232235523, 257, 170721282))
+2 3 create Accepted(Created(3232235523, 258, 170721282))
 1 6 create Accepted(Created(3232235521, 3, 170721281))
 1 5 create Repeat(Created(3232235521, 2, 170721281))
-2 2 create Repeat(Created(3232235521, 257, 170721281))
+2 2 create Repeat(Created(3232235523, 257, 170721282))
 1 8 create Ahead(6)
+1 9 modify Ahead(6)
+1 10 release Ahead(6)
+1 11 delete Ahead(6)
+1 1 delete Repeat(Created(3232235521, 1, 170721281))
+1 2 create Repeat(Modified)
+1 3 modify Repeat(Freed)
+1 4 release Repeat(Deleted)
+2 7 delete Ahead(3)
 ";
 
-fn subscriber(alloc: Global, number: u32, teid: u32) -> Subscriber
+/// What was accepted: how many calls of device 1, four of them, and the calls of device 2.
+const ACCEPTED: &str = "\
+6 Some(Create) Some(Modify(3232235522, 2)) Some(Release) Some(Delete) None
+ListOf { items: [Create, Create, Create] }
+";
+
+fn subscriber(alloc: Global, number: u32, ip: u32, sgw: u32, teid: u32) -> Subscriber
     ensures number { result.number ≡ number }
     ensures tunnel { result.teid ≡ teid }
 {
     Subscriber {
         number,
         imsi: 208930000000001,
-        tmsi: 1,
+        tmsi: 77,
         rand: Octets::new(alloc),
         autn: Octets::new(alloc),
         res: Octets::new(alloc),
         key: Octets::new(alloc),
         apn: Octets::new(alloc),
-        ip: 0x0a2d_0001,
-        sgw: 0xc0a8_0001,
+        ip,
+        sgw,
         teid,
         ambr_dl: 1000000000,
-        ambr_ul: 1000000000,
+        ambr_ul: 500000000,
         forbidden: Areas::new(alloc),
     }
 }
@@ -59,9 +74,9 @@ fn row_of(alloc: Global, device: &str) -> Subscriber
     ensures tunnel { result.teid ≤ 4000000000 }
 {
     if device == "1" {
-        return subscriber(alloc, 1, 1);
+        return subscriber(alloc, 1, 0x0a2d_0001, 0xc0a8_0001, 1);
     }
-    subscriber(alloc, 2, 256)
+    subscriber(alloc, 2, 0x0a2d_0002, 0xc0a8_0003, 256)
 }
 
 fn call_of(word: &str) -> GwCall {
@@ -73,42 +88,61 @@ fn call_of(word: &str) -> GwCall {
     }
 }
 
-/// What the gateway of two devices says.
+/// Tells what the gateway of two devices says to call `k` of the device of this row.
 #[tactic(auto, using(peer_calls::proofs::Lists::offer_devices))]
-fn said(
-    alloc: Global,
+fn tell_offer(
     gateway: &mut Gateway,
     row: &Subscriber,
     k: u64,
-    call: GwCall,
-) -> Result<String, Fail>
+    word: &str,
+    told: &mut String,
+) -> Result<(), AllocError>
     requires devices { length gateway.old ≡ 2 }
     requires device { IsWithin 2 row.now.number }
     requires tunnel { row.now.teid ≤ 4000000000 }
     ensures devices { length gateway.new ≡ 2 }
 {
     if k == 0 || k >= 268435456 {
-        return Ok(String::new(alloc));
+        return Ok(());
     }
-    let offer = gateway.offer(row, k, call)?;
-    Ok(format!(in alloc; "{offer:?}")?)
+    let offer = gateway.offer(row, k, call_of(word))?;
+    writeln!(told, "{} {k} {word} {offer:?}", row.number)
+}
+
+fn tell_offers(alloc: Global, gateway: &mut Gateway, told: &mut String) -> Result<(), Fail>
+    requires { length gateway.old ≡ 2 }
+    ensures { OnOk result (length gateway.new ≡ 2) }
+{
+    for offer in OFFERS.lines() {
+        let (device, rest) = offer.split_once(" ").ok_or("no number")?;
+        let (k, rest) = rest.split_once(" ").ok_or("no call")?;
+        let (word, _) = rest.split_once(" ").ok_or("no answer")?;
+        let row = row_of(alloc, device);
+        tell_offer(gateway, &row, k.parse::<u64>()?, word, told)?;
+    }
+    Ok(())
+}
+
+/// Tells what the gateway has accepted.
+fn tell_accepted(alloc: Global, gateway: &Gateway, told: &mut String) -> Result<(), AllocError>
+    requires { length gateway.now ≡ 2 }
+{
+    let d = DeviceId(1);
+    write!(told, "{} {:?} ", gateway.accepted(d), gateway.call(d, 1))?;
+    write!(told, "{:?} {:?} ", gateway.call(d, 2), gateway.call(d, 3))?;
+    writeln!(told, "{:?} {:?}", gateway.call(d, 4), gateway.call(d, 7))?;
+    let calls = gateway.calls(alloc, DeviceId(2))?;
+    writeln!(told, "{calls:?}")
 }
 
 #[test]
 fn accepts_each_call_once(rt: HostRuntime) -> Result<(), Fail> {
-    let alloc = rt.alloc();
-    let mut gateway = Gateway::new(alloc, 2)?;
-    for offer in OFFERS.lines() {
-        let (device, rest) = offer.split_once(" ").ok_or("no number")?;
-        let (k, rest) = rest.split_once(" ").ok_or("no call")?;
-        let (call, came) = rest.split_once(" ").ok_or("no answer")?;
-        let row = row_of(alloc, device);
-        let got = said(alloc, &mut gateway, &row, k.parse::<u64>()?, call_of(call))?;
-        assert_eq!(rt; got.as_str(), came, "{offer}");
-    }
-    assert_eq!(rt; gateway.accepted(DeviceId(1)), 6);
-    assert_eq!(rt; gateway.call(DeviceId(1), 3), Some(GwCall::Release));
-    assert_eq!(rt; gateway.call(DeviceId(1), 7), None);
-    assert_eq!(rt; gateway.calls(alloc, DeviceId(2))?.items().len(), 3);
+    let mut gateway = Gateway::new(rt.alloc(), 2)?;
+    let mut told = String::new(rt.alloc());
+    tell_offers(rt.alloc(), &mut gateway, &mut told)?;
+    assert_eq!(rt; told.as_str(), OFFERS);
+    let mut accepted = String::new(rt.alloc());
+    tell_accepted(rt.alloc(), &gateway, &mut accepted)?;
+    assert_eq!(rt; accepted.as_str(), ACCEPTED);
     Ok(())
 }

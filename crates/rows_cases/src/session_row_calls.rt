@@ -1,18 +1,21 @@
 //! A row that keeps two replies, from its first step on.
-ghost use Rattle.std.specs.Prelude.{◌≡◌, true, IfOk};
-ghost use Rattle.device_types.specs.Journal.{version_of};
+ghost use Rattle.std.specs.Prelude.{◌≡◌, true, false, IfOk};
+ghost use Rattle.device_types.specs.Journal.{version_of, is_awaited};
 ghost use Rattle.device_types.specs.declared.look.Look.TheVariants.{Ready};
 ghost use Rattle.session_row.specs.Row.{look_at, AwaitsAtMostOne};
 
 use device_types::{
-    Answer, Body, CauseCode, Down, Effect, Effects, Entry, GwCall, Input, Lane, Look, Message, Step,
+    Answer, Body, CauseCode, Down, Effect, Effects, Entry, GwCall, Input, Lane, Look, Message,
+    Step, SubCall,
 };
 use session_row::Row;
-use std::alloc::Global;
+use std::alloc::{AllocError, Global};
 use std::test::Fail;
 
 /// What is asked of the row, two numbers, and what comes. `plain V N` and `call V N` write a step of message N with version V, the
-/// second with a call of the gateway; `answer V K` writes one of the answer to that call.
+/// second with a call of the gateway; `answer V K` writes one of the answer to that call. `ask V N` and `located V K` are the same of
+/// the subscriber server, and `purge V N` has a call of it whose answer is not awaited. A reply is told by its number, its version
+/// and how many messages to the device it has.
 const STEPS: &str = "\
 look 1 0 Ready
 look 2 0 Ahead(0)
@@ -43,6 +46,42 @@ look 4 0 Ready
 look 5 0 Ahead(3)
 settle 1 0 Old(1)
 settle 3 0 Upto(3)
+look 9 0 Ahead(3)
+ask 4 4 Committed(5)
+look 5 0 Waiting(Subscriber, 1)
+look 6 0 Ahead(4)
+look 9 0 Ahead(4)
+look 4 0 Repeat(4)
+look 3 0 Repeat(3)
+look 2 0 Settled(2)
+look 1 0 Settled(1)
+subscriber 1 0 Ready
+subscriber 2 0 NotAwaited(1)
+subscriber 9 0 NotAwaited(1)
+gateway 1 0 Old(Gateway, 1)
+gateway 4 0 NotAwaited(1)
+plain 5 5 not ready
+located 5 1 Committed(6)
+subscriber 1 0 Old(Subscriber, 1)
+reply 4 0 4 5 1
+purge 6 5 Committed(7)
+look 6 0 Ready
+subscriber 2 0 Old(Subscriber, 2)
+subscriber 3 0 NotAwaited(2)
+call 7 6 Committed(8)
+look 7 0 Waiting(Gateway, 2)
+gateway 2 0 Ready
+gateway 1 0 Old(Gateway, 1)
+gateway 5 0 NotAwaited(2)
+subscriber 2 0 Old(Subscriber, 2)
+plain 3 7 Stale { read: 3, current: 8 }
+plain 11 7 Stale { read: 11, current: 8 }
+reply 6 0 6 8 1
+reply 5 0 5 7 1
+reply 4 0 none
+settle 6 0 Upto(6)
+settle 5 0 Old(6)
+settle 9 0 none
 ";
 
 fn message(number: u64) -> Input {
@@ -54,19 +93,19 @@ fn message(number: u64) -> Input {
     })
 }
 
-fn answer(k: u64) -> Input {
+/// The answer to call `k` of a lane. The row does not ask which it is.
+fn answer(lane: Lane, k: u64) -> Input {
     Input::Answer {
-        lane: Lane::Gateway,
+        lane,
         k,
-        answer: Answer::Created(1, 1, 1),
+        answer: Answer::Modified,
     }
 }
 
-/// A message to the device, and a call whose answer is awaited, or one whose answer is not.
-fn effects(alloc: Global, awaited: bool) -> Result<Effects, Fail>
-    ensures { IfOk result AwaitsAtMostOne }
+fn release() -> Effect
+    ensures { is_awaited result ≡ false }
 {
-    let down = Effect::Down(Down::Release {
+    Effect::Down(Down::Release {
         station: 1,
         enb: 7,
         cause: CauseCode {
@@ -74,12 +113,26 @@ fn effects(alloc: Global, awaited: bool) -> Result<Effects, Fail>
             extended: false,
             index: 0,
         },
-    });
-    if awaited {
-        let call = Effect::Gateway(GwCall::Create);
-        return Ok(Effects::from(Vec::from_array(alloc, [down, call])?));
+    })
+}
+
+/// A message to the device, and a call.
+fn with_call(alloc: Global, call: Effect) -> Result<Effects, AllocError>
+    ensures { IfOk result AwaitsAtMostOne }
+{
+    Ok(Effects::from(Vec::from_array(alloc, [release(), call])?))
+}
+
+/// The effects of a step that is written by this word: a message to the device, and the call of the word.
+fn effects(alloc: Global, what: &str) -> Result<Effects, AllocError>
+    ensures { IfOk result AwaitsAtMostOne }
+{
+    match what {
+        "call" => with_call(alloc, Effect::Gateway(GwCall::Create)),
+        "ask" => with_call(alloc, Effect::Subscriber(SubCall::Location)),
+        "purge" => with_call(alloc, Effect::Subscriber(SubCall::Purge)),
+        _ => Ok(Effects::from(Vec::from_array(alloc, [release()])?)),
     }
-    Ok(Effects::from(Vec::from_array(alloc, [down])?))
 }
 
 /// May an entry of that input be written?
@@ -96,78 +149,97 @@ fn may_write(row: &Row<2>, read: u64, input: &Input) -> bool
     matches!(look, Look::Ready)
 }
 
-fn write(
-    alloc: Global,
+/// Writes an entry where it may be, and tells what the write comes to.
+fn tell_write(
     row: &mut Row<2>,
     read: u64,
     input: Input,
-    awaited: bool,
-) -> Result<String, Fail> {
-    let session = row.session()?;
-    let effects = effects(alloc, awaited)?;
+    effects: Effects,
+    told: &mut String,
+) -> Result<(), AllocError>
+    requires { AwaitsAtMostOne effects }
+{
     if !may_write(row, read, &input) {
-        return Ok(format!(in alloc; "not ready")?);
+        return writeln!(told, "not ready");
     }
+    let session = row.session()?;
     let entry = Entry {
         input,
         step: Step { session, effects },
     };
     match row.commit(read, entry) {
-        Ok(commit) => Ok(format!(in alloc; "{commit:?}")?),
-        Err(_) => Err(Fail::from("no memory")),
+        Ok(commit) => writeln!(told, "{commit:?}"),
+        Err(_) => Err(AllocError),
     }
 }
 
-fn settle(alloc: Global, row: &mut Row<2>, k: u64) -> Result<String, Fail> {
+fn tell_settled(row: &mut Row<2>, k: u64, told: &mut String) -> Result<(), AllocError> {
     if k > row.outbox().pushed(Lane::Down) {
-        return Ok(format!(in alloc; "none")?);
+        return writeln!(told, "none");
     }
     let settled = row.settle(Lane::Down, k);
-    Ok(format!(in alloc; "{settled:?}")?)
+    writeln!(told, "{settled:?}")
 }
 
-fn reply(alloc: Global, row: &Row<2>, n: u64) -> Result<String, Fail> {
+fn tell_reply(row: &Row<2>, n: u64, told: &mut String) -> Result<(), AllocError> {
     let Some(reply) = row.reply(n) else {
-        return Ok(format!(in alloc; "none")?);
+        return writeln!(told, "none");
     };
     let (number, version, downs) = (reply.number, reply.version, reply.downs.items().len());
-    Ok(format!(in alloc; "{number} {version} {downs}")?)
+    writeln!(told, "{number} {version} {downs}")
 }
 
-fn came(alloc: Global, row: &mut Row<2>, what: &str, a: u64, b: u64) -> Result<String, Fail> {
+/// Tells what comes of a step.
+fn tell_came(
+    alloc: Global,
+    row: &mut Row<2>,
+    what: &str,
+    a: u64,
+    b: u64,
+    told: &mut String,
+) -> Result<(), AllocError> {
     match what {
-        "plain" => write(alloc, row, a, message(b), false),
-        "call" => write(alloc, row, a, message(b), true),
-        "answer" => write(alloc, row, a, answer(b), false),
-        "settle" => settle(alloc, row, a),
-        "reply" => reply(alloc, row, a),
-        "look" => {
-            let look = row.look(a);
-            Ok(format!(in alloc; "{look:?}")?)
-        }
-        "gateway" => {
-            let look = row.look_answer(Lane::Gateway, a);
-            Ok(format!(in alloc; "{look:?}")?)
-        }
-        _ => {
-            let look = row.look_answer(Lane::Subscriber, a);
-            Ok(format!(in alloc; "{look:?}")?)
-        }
+        "settle" => tell_settled(row, a, told),
+        "reply" => tell_reply(row, a, told),
+        "look" => writeln!(told, "{:?}", row.look(a)),
+        "gateway" => writeln!(told, "{:?}", row.look_answer(Lane::Gateway, a)),
+        "subscriber" => writeln!(told, "{:?}", row.look_answer(Lane::Subscriber, a)),
+        "answer" => tell_write(
+            row,
+            a,
+            answer(Lane::Gateway, b),
+            effects(alloc, what)?,
+            told,
+        ),
+        "located" => tell_write(
+            row,
+            a,
+            answer(Lane::Subscriber, b),
+            effects(alloc, what)?,
+            told,
+        ),
+        _ => tell_write(row, a, message(b), effects(alloc, what)?, told),
     }
+}
+
+/// Does what each step says, and writes it again with what came.
+fn tell_steps(alloc: Global, row: &mut Row<2>, told: &mut String) -> Result<(), Fail> {
+    for step in STEPS.lines() {
+        let (what, rest) = step.split_once(" ").ok_or("no number")?;
+        let (a, rest) = rest.split_once(" ").ok_or("no number")?;
+        let (b, _) = rest.split_once(" ").ok_or("no answer")?;
+        let (a, b) = (a.parse::<u64>()?, b.parse::<u64>()?);
+        write!(told, "{what} {a} {b} ")?;
+        tell_came(alloc, row, what, a, b, told)?;
+    }
+    Ok(())
 }
 
 #[test]
 fn goes_on_from_its_versions(rt: HostRuntime) -> Result<(), Fail> {
-    let alloc = rt.alloc();
-    let mut row = Row::new(alloc)?;
-    for step in STEPS.lines() {
-        let (what, rest) = step.split_once(" ").ok_or("no number")?;
-        let (a, rest) = rest.split_once(" ").ok_or("no number")?;
-        let (b, wanted) = rest.split_once(" ").ok_or("no answer")?;
-        let a = a.parse::<u64>()?;
-        let b = b.parse::<u64>()?;
-        let got = came(alloc, &mut row, what, a, b)?;
-        assert_eq!(rt; got.as_str(), wanted, "{step}");
-    }
+    let mut row = Row::new(rt.alloc())?;
+    let mut told = String::new(rt.alloc());
+    tell_steps(rt.alloc(), &mut row, &mut told)?;
+    assert_eq!(rt; told.as_str(), STEPS);
     Ok(())
 }

@@ -1,5 +1,5 @@
 use Rattle.std.proofs.Common.{◌≡◌, length}
-use Rattle.rows_cases.proofs.peer_gateway_calls.accepts_each_call_once.Given as goal
+use Rattle.rows_cases.proofs.peer_gateway_calls.tell_offers.Given as goal
 
 abbrev pub invariant-loop-offer : goal.invariant-loop-offer
 invariant-loop-offer g l = length l.gateway ≡ 2
