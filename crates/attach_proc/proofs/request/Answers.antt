@@ -2,8 +2,5 @@
 use Rattle.std.proofs.Common.{rules}
 use Rattle.attach_proc.proofs.request.Goals as goal
 
-pub returns : goal.returns
-returns c = search rules
-
 pub returns-then-is_forbidden : goal.returns-then-is_forbidden
 returns-then-is_forbidden c = search rules

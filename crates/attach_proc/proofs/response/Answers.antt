@@ -4,6 +4,3 @@ use Rattle.attach_proc.proofs.response.Goals as goal
 
 pub returns : goal.returns
 returns c = search rules
-
-pub returns-then-eq : goal.returns-then-eq
-returns-then-eq c = search rules
