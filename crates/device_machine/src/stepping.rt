@@ -35,13 +35,13 @@ fn step_of_procedures(
     if let Some(step) = attach_step(row, session, input)? {
         return Ok(step);
     }
-    if let Some(step) = service_step(row, session, input)? {
+    if let Some(step) = service_step(session, input)? {
         return Ok(step);
     }
     if let Some(step) = tau_step(row, session, input)? {
         return Ok(step);
     }
-    if let Some(step) = detach_step(row, session, input)? {
+    if let Some(step) = detach_step(session, input)? {
         return Ok(step);
     }
     Ok(without_effect(session.copy()?))
