@@ -4,6 +4,8 @@
 #[cfg(test)]
 mod made_cases;
 #[cfg(test)]
+mod runs;
+#[cfg(test)]
 mod top_calls;
 #[cfg(test)]
 mod worlds;

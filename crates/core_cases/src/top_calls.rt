@@ -1,6 +1,7 @@
 //! Runs of the top call. The octets are worked out from TS 36.413 and ITU-T X.691, not taken from the program.
 
-use echo_base::{Give, MemSink, MemSource, Status, SureSource};
+use crate::runs::{tell_end, tell_run};
+use echo_base::{Give, MemSink, SureSource};
 use echo_run::replay_own;
 use link_schedule::OwnFloor;
 use std::alloc::{AllocError, Global};
@@ -91,6 +92,8 @@ replay = [subscribers]|row|[trace]|1 service|1 service|1 service|1 service|1 ser
 replay = [subscribers]|row|[trace]|1 attach|1 response|1 secured|1 done|1 capability|1 complete = device 208930000000001 messages 6 steps 10|down 1 1 authentication|down 2 1 security|down 3 1 setup|gateway 1 create|gateway 2 modify c0a80002 2|subscriber 1 vectors|subscriber 2 location|session connected link 1/1 area 02f839 1 bearer active radio 2
 replay --replicas=1 = [subscribers]|row|[trace]|1 attach|[schedule]|stop 2|write 1|push 1 down 1|take 1 1 1|effect 1 down 1 = event 1: void replica|event 2: void hand|event 3: void outbox|event 4: void link|event 5: void link|device 208930000000001 messages 1 steps 2|down 1 1 authentication|subscriber 1 vectors|session authenticating link 1/1 area 02f839 1 bearer none radio 0
 replay = [subscribers]|row|[trace]|1 attach|1 response|1 secured|1 done|1 capability|1 complete|[schedule]|send 1 1|take 1 1 1|read 1|write 1|push 1 subscriber 1|effect 1 subscriber 1|answer 1 1 subscriber 1|read 1|write 1|send 1 2|take 1 1 2|read 1|write 1|send 1 3|take 1 1 3|read 1|write 1|push 1 subscriber 2|effect 1 subscriber 2|answer 1 1 subscriber 2|read 1|write 1|effect 1 gateway 2|push 1 gateway 1|effect 1 gateway 1|effect 1 gateway 1|answer 1 1 gateway 1|read 1|write 1|send 1 4|take 1 1 4|read 1|write 1|reply 1 4|send 1 5|take 1 1 5|read 1|write 1|send 1 6|take 1 1 6|read 1|write 1|push 1 gateway 2|effect 1 gateway 2|answer 1 1 gateway 2|read 1|write 1 = event 1: sent|event 2: taken|event 3: ready 0|event 4: committed 1|event 5: pushed|event 6: accepted 1|event 7: taken|event 8: ready 1|event 9: committed 2|event 10: sent|event 11: taken|event 12: ready 2|event 13: committed 3|event 14: sent|event 15: taken|event 16: ready 3|event 17: committed 4|event 18: pushed|event 19: accepted 2|event 20: taken|event 21: ready 4|event 22: committed 5|event 23: void link|event 24: pushed|event 25: accepted 1|event 26: repeat 1|event 27: taken|event 28: ready 5|event 29: committed 6|event 30: sent|event 31: taken|event 32: ready 6|event 33: committed 7|event 34: acked 4|event 35: sent|event 36: taken|event 37: ready 7|event 38: committed 8|event 39: sent|event 40: taken|event 41: ready 8|event 42: committed 9|event 43: pushed|event 44: accepted 2|event 45: taken|event 46: ready 9|event 47: committed 10|device 208930000000001 messages 6 steps 10|down 1 1 authentication|down 2 1 security|down 3 1 setup|gateway 1 create|gateway 2 modify c0a80002 2|subscriber 1 vectors|subscriber 2 location|session connected link 1/1 area 02f839 1 bearer active radio 2
+replay = [trace]|1 service|[schedule]|stop 1|stop 3|read 2|write 1 = event 1: stopped|event 2: void replica|event 3: void hand|event 4: void hand|refused 2 30 UnknownDevice tmsi 1
+replay = [subscribers]|[schedule]|send 1 1 = echo: case refused 26 BadLine line 3
 replay = [trace]|1 attach|[schedule]|stop 17 = echo: case refused 26 BadLine line 4
 show = [subscribers]|row|[trace]|1 attach = line 4 InitialUEMessage attach
 show = [trace]|1 attach = line 2 InitialUEMessage attach
@@ -179,92 +182,111 @@ fn put_line(text: &mut String, line: &str) -> Result<(), AllocError> {
     }
 }
 
+/// Puts the lines that stand between bars behind a text.
+fn put_lines(text: &mut String, bars: &str) -> Result<(), AllocError> {
+    for line in bars.split('|') {
+        put_line(text, line)?;
+    }
+    Ok(())
+}
+
 /// The text of lines that stand between bars.
 fn lines(alloc: Global, bars: &str) -> Result<String, AllocError> {
     let mut text = String::new(alloc);
-    for line in bars.split('|') {
-        put_line(&mut text, line)?;
-    }
+    put_lines(&mut text, bars)?;
     Ok(text)
 }
 
-/// What a run over a text answers, with these plans, and the sink after it. A space parts the words, and an empty line has none.
-fn run(
+/// Puts what the case of a line comes to behind one text, and what it is to come to behind another.
+fn tell_case(
     alloc: Global,
-    words: &str,
-    text: &str,
-    reads: &[Give],
-    writes: &[Give],
-) -> Result<(Status, MemSink), AllocError> {
-    let mut all = Vec::new(alloc);
-    if !words.is_empty() {
-        for word in words.split(' ') {
-            all.push(String::from_str(alloc, word)?)?;
-        }
+    told: &mut String,
+    wanted: &mut String,
+    case: &str,
+) -> Result<(), Fail> {
+    let (words, rest) = case.split_once(" = ").ok_or("no text")?;
+    let (bars, end) = rest.split_once(" = ").ok_or("no end")?;
+    let text = lines(alloc, bars)?;
+    tell_run(told, alloc, words, text.as_bytes(), &[], &[])?;
+    put_lines(wanted, end)?;
+    Ok(())
+}
+
+/// What the cases come to, and what they are to come to.
+fn told_cases(alloc: Global) -> Result<(String, String), Fail> {
+    let (mut told, mut wanted) = (String::new(alloc), String::new(alloc));
+    for case in CASES.lines() {
+        tell_case(alloc, &mut told, &mut wanted, case)?;
     }
-    let mut input = MemSource::new(
-        Vec::from_slice(alloc, text.as_bytes())?,
-        Vec::from_slice(alloc, reads)?,
-    );
-    let mut out = MemSink::new(alloc, 4096, Vec::from_slice(alloc, writes)?)?;
-    let status = replay_own(alloc, &all, &mut input, &mut out, &mut OwnFloor::new());
-    Ok((status, out))
+    Ok((told, wanted))
 }
 
 #[test]
 fn cases_give_their_texts(rt: HostRuntime) -> Result<(), Fail> {
-    let alloc = rt.alloc();
-    for case in CASES.lines() {
-        if let Some((words, rest)) = case.split_once(" = ") {
-            if let Some((text, wanted)) = rest.split_once(" = ") {
-                let text = lines(alloc, text)?;
-                let (status, out) = run(alloc, words, text.as_str(), &[], &[])?;
-                if status == Status::Done {
-                    assert_eq!(rt; out.held(), lines(alloc, wanted)?.as_bytes(), "for {case}");
-                } else {
-                    let told = format!(in alloc; "{status}")?;
-                    assert_eq!(rt; told.as_str(), wanted);
-                    assert!(rt; out.held().is_empty());
-                }
-            }
-        }
-    }
-    let (status, out) = run(alloc, "plain", "", &[], &[])?;
-    assert_eq!(rt; status, Status::Done);
-    assert!(rt; out.held().is_empty());
+    let (told, wanted) = told_cases(rt.alloc())?;
+    assert_eq!(rt; told.as_str(), wanted.as_str());
     Ok(())
 }
 
 #[test]
-fn traces_give_their_ends(rt: HostRuntime) -> Result<(), Fail> {
+fn no_text_gives_none(rt: HostRuntime) -> Result<(), Fail> {
     let alloc = rt.alloc();
-    for trace in TRACES.lines() {
-        if let Some((names, wanted)) = trace.split_once(" = ") {
-            let mut text = lines(alloc, "[subscribers]|row|[trace]")?;
-            for name in names.split(' ') {
-                let octets = named(name);
-                writeln!(text, "1 {octets}")?;
-            }
-            let (status, out) = run(alloc, "plain", text.as_str(), &[], &[])?;
-            assert_eq!(rt; status, Status::Done);
-            assert_eq!(rt; out.held(), lines(alloc, wanted)?.as_bytes(), "for {names}");
-        }
-    }
+    let mut told = String::new(alloc);
+    tell_run(&mut told, alloc, "plain", b"", &[], &[])?;
+    tell_run(&mut told, alloc, "replay", b"", &[], &[])?;
+    assert_eq!(rt; told.as_str(), "");
     Ok(())
+}
+
+/// The case of the first subscriber with the messages of these names from base station 1.
+fn trace_case(alloc: Global, names: &str) -> Result<String, AllocError> {
+    let mut text = lines(alloc, "[subscribers]|row|[trace]")?;
+    for name in names.split(' ') {
+        let octets = named(name);
+        writeln!(text, "1 {octets}")?;
+    }
+    Ok(text)
+}
+
+/// What the traces come to, and what they are to come to.
+fn told_traces(alloc: Global) -> Result<(String, String), Fail> {
+    let (mut told, mut wanted) = (String::new(alloc), String::new(alloc));
+    for trace in TRACES.lines() {
+        let (names, end) = trace.split_once(" = ").ok_or("no end")?;
+        let text = trace_case(alloc, names)?;
+        tell_run(&mut told, alloc, "plain", text.as_bytes(), &[], &[])?;
+        put_lines(&mut wanted, end)?;
+    }
+    Ok((told, wanted))
+}
+
+#[test]
+fn traces_give_their_ends(rt: HostRuntime) -> Result<(), Fail> {
+    let (told, wanted) = told_traces(rt.alloc())?;
+    assert_eq!(rt; told.as_str(), wanted.as_str());
+    Ok(())
+}
+
+/// A table with one row too many.
+fn overfull_table(alloc: Global) -> Result<String, Fail> {
+    let (_, columns) = named("row").split_once(",\"rand").ok_or("no columns")?;
+    let mut text = String::from_str(alloc, "[subscribers]\n")?;
+    for i in 0..4097u32 {
+        writeln!(text, "{{\"imsi\":\"{i:015}\",\"tmsi\":{i},\"rand{columns}")?;
+    }
+    Ok(text)
 }
 
 #[test]
 fn full_table(rt: HostRuntime) -> Result<(), Fail> {
     let alloc = rt.alloc();
-    let row = named("row");
-    let (_, columns) = row.split_once(",\"rand").unwrap_or(("", ""));
-    let mut text = String::from_str(alloc, "[subscribers]\n")?;
-    for i in 0..4097u32 {
-        writeln!(text, "{{\"imsi\":\"{i:015}\",\"tmsi\":{i},\"rand{columns}")?;
-    }
-    let (status, _) = run(alloc, "show", text.as_str(), &[], &[])?;
-    let (number, line) = (24, 4098);
-    assert_eq!(rt; status, Status::CaseRefused { number, line });
+    let text = overfull_table(alloc)?;
+    let mut told = String::new(alloc);
+    tell_run(&mut told, alloc, "show", text.as_bytes(), &[], &[])?;
+    assert_eq!(rt;
+        told.as_str(),
+        "echo: case refused 24 TableFull line 4098\n"
+    );
     Ok(())
 }
 
@@ -299,106 +321,139 @@ replay --replicas 0000000009: 9
 replay --replicas=0000000010: 10
 ";
 
-/// Puts the line of an event behind a text.
-fn put_answer(text: &mut String, number: u32, answer: &str) -> Result<(), AllocError> {
-    writeln!(text, "event {number}: {answer}")
-}
-
-/// A case with an event for each replica that there may be, and what is written where there are so many.
-fn stops(alloc: Global, replicas: u32) -> Result<(String, String), AllocError> {
+/// A case with an event for each replica that there may be.
+fn stops(alloc: Global) -> Result<String, AllocError> {
     let mut text = lines(alloc, "[subscribers]|row|[schedule]")?;
-    let mut wanted = String::new(alloc);
     for r in 1..17u32 {
         writeln!(text, "stop {r}")?;
-        if r <= replicas {
-            put_answer(&mut wanted, r, "stopped")?;
-        } else {
-            put_answer(&mut wanted, r, "void replica")?;
-        }
     }
-    put_line(&mut wanted, "device 208930000000001 messages 0 steps 0")?;
-    put_line(
-        &mut wanted,
-        "session detached link off area 000000 0 bearer none radio 0",
-    )?;
-    Ok((text, wanted))
+    Ok(text)
+}
+
+/// Puts behind a text what is written of that case where there are so many replicas.
+fn put_stops(wanted: &mut String, replicas: u32) -> Result<(), AllocError> {
+    for r in 1..17u32 {
+        let answer = if r <= replicas {
+            "stopped"
+        } else {
+            "void replica"
+        };
+        writeln!(wanted, "event {r}: {answer}")?;
+    }
+    writeln!(wanted, "device 208930000000001 messages 0 steps 0")?;
+    writeln!(
+        wanted,
+        "session detached link off area 000000 0 bearer none radio 0"
+    )
+}
+
+/// What the words of `replay` come to, and what they are to come to.
+fn told_replicas(alloc: Global) -> Result<(String, String), Fail> {
+    let (mut told, mut wanted) = (String::new(alloc), String::new(alloc));
+    let text = stops(alloc)?;
+    for line in REPLICAS.lines() {
+        let (words, replicas) = line.split_once(": ").ok_or("no replicas")?;
+        tell_run(&mut told, alloc, words, text.as_bytes(), &[], &[])?;
+        put_stops(&mut wanted, replicas.parse::<u32>()?)?;
+    }
+    Ok((told, wanted))
 }
 
 #[test]
 fn words_give_replicas(rt: HostRuntime) -> Result<(), Fail> {
-    let alloc = rt.alloc();
-    for line in REPLICAS.lines() {
-        if let Some((words, replicas)) = line.split_once(": ") {
-            let (text, wanted) = stops(alloc, replicas.parse::<u32>().unwrap_or(0))?;
-            let (status, out) = run(alloc, words, text.as_str(), &[], &[])?;
-            assert_eq!(rt; status, Status::Done, "for {words}");
-            assert_eq!(rt; out.held(), wanted.as_bytes(), "for {words}");
-        }
-    }
+    let (told, wanted) = told_replicas(rt.alloc())?;
+    assert_eq!(rt; told.as_str(), wanted.as_str());
     Ok(())
+}
+
+/// What the other words come to, over a source that fails at once, and what they are to come to.
+fn told_usages(alloc: Global) -> Result<(String, String), Fail> {
+    let (mut told, mut wanted) = (String::new(alloc), String::new(alloc));
+    for words in USAGES.lines() {
+        writeln!(told, "{words}")?;
+        tell_run(&mut told, alloc, words, b"", &[Give::Fail], &[])?;
+        writeln!(wanted, "{words}\necho: usage")?;
+    }
+    Ok((told, wanted))
 }
 
 #[test]
 fn other_words_are_usage(rt: HostRuntime) -> Result<(), Fail> {
-    let alloc = rt.alloc();
-    for words in USAGES.lines() {
-        let (status, out) = run(alloc, words, "", &[Give::Fail], &[])?;
-        assert_eq!(rt; status, Status::Usage, "for {words}");
-        assert!(rt; out.held().is_empty());
-    }
+    let (told, wanted) = told_usages(rt.alloc())?;
+    assert_eq!(rt; told.as_str(), wanted.as_str());
     Ok(())
+}
+
+/// What four runs come to: over a source that gives one piece and fails, over one that fails behind all of the text, with a sink that
+/// takes ten octets and fails, and in small pieces both ways.
+const FAULTS: &str = "\
+echo: read fault|echo: read fault|device 208echo: write fault|line 4 InitialUEMessage service";
+
+/// What these runs come to.
+fn told_faults(alloc: Global) -> Result<String, Fail> {
+    let mut told = String::new(alloc);
+    let text = lines(alloc, "[subscribers]|row|[trace]|1 service")?;
+    let text = text.as_bytes();
+    let pieces = [Give::Piece(1), Give::Piece(0), Give::Piece(7)];
+    tell_run(
+        &mut told,
+        alloc,
+        "plain",
+        text,
+        &[Give::Piece(64), Give::Fail],
+        &[],
+    )?;
+    tell_run(
+        &mut told,
+        alloc,
+        "plain",
+        text,
+        &[Give::Piece(4096), Give::Fail],
+        &[],
+    )?;
+    tell_run(
+        &mut told,
+        alloc,
+        "plain",
+        text,
+        &[],
+        &[Give::Piece(10), Give::Fail],
+    )?;
+    tell_run(&mut told, alloc, "show", text, &pieces, &pieces)?;
+    Ok(told)
 }
 
 #[test]
 fn faults(rt: HostRuntime) -> Result<(), Fail> {
     let alloc = rt.alloc();
-    let text = lines(alloc, "[subscribers]|row|[trace]|1 service")?;
-    let text = text.as_str();
-    // a source that gives one piece and fails, and one that fails behind all of the text
-    for reads in [
-        [Give::Piece(64), Give::Fail],
-        [Give::Piece(4096), Give::Fail],
-    ] {
-        let (status, out) = run(alloc, "plain", text, &reads, &[])?;
-        assert_eq!(rt; status, Status::ReadFault);
-        assert!(rt; out.held().is_empty());
-    }
-
-    // a sink that takes ten octets and fails
-    let writes = [Give::Piece(10), Give::Fail];
-    let (status, out) = run(alloc, "plain", text, &[], &writes)?;
-    assert_eq!(rt; status, Status::WriteFault);
-    assert_eq!(rt; out.held(), "device 208".as_bytes());
-
-    // small pieces both ways
-    let pieces = [Give::Piece(1), Give::Piece(0), Give::Piece(7)];
-    let (status, out) = run(alloc, "show", text, &pieces, &pieces)?;
-    assert_eq!(rt; status, Status::Done);
-    let wanted = lines(alloc, "line 4 InitialUEMessage service")?;
-    assert_eq!(rt; out.held(), wanted.as_bytes());
+    let (told, wanted) = (told_faults(alloc)?, lines(alloc, FAULTS)?);
+    assert_eq!(rt; told.as_str(), wanted.as_str());
     Ok(())
 }
+
+/// Puts what `plain` comes to over so many octets of one letter behind the text.
+fn tell_length(told: &mut String, alloc: Global, length: usize) -> Result<(), Fail> {
+    let words = vec![in alloc; String::from_str(alloc, "plain")?]?;
+    let mut input = SureSource::new(vec![in alloc; b'x'; length]?);
+    let mut out = MemSink::new(alloc, 16, Vec::new(alloc))?;
+    let status = replay_own(alloc, &words, &mut input, &mut out, &mut OwnFloor::new());
+    tell_end(told, status, out.held())
+}
+
+/// What `plain` comes to over 8,193, 67,108,864 and 67,108,865 octets of one letter.
+const LENGTHS: &str = "\
+echo: case refused 28 LineTooLong line 1
+echo: case refused 28 LineTooLong line 1
+echo: case refused 6 TooLong line 0
+";
 
 #[test]
 fn the_longest_text(rt: HostRuntime) -> Result<(), Fail> {
     let alloc = rt.alloc();
-    let words = vec![in alloc; String::from_str(alloc, "plain")?]?;
-    let too_long = Status::CaseRefused { number: 6, line: 0 };
-    let (number, line) = (28, 1);
-    let one_line = Status::CaseRefused { number, line };
-    for (length, wanted) in [
-        (8193, one_line),
-        (67_108_864, one_line),
-        (67_108_865, too_long),
-    ] {
-        let mut input = SureSource::new(vec![in alloc; b'x'; length]?);
-        let mut out = MemSink::new(alloc, 16, Vec::new(alloc))?;
-        let mut floor = OwnFloor::new();
-        assert_eq!(rt;
-            replay_own(alloc, &words, &mut input, &mut out, &mut floor),
-            wanted
-        );
-        assert!(rt; out.held().is_empty());
-    }
+    let mut told = String::new(alloc);
+    tell_length(&mut told, alloc, 8_193)?;
+    tell_length(&mut told, alloc, 67_108_864)?;
+    tell_length(&mut told, alloc, 67_108_865)?;
+    assert_eq!(rt; told.as_str(), LENGTHS);
     Ok(())
 }

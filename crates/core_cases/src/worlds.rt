@@ -443,13 +443,12 @@ fn happen(world: &mut World, told: &mut String, event: Event) -> Result<(), Fail
     Ok(())
 }
 
-/// What the events come to, a line each.
-fn happened(alloc: Global, world: &mut World, events: &[Event]) -> Result<String, Fail> {
-    let mut told = String::new(alloc);
+/// What the events come to, a line each, put behind the text.
+fn happen_all(world: &mut World, told: &mut String, events: &[Event]) -> Result<(), Fail> {
     for event in events {
-        happen(world, &mut told, *event)?;
+        happen(world, told, *event)?;
     }
-    Ok(told)
+    Ok(())
 }
 
 /// The case text of the events of these lines.
@@ -462,29 +461,38 @@ fn case_text(alloc: Global, lines: &str) -> Result<String, Fail> {
     Ok(text)
 }
 
-/// What these lines say that the events come to.
-fn wanted(alloc: Global, lines: &str) -> Result<String, Fail> {
-    let mut text = String::new(alloc);
+/// What these lines say that the events come to, put behind the text.
+fn put_wanted(text: &mut String, lines: &str) -> Result<(), Fail> {
     for line in lines.lines() {
         let (_, answer) = line.split_once(" = ").ok_or("no answer")?;
         writeln!(text, "{answer}")?;
     }
-    Ok(text)
+    Ok(())
 }
 
-/// What the events of a schedule come to, behind its first line.
-fn answers(alloc: Global, title: &str, lines: &str) -> Result<String, Fail> {
+/// Puts what the events of a schedule come to, behind its first line, behind the text.
+fn tell_answers(alloc: Global, told: &mut String, title: &str, lines: &str) -> Result<(), Fail> {
     let (name, rest) = title.split_once(" ").ok_or("no replicas")?;
     let (count, _) = rest.split_once(": ").ok_or("no title")?;
-    let replicas = count.parse::<u32>()?;
     let text = case_text(alloc, lines)?;
     let case = read_case(alloc, text.as_bytes())?;
-    let mut world = opened(alloc, &case.table, name, replicas)?;
-    let told = happened(alloc, &mut world, &case.schedule)?;
+    let mut world = opened(alloc, &case.table, name, count.parse::<u32>()?)?;
+    happen_all(&mut world, told, &case.schedule)?;
     if world.events().len() != case.schedule.len() {
         return Err(Fail::from("not all events"));
     }
-    Ok(told)
+    Ok(())
+}
+
+/// What the schedules come to, and what they are to come to.
+fn told_schedules(alloc: Global) -> Result<(String, String), Fail> {
+    let (mut told, mut wanted) = (String::new(alloc), String::new(alloc));
+    for schedule in SCHEDULES.split("\n\n") {
+        let (title, lines) = schedule.split_once("\n").ok_or("no events")?;
+        tell_answers(alloc, &mut told, title, lines)?;
+        put_wanted(&mut wanted, lines)?;
+    }
+    Ok((told, wanted))
 }
 
 /// What became of a device: messages taken, steps, messages to it and its stage, and then its calls, a line each.
@@ -556,9 +564,7 @@ fn happen_and_settle(
     events: &[Event],
     told: &mut String,
 ) -> Result<(), Fail> {
-    for event in events {
-        happen(world, told, *event)?;
-    }
+    happen_all(world, told, events)?;
     settle(alloc, world, told)?;
     settle(alloc, world, told)
 }
@@ -571,12 +577,16 @@ fn settled(alloc: Global, table: &SubsTable, events: &[Event]) -> Result<String,
     Ok(told)
 }
 
-#[test]
-fn world_settles(rt: HostRuntime) -> Result<(), Fail> {
-    let alloc = rt.alloc();
+/// What a world comes to that settles twice.
+fn told_world(alloc: Global) -> Result<String, Fail> {
     let text = case_text(alloc, "send 1 1 = Sent\ntake 2 1 1 = Taken\n")?;
     let case = read_case(alloc, text.as_bytes())?;
-    let told = settled(alloc, &case.table, &case.schedule)?;
+    settled(alloc, &case.table, &case.schedule)
+}
+
+#[test]
+fn world_settles(rt: HostRuntime) -> Result<(), Fail> {
+    let told = told_world(rt.alloc())?;
     assert_eq!(rt; told.as_str(), ATTACHED);
     Ok(())
 }
@@ -659,26 +669,25 @@ Sent
 0 0 0 Detached
 ";
 
-#[test]
-fn floor_settles(rt: HostRuntime) -> Result<(), Fail> {
-    let alloc = rt.alloc();
+/// What a floor comes to that settles twice, and is opened anew.
+fn told_floor(alloc: Global) -> Result<String, Fail> {
     let text = case_text(alloc, "")?;
     let case = read_case(alloc, text.as_bytes())?;
-    let mut floor = OwnFloor::new();
     let mut told = String::new(alloc);
-    run(alloc, &mut floor, &case.table, &mut told)?;
+    run(alloc, &mut OwnFloor::new(), &case.table, &mut told)?;
+    Ok(told)
+}
+
+#[test]
+fn floor_settles(rt: HostRuntime) -> Result<(), Fail> {
+    let told = told_floor(rt.alloc())?;
     assert_eq!(rt; told.as_str(), REJECTED);
     Ok(())
 }
 
 #[test]
 fn events_come_to_their_answers(rt: HostRuntime) -> Result<(), Fail> {
-    let alloc = rt.alloc();
-    for schedule in SCHEDULES.split("\n\n") {
-        let (title, lines) = schedule.split_once("\n").ok_or("no events")?;
-        let told = answers(alloc, title, lines)?;
-        let wanted = wanted(alloc, lines)?;
-        assert_eq!(rt; told.as_str(), wanted.as_str(), "{title}");
-    }
+    let (told, wanted) = told_schedules(rt.alloc())?;
+    assert_eq!(rt; told.as_str(), wanted.as_str());
     Ok(())
 }
