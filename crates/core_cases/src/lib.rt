@@ -6,6 +6,8 @@ mod made_cases;
 #[cfg(test)]
 mod runs;
 #[cfg(test)]
+mod schedules;
+#[cfg(test)]
 mod top_calls;
 #[cfg(test)]
 mod worlds;
