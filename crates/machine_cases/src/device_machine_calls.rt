@@ -1,8 +1,8 @@
 //! What a step of the machine comes to, written by hand from 3GPP TS 23.401, 5.3: each row of the step table by itself (`rows`), and
 //! the machine alone on worked runs (`runs`). Here is how they write messages and effects.
 //!
-//! A message is written `STATION/ENB BODY`; a cause as its group and its index, with a plus where it stands behind the extension
-//! mark; an effect with a semicolon behind it.
+//! A message is written `STATION/ENB BODY`, and no base station has the number of an eNB-UE-S1AP-ID; a cause as its group and its index,
+//! with a plus where it stands behind the extension mark; an effect with a semicolon behind it.
 ghost use Rattle.std.specs.Prelude.{◌≡◌, IfOk};
 
 use device_types::{Areas, Body, CauseCode, Down, Effect, Message, Octets, Subscriber};
@@ -18,17 +18,25 @@ fn octets(alloc: Global, octet: u8) -> Result<Octets, AllocError> {
     Ok(octets)
 }
 
-/// A subscriber who is not served in the areas 8 and 9. The octets of the authentication vector are none, which stand for a key of zeros.
+/// The areas in which the subscriber is not served, and the octets of the authentication vector; the key has none, which stand for zeros.
+fn fill(row: &mut Subscriber) -> Result<(), AllocError>
+    ensures { row.new.teid ≡ row.old.teid }
+{
+    row.forbidden.push(8)?;
+    row.forbidden.push(9)?;
+    row.rand.push(51)?;
+    row.autn.push(52)?;
+    row.res.push(16)
+}
+
+/// A subscriber who is not served in the areas 8 and 9. No two of the numbers are the same.
 fn subscriber(alloc: Global) -> Result<Subscriber, AllocError>
     ensures { IfOk result (λ row. row.teid ≡ 58) }
 {
-    let mut forbidden = Areas::new(alloc);
-    forbidden.push(8)?;
-    forbidden.push(9)?;
-    Ok(Subscriber {
+    let mut row = Subscriber {
         number: 1,
-        imsi: 208930000000001,
-        tmsi: 1,
+        imsi: 208930000000002,
+        tmsi: 3,
         rand: Octets::new(alloc),
         autn: Octets::new(alloc),
         res: Octets::new(alloc),
@@ -39,8 +47,10 @@ fn subscriber(alloc: Global) -> Result<Subscriber, AllocError>
         sgw: 57,
         teid: 58,
         ip: 59,
-        forbidden,
-    })
+        forbidden: Areas::new(alloc),
+    };
+    fill(&mut row)?;
+    Ok(row)
 }
 
 /// A base station, and an eNB-UE-S1AP-ID there.
@@ -57,9 +67,20 @@ fn response(alloc: Global, text: &str) -> Result<Octets, AllocError> {
     }
 }
 
+/// The tracking area at the end of the words, or area 7.
+fn area(rest: &str) -> u16 {
+    if rest.ends_with("8") {
+        return 8;
+    }
+    if rest.ends_with("9") {
+        return 9;
+    }
+    7
+}
+
 /// A message by its name; a tracking area stands for itself, and so does the octet of a response.
 fn body(alloc: Global, word: &str, rest: &str) -> Result<Body, Fail> {
-    let tac: u16 = if rest.ends_with("9") { 9 } else { 7 };
+    let tac = area(rest);
     let first = rest.starts_with("first");
     Ok(match word {
         "Attach" => Body::Attach {

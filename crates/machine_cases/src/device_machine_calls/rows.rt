@@ -1,7 +1,8 @@
 //! One small case for each row of the step table, and for each way in which a row can fit; then what does not fit, in each stage.
 //!
 //! A line is `SESSION | INPUT | FIELDS | EFFECTS`. A session is its stage, its S1 connection, its bearer, and what holds of it; its other
-//! fields are those of `session`. An input is a message or an answer. The fields are those that the step changes.
+//! fields are those of `session`. An input is a message or an answer; inputs with commas between them come one by one to the same
+//! session, and to the same end. The fields are those that the step changes.
 
 use super::{message, octets, pair, subscriber, write_cause, write_effects};
 use device_machine::step;
@@ -13,119 +14,187 @@ use std::fmt::Debug;
 use std::test::Fail;
 
 /// Attach (5.3.2.1), service request (5.3.4.1) and S1 release (5.3.5), tracking area update (5.3.3) and detach (5.3.8.2), row by row: the
-/// subscriber is not served in area 9, and is in area 7. Then what fits no row: first a message in each stage, then others, and answers.
+/// subscriber is not served in the areas 8 and 9, and is in area 7. Then what fits no row: messages on the session's own connection that
+/// its stage does not take, and those that it would take on others (another number at its base station, and its number at another one);
+/// each kind of message while an answer is awaited; and answers that are not awaited, in each stage.
 const STEPS: &str = "\
 Detached none None | 2/5 Attach 9 | stage=Releasing link=2/5 cause=2/0 | nas 2/5 AttachReject { cause: 12 }; release 2/5 2/0;
-Securing 1/1 None | 1/1 Attach 9 | stage=Releasing cause=2/0 | nas 1/1 AttachReject { cause: 12 }; release 1/1 2/0;
+Securing 1/3 None | 1/3 Attach 9 | stage=Releasing cause=2/0 | nas 1/3 AttachReject { cause: 12 }; release 1/3 2/0;
 Idle none Made registered | 2/5 Attach 9 | stage=AwaitDelete link=2/5 registered=false off=true cause=2/0 | nas 2/5 AttachReject { cause: 12 }; gateway Delete;
-Connected 1/1 Active registered | 1/2 Attach 9 | stage=AwaitDelete link=1/2 registered=false off=true cause=2/0 | release 1/1 2/0; nas 1/2 AttachReject { cause: 12 }; gateway Delete;
+Connected 1/3 Active registered | 1/4 Attach 9 | stage=AwaitDelete link=1/4 registered=false off=true cause=2/0 | release 1/3 2/0; nas 1/4 AttachReject { cause: 12 }; gateway Delete;
+Connecting 1/3 Made registered | 2/5 Attach 9 | stage=AwaitDelete link=2/5 registered=false off=true cause=2/0 | release 1/3 2/0; nas 2/5 AttachReject { cause: 12 }; gateway Delete;
+Detached none None | 2/5 Attach 8 | stage=Releasing link=2/5 cause=2/0 | nas 2/5 AttachReject { cause: 12 }; release 2/5 2/0;
 Detached none None | 2/5 Attach 7 | stage=AwaitVectors link=2/5 area=(31, 7) algorithms=(32, 33) pti=34 | subscriber Vectors;
-Authenticating 1/1 None | 1/1 Attach 7 | stage=AwaitVectors area=(31, 7) algorithms=(32, 33) pti=34 | subscriber Vectors;
-Connected 1/1 Active registered | 2/1 Attach 7 | stage=AwaitVectors link=2/1 registered=false area=(31, 7) algorithms=(32, 33) pti=34 | release 1/1 2/0; subscriber Vectors;
-AwaitVectors 1/1 None | answer Vectors | stage=Authenticating vector=([53], [54]) | nas 1/1 AuthRequest { rand: ListOf { items: [51] }, autn: ListOf { items: [52] } };
-Authenticating 1/1 None | 1/1 Response 16 | stage=Securing | nas 1/1 SecurityCommand { eea: 13, eia: 14 };
-Authenticating 1/1 None | 1/1 Response 17 | stage=Releasing cause=2/1 | nas 1/1 AuthReject; release 1/1 2/1;
-Authenticating 1/1 Made | 1/1 Response 17 | stage=AwaitDelete off=true cause=2/1 | nas 1/1 AuthReject; gateway Delete;
-Authenticating 1/1 Active | 1/1 Response 17 | stage=AwaitDelete off=true cause=2/1 | nas 1/1 AuthReject; gateway Delete;
-Securing 1/1 None | 1/1 Secured | stage=AwaitLocation | subscriber Location;
-Securing 1/1 None | 1/1 SecurityRefused | stage=Releasing cause=2/3 | release 1/1 2/3;
-Securing 1/1 Made | 1/1 SecurityRefused | stage=AwaitDelete off=true cause=2/3 | gateway Delete;
-AwaitLocation 1/1 None | answer Located | stage=AwaitCreate rates=(55, 56) | gateway Create;
-AwaitCreate 1/1 None | answer Created | stage=Accepting bearer=Made tunnel=(57, 58) ip=59 | setup 1/1 18 19 57 58 13 14 [17] Yes { plmn: 11, tac: 12, pti: 15, ip: 59 };
-Accepting 1/1 Made | 1/1 ContextDone | stage=AcceptingContext side=(41, 42) |
-AcceptingDone 1/1 Made | 1/1 ContextDone | stage=AwaitModify side=(41, 42) | gateway Modify(41, 42);
-Accepting 1/1 Made | 1/1 AttachDone | stage=AcceptingDone |
-AcceptingContext 1/1 Made | 1/1 AttachDone | stage=AwaitModify | gateway Modify(23, 24);
-Accepting 1/1 Made | 1/1 ContextFailed | stage=AwaitDelete off=true cause=2/3 | gateway Delete;
-AcceptingDone 1/1 Made | 1/1 ContextFailed | stage=AwaitDelete off=true cause=2/3 | gateway Delete;
-Authenticating 1/1 None | 1/1 ReleaseAsked | stage=Releasing cause=0/20+ | release 1/1 0/20+;
-Securing 1/1 Active | 1/1 ReleaseAsked | stage=AwaitDelete off=true cause=0/20+ | gateway Delete;
-Accepting 1/1 Made | 1/1 ReleaseAsked | stage=AwaitDelete off=true cause=0/20+ | gateway Delete;
-AcceptingContext 1/1 Made | 1/1 ReleaseAsked | stage=AwaitDelete off=true cause=0/20+ | gateway Delete;
-AcceptingDone 1/1 Made | 1/1 ReleaseAsked | stage=AwaitDelete off=true cause=0/20+ | gateway Delete;
-AwaitModify 1/1 Made | answer Modified | stage=Connected bearer=Active registered=true |
+Authenticating 1/3 None | 1/3 Attach 7 | stage=AwaitVectors area=(31, 7) algorithms=(32, 33) pti=34 | subscriber Vectors;
+Connected 1/3 Active registered | 2/3 Attach 7 | stage=AwaitVectors link=2/3 registered=false area=(31, 7) algorithms=(32, 33) pti=34 | release 1/3 2/0; subscriber Vectors;
+Securing 1/3 None | 2/5 Attach 7 | stage=AwaitVectors link=2/5 area=(31, 7) algorithms=(32, 33) pti=34 | release 1/3 2/0; subscriber Vectors;
+Accepting 1/3 Made | 1/4 Attach 7 | stage=AwaitVectors link=1/4 area=(31, 7) algorithms=(32, 33) pti=34 | release 1/3 2/0; subscriber Vectors;
+AcceptingContext 1/3 Made | 1/3 Attach 7 | stage=AwaitVectors area=(31, 7) algorithms=(32, 33) pti=34 | subscriber Vectors;
+AcceptingDone 1/3 Made | 2/3 Attach 7 | stage=AwaitVectors link=2/3 area=(31, 7) algorithms=(32, 33) pti=34 | release 1/3 2/0; subscriber Vectors;
+Connecting 1/3 Made registered | 2/5 Attach 7 | stage=AwaitVectors link=2/5 registered=false area=(31, 7) algorithms=(32, 33) pti=34 | release 1/3 2/0; subscriber Vectors;
+Releasing 1/3 None | 1/3 Attach 7 | stage=AwaitVectors area=(31, 7) algorithms=(32, 33) pti=34 | subscriber Vectors;
+Releasing 1/3 Made registered | 1/4 Attach 7 | stage=AwaitVectors link=1/4 registered=false area=(31, 7) algorithms=(32, 33) pti=34 | release 1/3 2/0; subscriber Vectors;
+Idle none Made registered | 2/5 Attach 7 | stage=AwaitVectors link=2/5 registered=false area=(31, 7) algorithms=(32, 33) pti=34 | subscriber Vectors;
+AwaitVectors 1/3 None | answer Vectors | stage=Authenticating vector=([53], [54]) | nas 1/3 AuthRequest { rand: ListOf { items: [51] }, autn: ListOf { items: [52] } };
+Authenticating 1/3 None | 1/3 Response 16 | stage=Securing | nas 1/3 SecurityCommand { eea: 13, eia: 14 };
+Authenticating 1/3 None | 1/3 Response 17 | stage=Releasing cause=2/1 | nas 1/3 AuthReject; release 1/3 2/1;
+Authenticating 1/3 None | 1/3 Response | stage=Releasing cause=2/1 | nas 1/3 AuthReject; release 1/3 2/1;
+Authenticating 1/3 Made | 1/3 Response 17 | stage=AwaitDelete off=true cause=2/1 | nas 1/3 AuthReject; gateway Delete;
+Authenticating 1/3 Active | 1/3 Response 17 | stage=AwaitDelete off=true cause=2/1 | nas 1/3 AuthReject; gateway Delete;
+Securing 1/3 None | 1/3 Secured | stage=AwaitLocation | subscriber Location;
+Securing 1/3 None | 1/3 SecurityRefused | stage=Releasing cause=2/3 | release 1/3 2/3;
+Securing 1/3 Made | 1/3 SecurityRefused | stage=AwaitDelete off=true cause=2/3 | gateway Delete;
+AwaitLocation 1/3 None | answer Located | stage=AwaitCreate rates=(55, 56) | gateway Create;
+AwaitCreate 1/3 None | answer Created | stage=Accepting bearer=Made tunnel=(57, 58) ip=59 | setup 1/3 18 19 57 58 13 14 [17] Yes { plmn: 11, tac: 12, pti: 15, ip: 59 };
+Accepting 1/3 Made | 1/3 ContextDone | stage=AcceptingContext side=(41, 42) |
+AcceptingDone 1/3 Made | 1/3 ContextDone | stage=AwaitModify side=(41, 42) | gateway Modify(41, 42);
+Accepting 1/3 Made | 1/3 AttachDone | stage=AcceptingDone |
+AcceptingContext 1/3 Made | 1/3 AttachDone | stage=AwaitModify | gateway Modify(23, 24);
+Accepting 1/3 Made | 1/3 ContextFailed | stage=AwaitDelete off=true cause=2/3 | gateway Delete;
+AcceptingDone 1/3 Made | 1/3 ContextFailed | stage=AwaitDelete off=true cause=2/3 | gateway Delete;
+Authenticating 1/3 None | 1/3 ReleaseAsked | stage=Releasing cause=0/20+ | release 1/3 0/20+;
+Securing 1/3 Active | 1/3 ReleaseAsked | stage=AwaitDelete off=true cause=0/20+ | gateway Delete;
+Accepting 1/3 Made | 1/3 ReleaseAsked | stage=AwaitDelete off=true cause=0/20+ | gateway Delete;
+AcceptingContext 1/3 Made | 1/3 ReleaseAsked | stage=AwaitDelete off=true cause=0/20+ | gateway Delete;
+AcceptingDone 1/3 Made | 1/3 ReleaseAsked | stage=AwaitDelete off=true cause=0/20+ | gateway Delete;
+AwaitModify 1/3 Made | answer Modified | stage=Connected bearer=Active registered=true |
 Idle none Made registered | 2/5 Service | stage=Connecting link=2/5 | setup 2/5 18 19 20 21 13 14 [17] No;
-Connecting 1/1 Made registered | 1/1 Service | | setup 1/1 18 19 20 21 13 14 [17] No;
-Connected 1/1 Active registered | 1/2 Service | stage=Connecting link=1/2 | release 1/1 2/0; setup 1/2 18 19 20 21 13 14 [17] No;
-Releasing 1/1 Made registered | 2/1 Service | stage=Connecting link=2/1 | release 1/1 2/0; setup 2/1 18 19 20 21 13 14 [17] No;
+Connecting 1/3 Made registered | 1/3 Service | | setup 1/3 18 19 20 21 13 14 [17] No;
+Connected 1/3 Active registered | 1/4 Service | stage=Connecting link=1/4 | release 1/3 2/0; setup 1/4 18 19 20 21 13 14 [17] No;
+Releasing 1/3 Made registered | 2/3 Service | stage=Connecting link=2/3 | release 1/3 2/0; setup 2/3 18 19 20 21 13 14 [17] No;
 Detached none None | 2/5 Service | | nas 2/5 ServiceReject { cause: 10 };
-Releasing 1/1 None | 2/5 Service | | nas 2/5 ServiceReject { cause: 10 };
-Authenticating 1/1 None | 1/1 Service | | nas 1/1 ServiceReject { cause: 10 };
-Securing 1/1 None | 2/5 Service | | nas 2/5 ServiceReject { cause: 10 };
-Accepting 1/1 Made | 2/5 Service | | nas 2/5 ServiceReject { cause: 10 };
-AcceptingContext 1/1 Made | 2/5 Service | | nas 2/5 ServiceReject { cause: 10 };
-AcceptingDone 1/1 Made | 2/5 Service | | nas 2/5 ServiceReject { cause: 10 };
-Connecting 1/1 Made registered | 1/1 ContextDone | stage=AwaitModify side=(41, 42) | gateway Modify(41, 42);
-AwaitModify 1/1 Made registered | answer Modified | stage=Connected bearer=Active |
-Connecting 1/1 Made registered | 1/1 ContextFailed | stage=Releasing cause=2/3 | release 1/1 2/3;
-Connecting 1/1 Active registered | 1/1 ContextFailed | stage=AwaitRelease cause=2/3 | gateway Release;
-Connecting 1/1 None registered | 1/1 ReleaseAsked | stage=Releasing cause=0/20+ | release 1/1 0/20+;
-Connecting 1/1 Made registered | 1/1 ReleaseAsked | stage=Releasing cause=0/20+ | release 1/1 0/20+;
-Connected 1/1 Active registered | 1/1 ReleaseAsked | stage=AwaitRelease cause=0/20+ | gateway Release;
-AwaitRelease 1/1 Active registered | answer Freed | stage=Releasing bearer=Made | release 1/1 3/5;
-Releasing 1/1 Made registered | 1/1 Released | stage=Idle link=none |
-Releasing 1/1 None | 1/1 Released | stage=Detached link=none |
-Connected 1/1 Active registered | 1/1 Capability | radio=3 |
-Securing 1/1 None | 1/1 Capability | radio=3 |
+Releasing 1/3 None | 2/5 Service | | nas 2/5 ServiceReject { cause: 10 };
+Authenticating 1/3 None | 1/3 Service | | nas 1/3 ServiceReject { cause: 10 };
+Securing 1/3 None | 2/5 Service | | nas 2/5 ServiceReject { cause: 10 };
+Accepting 1/3 Made | 2/5 Service | | nas 2/5 ServiceReject { cause: 10 };
+AcceptingContext 1/3 Made | 2/5 Service | | nas 2/5 ServiceReject { cause: 10 };
+AcceptingDone 1/3 Made | 2/5 Service | | nas 2/5 ServiceReject { cause: 10 };
+Connecting 1/3 Made registered | 1/3 ContextDone | stage=AwaitModify side=(41, 42) | gateway Modify(41, 42);
+Connecting 1/3 Active registered | 1/3 ContextDone | stage=AwaitModify side=(41, 42) | gateway Modify(41, 42);
+AwaitModify 1/3 Made registered | answer Modified | stage=Connected bearer=Active |
+Connecting 1/3 Made registered | 1/3 ContextFailed | stage=Releasing cause=2/3 | release 1/3 2/3;
+Connecting 1/3 Active registered | 1/3 ContextFailed | stage=AwaitRelease cause=2/3 | gateway Release;
+Connecting 1/3 None registered | 1/3 ContextFailed | stage=Releasing cause=2/3 | release 1/3 2/3;
+Connecting 1/3 None registered | 1/3 ReleaseAsked | stage=Releasing cause=0/20+ | release 1/3 0/20+;
+Connecting 1/3 Made registered | 1/3 ReleaseAsked | stage=Releasing cause=0/20+ | release 1/3 0/20+;
+Connecting 1/3 Active registered | 1/3 ReleaseAsked | stage=AwaitRelease cause=0/20+ | gateway Release;
+Connected 1/3 Active registered | 1/3 ReleaseAsked | stage=AwaitRelease cause=0/20+ | gateway Release;
+AwaitRelease 1/3 Active registered | answer Freed | stage=Releasing bearer=Made | release 1/3 3/5;
+Releasing 1/3 Made registered | 1/3 Released | stage=Idle link=none |
+Releasing 1/3 None | 1/3 Released | stage=Detached link=none |
+Connected 1/3 Active registered | 1/3 Capability | radio=3 |
+Securing 1/3 None | 1/3 Capability | radio=3 |
+Authenticating 1/3 None | 1/3 Capability | radio=3 |
+Accepting 1/3 Made | 1/3 Capability | radio=3 |
+AcceptingContext 1/3 Made | 1/3 Capability | radio=3 |
+AcceptingDone 1/3 Made | 1/3 Capability | radio=3 |
+Connecting 1/3 Made registered | 1/3 Capability | radio=3 |
+Releasing 1/3 Made registered | 1/3 Capability | radio=3 |
+Releasing 1/3 None | 1/3 Capability | radio=3 |
 Idle none Made registered | 2/5 Area first 9 | stage=Releasing link=2/5 cause=2/0 | nas 2/5 AreaReject { cause: 12 }; release 2/5 2/0;
-Connecting 1/1 None registered | 1/1 Area first 9 | stage=Releasing cause=2/0 | nas 1/1 AreaReject { cause: 12 }; release 1/1 2/0;
-Connected 1/1 Active registered | 2/1 Area first 9 | stage=AwaitRelease link=2/1 cause=2/0 | release 1/1 2/0; nas 2/1 AreaReject { cause: 12 }; gateway Release;
+Connecting 1/3 None registered | 1/3 Area first 9 | stage=Releasing cause=2/0 | nas 1/3 AreaReject { cause: 12 }; release 1/3 2/0;
+Connected 1/3 Active registered | 2/3 Area first 9 | stage=AwaitRelease link=2/3 cause=2/0 | release 1/3 2/0; nas 2/3 AreaReject { cause: 12 }; gateway Release;
+Releasing 1/3 Made registered | 2/5 Area first 9 | link=2/5 cause=2/0 | release 1/3 2/0; nas 2/5 AreaReject { cause: 12 }; release 2/5 2/0;
+Idle none Made registered | 2/5 Area first 8 | stage=Releasing link=2/5 cause=2/0 | nas 2/5 AreaReject { cause: 12 }; release 2/5 2/0;
 Idle none Made registered | 2/5 Area first 7 | stage=Releasing link=2/5 area=(35, 7) cause=2/0 | nas 2/5 AreaAccept; release 2/5 2/0;
-Connected 1/1 Active registered | 1/1 Area first 7 | stage=AwaitRelease area=(35, 7) cause=2/0 | nas 1/1 AreaAccept; gateway Release;
-Connecting 1/1 Active registered | 1/2 Area first 7 | stage=AwaitRelease link=1/2 area=(35, 7) cause=2/0 | release 1/1 2/0; nas 1/2 AreaAccept; gateway Release;
-Releasing 1/1 Made registered | 2/5 Area first 7 | link=2/5 area=(35, 7) cause=2/0 | release 1/1 2/0; nas 2/5 AreaAccept; release 2/5 2/0;
+Connected 1/3 Active registered | 1/3 Area first 7 | stage=AwaitRelease area=(35, 7) cause=2/0 | nas 1/3 AreaAccept; gateway Release;
+Connecting 1/3 Active registered | 1/4 Area first 7 | stage=AwaitRelease link=1/4 area=(35, 7) cause=2/0 | release 1/3 2/0; nas 1/4 AreaAccept; gateway Release;
+Releasing 1/3 Made registered | 2/5 Area first 7 | link=2/5 area=(35, 7) cause=2/0 | release 1/3 2/0; nas 2/5 AreaAccept; release 2/5 2/0;
 Detached none None | 2/5 Area first 7 | | nas 2/5 AreaReject { cause: 9 };
 Detached none None | 2/5 Area first 9 | | nas 2/5 AreaReject { cause: 9 };
-Releasing 1/1 None | 1/1 Area first 7 | | nas 1/1 AreaReject { cause: 9 };
-Accepting 1/1 Made | 2/5 Area first 7 | | nas 2/5 AreaReject { cause: 9 };
-Connected 1/1 Active registered | 1/1 Area later 9 | | nas 1/1 AreaReject { cause: 12 };
-Connected 1/1 Active registered | 1/1 Area later 7 | area=(35, 7) | nas 1/1 AreaAccept;
+Releasing 1/3 None | 1/3 Area first 7 | | nas 1/3 AreaReject { cause: 9 };
+Accepting 1/3 Made | 2/5 Area first 7 | | nas 2/5 AreaReject { cause: 9 };
+Authenticating 1/3 None | 2/5 Area first 7 | | nas 2/5 AreaReject { cause: 9 };
+Securing 1/3 None | 1/4 Area first 9 | | nas 1/4 AreaReject { cause: 9 };
+AcceptingContext 1/3 Made | 2/3 Area first 7 | | nas 2/3 AreaReject { cause: 9 };
+AcceptingDone 1/3 Made | 1/3 Area first 9 | | nas 1/3 AreaReject { cause: 9 };
+Connected 1/3 Active registered | 1/3 Area later 9 | | nas 1/3 AreaReject { cause: 12 };
+Connected 1/3 Active registered | 1/3 Area later 8 | | nas 1/3 AreaReject { cause: 12 };
+Connected 1/3 Active registered | 1/3 Area later 7 | area=(35, 7) | nas 1/3 AreaAccept;
 Detached none None | 2/5 Detach first | | nas 2/5 DetachAccept;
 Detached none None | 2/5 Detach first off | |
-Releasing 1/1 None | 2/5 Detach first | | nas 2/5 DetachAccept;
-Releasing 1/1 None | 1/1 Detach first off | |
-Securing 1/1 None | 2/5 Detach first | stage=Releasing link=2/5 cause=2/2 | release 1/1 2/0; nas 2/5 DetachAccept; release 2/5 2/2;
-Securing 1/1 None | 1/1 Detach first off | stage=Releasing cause=2/2 | release 1/1 2/2;
+Releasing 1/3 None | 2/5 Detach first | | nas 2/5 DetachAccept;
+Releasing 1/3 None | 1/3 Detach first off | |
+Securing 1/3 None | 2/5 Detach first | stage=Releasing link=2/5 cause=2/2 | release 1/3 2/0; nas 2/5 DetachAccept; release 2/5 2/2;
+Securing 1/3 None | 1/3 Detach first off | stage=Releasing cause=2/2 | release 1/3 2/2;
+Authenticating 1/3 None | 1/4 Detach first | stage=Releasing link=1/4 cause=2/2 | release 1/3 2/0; nas 1/4 DetachAccept; release 1/4 2/2;
+Accepting 1/3 Made | 2/5 Detach first | stage=AwaitDelete link=2/5 cause=2/2 | release 1/3 2/0; gateway Delete;
+AcceptingContext 1/3 Made | 1/4 Detach first off | stage=AwaitDelete link=1/4 off=true cause=2/2 | release 1/3 2/0; gateway Delete;
+AcceptingDone 1/3 Made | 1/3 Detach first | stage=AwaitDelete cause=2/2 | gateway Delete;
+Connecting 1/3 Made registered | 2/3 Detach first | stage=AwaitDelete link=2/3 registered=false cause=2/2 | release 1/3 2/0; gateway Delete;
+Connecting 1/3 None registered | 1/4 Detach first off | stage=Releasing link=1/4 registered=false cause=2/2 | release 1/3 2/0; release 1/4 2/2;
 Idle none Made registered | 2/5 Detach first | stage=AwaitDelete link=2/5 registered=false cause=2/2 | gateway Delete;
 Idle none Made registered | 2/5 Detach first off | stage=AwaitDelete link=2/5 registered=false off=true cause=2/2 | gateway Delete;
-Releasing 1/1 Made registered | 1/1 Detach first | stage=AwaitDelete registered=false cause=2/2 | gateway Delete;
-Connected 1/1 Active registered | 1/2 Detach first | stage=AwaitDelete link=1/2 registered=false cause=2/2 | release 1/1 2/0; gateway Delete;
-Authenticating 1/1 None | 1/1 Detach later | stage=Releasing cause=2/2 | nas 1/1 DetachAccept; release 1/1 2/2;
-Securing 1/1 None | 1/1 Detach later off | stage=Releasing cause=2/2 | release 1/1 2/2;
-Accepting 1/1 Made | 1/1 Detach later | stage=AwaitDelete cause=2/2 | gateway Delete;
-AcceptingContext 1/1 Made | 1/1 Detach later off | stage=AwaitDelete off=true cause=2/2 | gateway Delete;
-AcceptingDone 1/1 Made | 1/1 Detach later | stage=AwaitDelete cause=2/2 | gateway Delete;
-Connecting 1/1 None registered | 1/1 Detach later | stage=Releasing registered=false cause=2/2 | nas 1/1 DetachAccept; release 1/1 2/2;
-Connected 1/1 Active registered off | 1/1 Detach later | stage=AwaitDelete registered=false off=false cause=2/2 | gateway Delete;
-Connected 1/1 Active registered | 1/1 Detach later off | stage=AwaitDelete registered=false off=true cause=2/2 | gateway Delete;
-AwaitDelete 1/1 Active | answer Deleted | stage=Releasing bearer=None | subscriber Purge; nas 1/1 DetachAccept; release 1/1 3/5;
-AwaitDelete 1/1 Made off | answer Deleted | stage=Releasing bearer=None | subscriber Purge; release 1/1 3/5;
-Detached none None | 1/1 Released | |
-AwaitVectors 1/1 None | 1/1 Attach 7 | |
-Authenticating 1/1 None | 1/2 Response 16 | |
-Securing 1/1 None | 1/1 Response 16 | |
-AwaitLocation 1/1 None | 2/5 Service | |
-AwaitCreate 1/1 None | 1/1 Detach later | |
-Accepting 1/1 Made | 1/1 Area later 7 | |
-AcceptingContext 1/1 Made | 1/1 ContextFailed | |
-AcceptingDone 1/1 Made | 1/1 AttachDone | |
-AwaitModify 1/1 Made | 1/1 ReleaseAsked | |
-Connecting 1/1 Made registered | 1/1 Area later 7 | |
-Connected 1/1 Active registered | 2/1 Area later 7 | |
-AwaitRelease 1/1 Active registered | 1/1 Capability | |
-Releasing 1/1 Made registered | 1/1 Detach later | |
-Idle none Made registered | 1/1 Capability | |
-AwaitDelete 1/1 Made | 2/5 Detach first | |
-Idle none Made registered | 1/1 ReleaseAsked | |
-Connected 1/1 Active registered | 2/1 ReleaseAsked | |
-Securing 1/1 None | 1/2 Secured | |
-Authenticating 1/1 None | answer Vectors | |
-AwaitCreate 1/1 None | answer Located | |
-AwaitLocation 1/1 None | answer Created | |
-Connected 1/1 Active registered | answer Modified | |
-AwaitDelete 1/1 Active | answer Freed | |
-AwaitRelease 1/1 Active registered | answer Deleted | |
-AwaitVectors 1/1 None | answer Purged | |
+Releasing 1/3 Made registered | 1/3 Detach first | stage=AwaitDelete registered=false cause=2/2 | gateway Delete;
+Connected 1/3 Active registered | 1/4 Detach first | stage=AwaitDelete link=1/4 registered=false cause=2/2 | release 1/3 2/0; gateway Delete;
+Authenticating 1/3 None | 1/3 Detach later | stage=Releasing cause=2/2 | nas 1/3 DetachAccept; release 1/3 2/2;
+Securing 1/3 None | 1/3 Detach later off | stage=Releasing cause=2/2 | release 1/3 2/2;
+Accepting 1/3 Made | 1/3 Detach later | stage=AwaitDelete cause=2/2 | gateway Delete;
+AcceptingContext 1/3 Made | 1/3 Detach later off | stage=AwaitDelete off=true cause=2/2 | gateway Delete;
+AcceptingDone 1/3 Made | 1/3 Detach later | stage=AwaitDelete cause=2/2 | gateway Delete;
+Connecting 1/3 None registered | 1/3 Detach later | stage=Releasing registered=false cause=2/2 | nas 1/3 DetachAccept; release 1/3 2/2;
+Connecting 1/3 Made registered | 1/3 Detach later | stage=AwaitDelete registered=false cause=2/2 | gateway Delete;
+Connected 1/3 Active registered off | 1/3 Detach later | stage=AwaitDelete registered=false off=false cause=2/2 | gateway Delete;
+Connected 1/3 Active registered | 1/3 Detach later off | stage=AwaitDelete registered=false off=true cause=2/2 | gateway Delete;
+AwaitDelete 1/3 Active | answer Deleted | stage=Releasing bearer=None | subscriber Purge; nas 1/3 DetachAccept; release 1/3 3/5;
+AwaitDelete 1/3 Made off | answer Deleted | stage=Releasing bearer=None | subscriber Purge; release 1/3 3/5;
+Authenticating 1/3 None | 1/4 Response 16 | |
+AwaitLocation 1/3 None | 2/5 Service | |
+Connected 1/3 Active registered | 2/3 Area later 7 | |
+AwaitDelete 1/3 Made | 2/5 Detach first | |
+AwaitDelete 1/3 Active | answer Freed | |
+Detached none None | 1/3 Response 16, 1/3 Secured, 1/3 SecurityRefused, 1/3 AttachDone, 1/3 ContextDone, 1/3 ContextFailed, 1/3 ReleaseAsked, 1/3 Released, 1/3 Capability, 1/3 Area later 7, 1/3 Detach later | |
+Authenticating 1/3 None | 1/3 Secured, 1/3 SecurityRefused, 1/3 AttachDone, 1/3 ContextDone, 1/3 ContextFailed, 1/3 Released, 1/3 Area later 7 | |
+Securing 1/3 None | 1/3 Response 16, 1/3 AttachDone, 1/3 ContextDone, 1/3 ContextFailed, 1/3 Released, 1/3 Area later 7 | |
+Accepting 1/3 Made | 1/3 Response 16, 1/3 Secured, 1/3 SecurityRefused, 1/3 Released, 1/3 Area later 7 | |
+AcceptingContext 1/3 Made | 1/3 Response 16, 1/3 Secured, 1/3 SecurityRefused, 1/3 ContextDone, 1/3 ContextFailed, 1/3 Released, 1/3 Area later 7 | |
+AcceptingDone 1/3 Made | 1/3 Response 16, 1/3 Secured, 1/3 SecurityRefused, 1/3 AttachDone, 1/3 Released, 1/3 Area later 7 | |
+Connecting 1/3 Made registered | 1/3 Response 16, 1/3 Secured, 1/3 SecurityRefused, 1/3 AttachDone, 1/3 Released, 1/3 Area later 7 | |
+Connected 1/3 Active registered | 1/3 Response 16, 1/3 Secured, 1/3 SecurityRefused, 1/3 AttachDone, 1/3 ContextDone, 1/3 ContextFailed, 1/3 Released | |
+Releasing 1/3 Made registered | 1/3 Response 16, 1/3 Secured, 1/3 SecurityRefused, 1/3 AttachDone, 1/3 ContextDone, 1/3 ContextFailed, 1/3 ReleaseAsked, 1/3 Area later 7, 1/3 Detach later | |
+Releasing 1/3 None | 1/3 Response 16, 1/3 Secured, 1/3 SecurityRefused, 1/3 AttachDone, 1/3 ContextDone, 1/3 ContextFailed, 1/3 ReleaseAsked, 1/3 Area later 7, 1/3 Detach later | |
+Idle none Made registered | 1/3 Response 16, 1/3 Secured, 1/3 SecurityRefused, 1/3 AttachDone, 1/3 ContextDone, 1/3 ContextFailed, 1/3 ReleaseAsked, 1/3 Released, 1/3 Capability, 1/3 Area later 7, 1/3 Detach later | |
+Authenticating 1/3 None | 1/4 Response 17, 2/3 Response 16, 1/4 ReleaseAsked, 2/3 Capability, 1/4 Detach later | |
+Securing 1/3 None | 1/4 Secured, 2/3 Secured, 1/4 SecurityRefused, 2/3 SecurityRefused, 2/3 ReleaseAsked, 1/4 Capability, 2/3 Detach later off | |
+Accepting 1/3 Made | 1/4 AttachDone, 2/3 AttachDone, 1/4 ContextDone, 2/3 ContextDone, 1/4 ContextFailed, 2/3 ContextFailed, 1/4 ReleaseAsked, 2/3 Detach later | |
+AcceptingContext 1/3 Made | 1/4 AttachDone, 2/3 AttachDone, 2/3 ReleaseAsked, 1/4 Detach later | |
+AcceptingDone 1/3 Made | 1/4 ContextDone, 2/3 ContextDone, 1/4 ContextFailed, 2/3 ContextFailed, 2/3 ReleaseAsked, 1/4 Detach later off | |
+Connecting 1/3 Made registered | 1/4 ContextDone, 2/3 ContextDone, 1/4 ContextFailed, 2/3 ContextFailed, 1/4 ReleaseAsked, 2/3 Capability, 1/4 Detach later | |
+Connected 1/3 Active registered | 1/4 ReleaseAsked, 2/3 ReleaseAsked, 1/4 Capability, 1/4 Area later 9, 1/4 Area later 7, 2/3 Area later 9, 2/3 Detach later, 1/4 Detach later off | |
+Releasing 1/3 Made registered | 1/4 Released, 2/3 Released, 2/3 Capability | |
+Releasing 1/3 None | 1/4 Released, 2/3 Released, 1/4 Capability | |
+AwaitVectors 1/3 None | 1/3 Attach 7, 2/5 Attach 9, 1/4 Service, 2/5 Area first 7, 1/3 Area first 9, 2/3 Detach first, 1/3 Detach first off | |
+AwaitVectors 1/3 None | 1/3 Response 16, 1/3 Secured, 1/3 SecurityRefused, 1/3 AttachDone, 1/3 ContextDone, 1/3 ContextFailed, 1/3 ReleaseAsked, 1/3 Released, 1/3 Capability, 1/3 Area later 7, 1/3 Detach later | |
+AwaitLocation 1/3 None | 1/3 Attach 7, 2/5 Attach 9, 1/4 Service, 2/5 Area first 7, 1/3 Area first 9, 2/3 Detach first, 1/3 Detach first off | |
+AwaitLocation 1/3 None | 1/3 Response 16, 1/3 Secured, 1/3 SecurityRefused, 1/3 AttachDone, 1/3 ContextDone, 1/3 ContextFailed, 1/3 ReleaseAsked, 1/3 Released, 1/3 Capability, 1/3 Area later 7, 1/3 Detach later | |
+AwaitCreate 1/3 None | 1/3 Attach 7, 2/5 Attach 9, 1/4 Service, 2/5 Area first 7, 1/3 Area first 9, 2/3 Detach first, 1/3 Detach first off | |
+AwaitCreate 1/3 None | 1/3 Response 16, 1/3 Secured, 1/3 SecurityRefused, 1/3 AttachDone, 1/3 ContextDone, 1/3 ContextFailed, 1/3 ReleaseAsked, 1/3 Released, 1/3 Capability, 1/3 Area later 7, 1/3 Detach later | |
+AwaitModify 1/3 Made | 1/3 Attach 7, 2/5 Attach 9, 1/4 Service, 2/5 Area first 7, 1/3 Area first 9, 2/3 Detach first, 1/3 Detach first off | |
+AwaitModify 1/3 Made | 1/3 Response 16, 1/3 Secured, 1/3 SecurityRefused, 1/3 AttachDone, 1/3 ContextDone, 1/3 ContextFailed, 1/3 ReleaseAsked, 1/3 Released, 1/3 Capability, 1/3 Area later 7, 1/3 Detach later | |
+AwaitModify 1/3 Active registered | 1/3 Attach 7, 2/5 Attach 9, 1/4 Service, 2/5 Area first 7, 1/3 Area first 9, 2/3 Detach first, 1/3 Detach first off | |
+AwaitModify 1/3 Active registered | 1/3 Response 16, 1/3 Secured, 1/3 SecurityRefused, 1/3 AttachDone, 1/3 ContextDone, 1/3 ContextFailed, 1/3 ReleaseAsked, 1/3 Released, 1/3 Capability, 1/3 Area later 7, 1/3 Detach later | |
+AwaitRelease 1/3 Active registered | 1/3 Attach 7, 2/5 Attach 9, 1/4 Service, 2/5 Area first 7, 1/3 Area first 9, 2/3 Detach first, 1/3 Detach first off | |
+AwaitRelease 1/3 Active registered | 1/3 Response 16, 1/3 Secured, 1/3 SecurityRefused, 1/3 AttachDone, 1/3 ContextDone, 1/3 ContextFailed, 1/3 ReleaseAsked, 1/3 Released, 1/3 Capability, 1/3 Area later 7, 1/3 Detach later | |
+AwaitDelete 1/3 Made | 1/3 Attach 7, 2/5 Attach 9, 1/4 Service, 2/5 Area first 7, 1/3 Area first 9, 2/3 Detach first, 1/3 Detach first off | |
+AwaitDelete 1/3 Made | 1/3 Response 16, 1/3 Secured, 1/3 SecurityRefused, 1/3 AttachDone, 1/3 ContextDone, 1/3 ContextFailed, 1/3 ReleaseAsked, 1/3 Released, 1/3 Capability, 1/3 Area later 7, 1/3 Detach later | |
+AwaitVectors 1/3 None | answer Located, answer Created, answer Modified, answer Freed, answer Deleted, answer Purged | |
+AwaitLocation 1/3 None | answer Vectors, answer Created, answer Modified, answer Freed, answer Deleted, answer Purged | |
+AwaitCreate 1/3 None | answer Vectors, answer Located, answer Modified, answer Freed, answer Deleted, answer Purged | |
+AwaitModify 1/3 Made | answer Vectors, answer Located, answer Created, answer Freed, answer Deleted, answer Purged | |
+AwaitModify 1/3 Active registered | answer Vectors, answer Located, answer Created, answer Freed, answer Deleted, answer Purged | |
+AwaitRelease 1/3 Active registered | answer Vectors, answer Located, answer Created, answer Modified, answer Deleted, answer Purged | |
+AwaitDelete 1/3 Made | answer Vectors, answer Located, answer Created, answer Modified, answer Freed, answer Purged | |
+Detached none None | answer Vectors, answer Located, answer Created, answer Modified, answer Freed, answer Deleted, answer Purged | |
+Authenticating 1/3 None | answer Vectors, answer Located, answer Created, answer Modified, answer Freed, answer Deleted, answer Purged | |
+Securing 1/3 None | answer Vectors, answer Located, answer Created, answer Modified, answer Freed, answer Deleted, answer Purged | |
+Accepting 1/3 Made | answer Vectors, answer Located, answer Created, answer Modified, answer Freed, answer Deleted, answer Purged | |
+AcceptingContext 1/3 Made | answer Vectors, answer Located, answer Created, answer Modified, answer Freed, answer Deleted, answer Purged | |
+AcceptingDone 1/3 Made | answer Vectors, answer Located, answer Created, answer Modified, answer Freed, answer Deleted, answer Purged | |
+Connecting 1/3 Made registered | answer Vectors, answer Located, answer Created, answer Modified, answer Freed, answer Deleted, answer Purged | |
+Connected 1/3 Active registered | answer Vectors, answer Located, answer Created, answer Modified, answer Freed, answer Deleted, answer Purged | |
+Releasing 1/3 Made registered | answer Vectors, answer Located, answer Created, answer Modified, answer Freed, answer Deleted, answer Purged | |
+Releasing 1/3 None | answer Vectors, answer Located, answer Created, answer Modified, answer Freed, answer Deleted, answer Purged | |
+Idle none Made registered | answer Vectors, answer Located, answer Created, answer Modified, answer Freed, answer Deleted, answer Purged | |
 ";
 
 fn stage(word: &str) -> Stage {
@@ -281,31 +350,66 @@ fn write_link(text: &mut String, old: Link, new: Link) -> Result<(), AllocError>
     }
 }
 
-/// What a step changes, and what it makes.
-fn step_text(alloc: Global, old: &Session, step: &Step) -> Result<String, AllocError> {
-    let mut text = String::new(alloc);
-    write_changes(&mut text, old, &step.session)?;
+/// What a step changes, and what it makes, put behind the text.
+fn tell_step(text: &mut String, old: &Session, step: &Step) -> Result<(), AllocError> {
+    write_changes(text, old, &step.session)?;
     text.push_str(" |")?;
-    write_effects(&mut text, step.effects.items())?;
-    Ok(text)
+    write_effects(text, step.effects.items())
 }
 
-fn what_follows(alloc: Global, row: &Subscriber, before: &str, came: &str) -> Result<String, Fail> {
-    let session = session(alloc, before)?;
+/// What an input comes to, put behind the text.
+fn tell_input(
+    alloc: Global,
+    row: &Subscriber,
+    session: &Session,
+    came: &str,
+    told: &mut String,
+) -> Result<(), Fail> {
     let input = input(alloc, came)?;
-    let step = step(row, &session, &input)?;
-    Ok(step_text(alloc, &session, &step)?)
+    let step = step(row, session, &input)?;
+    tell_step(told, session, &step)?;
+    Ok(())
+}
+
+/// What the inputs of a line come to, a line each.
+fn tell_line(alloc: Global, row: &Subscriber, line: &str, told: &mut String) -> Result<(), Fail> {
+    let (before, rest) = line.split_once(" | ").ok_or("no input")?;
+    let (inputs, _) = rest.split_once(" |").ok_or("no step")?;
+    let session = session(alloc, before)?;
+    for came in inputs.split(", ") {
+        write!(told, "{before} | {came} |")?;
+        tell_input(alloc, row, &session, came, told)?;
+        told.push('\n')?;
+    }
+    Ok(())
+}
+
+/// What the line says that they come to, a line each.
+fn want_line(line: &str, wanted: &mut String) -> Result<(), Fail> {
+    let (before, rest) = line.split_once(" | ").ok_or("no input")?;
+    let (inputs, want) = rest.split_once(" |").ok_or("no step")?;
+    for came in inputs.split(", ") {
+        writeln!(wanted, "{before} | {came} |{want}")?;
+    }
+    Ok(())
+}
+
+/// What the inputs of all lines come to, and what the lines say that they do.
+fn tell_lines(alloc: Global, told: &mut String, wanted: &mut String) -> Result<(), Fail> {
+    let row = subscriber(alloc)?;
+    for line in STEPS.lines() {
+        tell_line(alloc, &row, line, told)?;
+        want_line(line, wanted)?;
+    }
+    Ok(())
 }
 
 #[test]
 fn each_row_is_the_standards(rt: HostRuntime) -> Result<(), Fail> {
     let alloc = rt.alloc();
-    let row = subscriber(alloc)?;
-    for line in STEPS.lines() {
-        let (before, rest) = line.split_once(" | ").ok_or("no input")?;
-        let (came, want) = rest.split_once(" |").ok_or("no step")?;
-        let got = what_follows(alloc, &row, before, came)?;
-        assert_eq!(rt; got.as_str(), want, "{line}");
-    }
+    let mut told = String::new(alloc);
+    let mut wanted = String::new(alloc);
+    tell_lines(alloc, &mut told, &mut wanted)?;
+    assert_eq!(rt; told.as_str(), wanted.as_str());
     Ok(())
 }

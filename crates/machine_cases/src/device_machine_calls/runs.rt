@@ -10,56 +10,56 @@ use std::test::Fail;
 
 /// A line a message.
 const MESSAGES: &str = "\
-1/1 Attach 7
-1/1 Response 17
-1/1 Released
-1/1 Attach 7
-1/1 Response
-1/1 Secured
-1/1 ContextDone
-1/1 Capability
-1/1 AttachDone
-1/1 ReleaseAsked
-1/1 Released
-1/2 Service
-1/2 ContextDone
-1/2 ReleaseAsked
-1/2 Released
-1/3 Area first 9
-1/3 Released
-1/4 Detach first
-1/4 Released
+1/5 Attach 7
+1/5 Response 17
+1/5 Released
+1/5 Attach 7
+1/5 Response 16
+1/5 Secured
+1/5 ContextDone
+1/5 Capability
+1/5 AttachDone
+1/5 ReleaseAsked
+1/5 Released
+1/6 Service
+1/6 ContextDone
+1/6 ReleaseAsked
+1/6 Released
+1/7 Area first 9
+1/7 Released
+1/8 Detach first
+1/8 Released
 ";
 
 /// A line a step: the stage that it leads to, and what it makes. The steps on answers stand among them.
 const STEPS: &str = "\
 AwaitVectors | subscriber Vectors;
-Authenticating | nas 1/1 AuthRequest { rand: ListOf { items: [] }, autn: ListOf { items: [] } };
-Releasing | nas 1/1 AuthReject; release 1/1 2/1;
+Authenticating | nas 1/5 AuthRequest { rand: ListOf { items: [51] }, autn: ListOf { items: [52] } };
+Releasing | nas 1/5 AuthReject; release 1/5 2/1;
 Detached |
 AwaitVectors | subscriber Vectors;
-Authenticating | nas 1/1 AuthRequest { rand: ListOf { items: [] }, autn: ListOf { items: [] } };
-Securing | nas 1/1 SecurityCommand { eea: 32, eia: 33 };
+Authenticating | nas 1/5 AuthRequest { rand: ListOf { items: [51] }, autn: ListOf { items: [52] } };
+Securing | nas 1/5 SecurityCommand { eea: 32, eia: 33 };
 AwaitLocation | subscriber Location;
 AwaitCreate | gateway Create;
-Accepting | setup 1/1 55 56 57 58 32 33 [0, 0, 0, 0, 0, 0, 0, 0, 0, 0, 0, 0, 0, 0, 0, 0, 0, 0, 0, 0, 0, 0, 0, 0, 0, 0, 0, 0, 0, 0, 0, 0] Yes { plmn: 31, tac: 7, pti: 34, ip: 59 };
+Accepting | setup 1/5 55 56 57 58 32 33 [0, 0, 0, 0, 0, 0, 0, 0, 0, 0, 0, 0, 0, 0, 0, 0, 0, 0, 0, 0, 0, 0, 0, 0, 0, 0, 0, 0, 0, 0, 0, 0] Yes { plmn: 31, tac: 7, pti: 34, ip: 59 };
 AcceptingContext |
 AcceptingContext |
 AwaitModify | gateway Modify(41, 42);
 Connected |
 AwaitRelease | gateway Release;
-Releasing | release 1/1 0/20+;
+Releasing | release 1/5 0/20+;
 Idle |
-Connecting | setup 1/2 55 56 57 58 32 33 [0, 0, 0, 0, 0, 0, 0, 0, 0, 0, 0, 0, 0, 0, 0, 0, 0, 0, 0, 0, 0, 0, 0, 0, 0, 0, 0, 0, 0, 0, 0, 0] No;
+Connecting | setup 1/6 55 56 57 58 32 33 [0, 0, 0, 0, 0, 0, 0, 0, 0, 0, 0, 0, 0, 0, 0, 0, 0, 0, 0, 0, 0, 0, 0, 0, 0, 0, 0, 0, 0, 0, 0, 0] No;
 AwaitModify | gateway Modify(41, 42);
 Connected |
 AwaitRelease | gateway Release;
-Releasing | release 1/2 0/20+;
+Releasing | release 1/6 0/20+;
 Idle |
-Releasing | nas 1/3 AreaReject { cause: 12 }; release 1/3 2/0;
+Releasing | nas 1/7 AreaReject { cause: 12 }; release 1/7 2/0;
 Idle |
 AwaitDelete | gateway Delete;
-Releasing | subscriber Purge; nas 1/4 DetachAccept; release 1/4 2/2;
+Releasing | subscriber Purge; nas 1/8 DetachAccept; release 1/8 2/2;
 Detached |
 ";
 
