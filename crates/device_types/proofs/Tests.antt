@@ -1,5 +1,5 @@
 -- What two tests of the step table say: that of an area, and that of a session in which no answer is awaited.
-use Rattle.std.proofs.Common.{◌≡◌, ℕ, ◌==◌, suc, zero, ◌≤◌, Bool, true, false, ◌||◌, List, [], ◌∷◌, Some, filter, refl, sym, ap, ◌∙◌, arith, subst}
+use Rattle.std.proofs.Common.{◌≡◌, ℕ, ◌==◌, suc, zero, ◌≤◌, Bool, true, false, ◌||◌, List, [], ◌∷◌, Some, filter, refl, sym, ap, ◌∙◌, arith}
 use Rattle.std.specs.Prelude.{◌↔◌, slice_get}
 use Rattle.std.specs.List.{list_any}
 use Rattle.std.proofs.lemmas.Grind.{common_steps}

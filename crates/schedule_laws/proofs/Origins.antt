@@ -1,5 +1,5 @@
 -- Where what a replica holds comes from.
-use Rattle.std.proofs.Common.{◌≡◌, ◌==◌, ℕ, Bool, true, false, cond, ◌&&◌, List, [], ◌∷◌, ◌++◌, Option, Some, None, refl, sym, ap, ◌∙◌, subst}
+use Rattle.std.proofs.Common.{◌≡◌, ◌==◌, ℕ, Bool, true, false, cond, List, [], ◌∷◌, ◌++◌, Option, Some, None, refl, sym, ap, ◌∙◌, subst}
 use Rattle.std.specs.List.{AllByRecursion}
 use Rattle.std.specs.Prelude.{◌↔◌}
 use Rattle.device_types.specs.declared.event.Event.TheVariants.{Take, Answer, Read, Write, Stop}
@@ -7,7 +7,7 @@ use Rattle.device_types.specs.declared.event.EventAnswer.{EventAnswer}
 use Rattle.device_types.specs.declared.event.EventAnswer.TheVariants as told
 use Rattle.schedule_laws.specs.Counts.{Turn, Arrival, Held, after_read, held_after, hand}
 use Rattle.schedule_laws.specs.Counts.Held.{Nothing, Taken, Ready}
-use Rattle.schedule_laws.specs.Origins.{brought, ends, was_told, IsBetween, IsFrom, IsLastRead, IsReadySince}
+use Rattle.schedule_laws.specs.Origins.{brought, ends, was_told, IsBetween, IsFrom, IsReadySince}
 use Rattle.schedule_laws.specs.Promise.{Holds}
 
 -- ---- what one turn does to a hand

@@ -1,5 +1,5 @@
 -- What a read is told, answer by answer.
-use Rattle.std.proofs.Common.{◌≡◌, ◌==◌, ℕ, ◌+◌, ◌≤◌, ◌<◌, Bool, true, false, cond, ◌&&◌, List, Option, Some, None, refl, sym, ap, ◌∙◌, subst, arith}
+use Rattle.std.proofs.Common.{◌≡◌, ◌==◌, ℕ, ◌+◌, ◌≤◌, Bool, true, false, cond, List, Option, Some, None, refl, sym, ap, ◌∙◌, subst, arith}
 use Rattle.std.specs.Prelude.{◌≢◌, ◌↔◌, nat_le, nat_lt}
 use Rattle.device_types.specs.declared.event.Event.TheVariants.{Read}
 use Rattle.device_types.specs.declared.event.EventAnswer.{EventAnswer}
