@@ -40,18 +40,17 @@ const OTHER: &str =
 
 #[test]
 fn every_order(rt: HostRuntime) -> Result<(), Fail> {
-    let mut differing = String::new(rt.alloc());
-    let mut firsts = 0;
+    let mut told = String::new(rt.alloc());
     for number in 0..720 {
         let octets = in_order(rt.alloc(), number)?;
         let mut text = String::new(rt.alloc());
         tell(rt.alloc(), &mut text, &octets)?;
         if text.as_str() == FIRST {
-            firsts += 1;
+            told.push_str("first\n")?;
         } else if text.as_str() != OTHER {
-            write!(differing, "{number}: {text}\n")?;
+            write!(told, "{number}: {text}\n")?;
         }
     }
-    assert_eq!(rt; (firsts, differing.as_str()), (1, ""));
+    assert_eq!(rt; told.as_str(), "first\n");
     Ok(())
 }

@@ -42,9 +42,14 @@ fn told(alloc: Global, table: &str) -> Result<String, Fail> {
 fn worked_messages(rt: HostRuntime) -> Result<(), Fail> {
     assert_eq!(rt; told(rt.alloc(), NAS_TRANSPORTS)?.as_str(), NAS_TRANSPORTS);
     assert_eq!(rt; told(rt.alloc(), CONTEXTS)?.as_str(), CONTEXTS);
-    assert_eq!(rt; told(rt.alloc(), UNLIKE_FIELDS)?.as_str(), UNLIKE_FIELDS);
     assert_eq!(rt; told(rt.alloc(), OTHER_IES)?.as_str(), OTHER_IES);
     assert_eq!(rt; told(rt.alloc(), EXTENDED_ITEMS)?.as_str(), EXTENDED_ITEMS);
+    Ok(())
+}
+
+#[test]
+fn unlike_fields(rt: HostRuntime) -> Result<(), Fail> {
+    assert_eq!(rt; told(rt.alloc(), UNLIKE_FIELDS)?.as_str(), UNLIKE_FIELDS);
     Ok(())
 }
 
@@ -149,6 +154,10 @@ const OTHER_IES: &str = "
 000c4046000006000800020001001a00161507417108298039000000001002e0e000040201d011004300060002f8390001006440080002f839000000100086400130004b000400000000 000c403e000005000800020001001a00161507417108298039000000001002e0e000040201d011004300060002f8390001006440080002f839000000100086400130 InitialUeMessage { enb: 1, nas: ListOf { items: [7, 65, 113, 8, 41, 128, 57, 0, 0, 0, 0, 16, 2, 224, 224, 0, 4, 2, 1, 208, 17] }, tai: Tai { plmn: 194617, tac: 1 }, cgi: Cgi { plmn: 194617, cell: 1 }, rrc: EnumValue { extended: false, index: 3 }, stmsi: None }
 # with iE-Extensions in its TAI, o 1: one entry with the id 99 hexadecimal, to be ignored, of one octet
 000c4045000005000800020001001a00161507417108298039000000001002e0e000040201d0110043000d4002f839000100000099400100006440080002f839000000100086400130 000c403e000005000800020001001a00161507417108298039000000001002e0e000040201d011004300060002f8390001006440080002f839000000100086400130 InitialUeMessage { enb: 1, nas: ListOf { items: [7, 65, 113, 8, 41, 128, 57, 0, 0, 0, 0, 16, 2, 224, 224, 0, 4, 2, 1, 208, 17] }, tai: Tai { plmn: 194617, tac: 1 }, cgi: Cgi { plmn: 194617, cell: 1 }, rrc: EnumValue { extended: false, index: 3 }, stmsi: None }
+# items of lists with any criticality: an item 50 with reject and notify, an item 52 with ignore
+200900220000030000400200010008400200010033400f000032000a0a1fc0a8000200000002 200900220000030000400200010008400200010033400f000032400a0a1fc0a8000200000002 InitialContextSetupResponse { mme: 1, enb: 1, done: ListOf { items: [ErabDone { id: 5, address: 3232235522, teid: 2 }] } }
+200900220000030000400200010008400200010033400f000032800a0a1fc0a8000200000002 200900220000030000400200010008400200010033400f000032400a0a1fc0a8000200000002 InitialContextSetupResponse { mme: 1, enb: 1, done: ListOf { items: [ErabDone { id: 5, address: 3232235522, teid: 2 }] } }
+000900610000060000000200010008000200010042000a183b9aca00603b9aca0000180013000034400e050009200f80c0a8000100000001006b000518000c0000004900201111111111111111111111111111111111111111111111111111111111111111 000900610000060000000200010008000200010042000a183b9aca00603b9aca0000180013000034000e050009200f80c0a8000100000001006b000518000c0000004900201111111111111111111111111111111111111111111111111111111111111111 InitialContextSetupRequest { mme: 1, enb: 1, rates: BitRates { dl: 1000000000, ul: 1000000000 }, bearers: ListOf { items: [ErabToSetup { id: 5, qci: 9, arp: 32, address: 3232235521, teid: 1, nas: None }] }, caps: SecCaps { eea: 49152, eia: 49152 }, key: ListOf { items: [17, 17, 17, 17, 17, 17, 17, 17, 17, 17, 17, 17, 17, 17, 17, 17, 17, 17, 17, 17, 17, 17, 17, 17, 17, 17, 17, 17, 17, 17, 17, 17] } }
 ";
 
 const EXTENDED_ITEMS: &str = "
