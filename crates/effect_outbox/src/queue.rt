@@ -85,8 +85,7 @@ impl LaneQueue {
 fn drop_front(effects: &mut VecDeque<Effect>, count: usize)
     ensures { effects.new.items ≡ drop count effects.old.items }
 {
-    for i in 0..count {
-        let _ = i;
+    for _i in 0..count {
         let _ = effects.pop_front();
     }
 }
