@@ -10,6 +10,8 @@ ghost use Rattle.echo_run.specs.Answer.{IsAdmitted, plain_of, replay_of, is_case
 ghost use Rattle.command_words.specs.Command.{IsInLimits};
 ghost use Rattle.echo_run.specs.Replay.{told_of, IsRun};
 ghost use Rattle.echo_run.specs.Summary.{made_replicas, summary_by, summary_on};
+ghost use Rattle.link_schedule.specs.Floor.{AreEndsOn, IsOpen};
+ghost use Rattle.schedule_laws.specs.Lists.{Begins};
 ghost use Rattle.echo_run.specs.declared.answer.NoText.TheVariants as no_text;
 
 use crate::ends::finals_of;
@@ -17,7 +19,7 @@ use crate::replay::transcript;
 use crate::summary::{scheduled, summary_text};
 use case_form::{Case, CaseBad, read_case};
 use command_words::Command;
-use device_types::Octets;
+use device_types::{Finals, Octets};
 use echo_base::{OutOfMemory, Reason};
 use entry_edge::{Admitted, admit};
 use link_schedule::Floor;
@@ -92,6 +94,20 @@ fn plain(alloc: Global, case: &Case) -> Result<Octets, OutOfMemory>
     ends_text(alloc, case, &admitted)
 }
 
+/// What became of the devices of a floor, once it has settled.
+fn settled_ends<F: Floor>(alloc: Global, floor: &mut F) -> Result<Finals, OutOfMemory>
+    requires { IsOpen (F.setting floor.old) }
+    ensures exact { F.exact floor.new ≡ F.exact floor.old }
+    ensures setting { F.setting floor.new ≡ F.setting floor.old }
+    ensures given { Begins (F.given floor.old) (F.given floor.new) }
+    ensures settled { OnOk result (AreEndsOn (F.setting floor.new) (F.exact floor.new) (F.ends floor.new)) }
+    ensures ends { IfOk result (λ ends. ends ≡ F.ends floor.new) }
+{
+    floor.settle_all()?;
+    let ends = floor.finals(alloc)?;
+    Ok(ends)
+}
+
 /// The answers that a floor with so many replicas gives to the events of a case, and then, once it has settled, its ends.
 fn replay<F: Floor>(
     alloc: Global,
@@ -114,8 +130,7 @@ fn replay<F: Floor>(
     let admitted = admitted(alloc, case)?;
     floor.open(alloc, &case.table, &admitted.book, replicas)?;
     let mut text = transcript(alloc, floor, &case.schedule)?;
-    floor.settle_all()?;
-    let finals = floor.finals(alloc)?;
+    let finals = settled_ends(alloc, floor)?;
     let ends = final_text(alloc, &case.table, &admitted.refused, &finals)?;
     text.append(ends)?;
     Ok(text)
@@ -138,8 +153,7 @@ fn summary<F: Floor>(alloc: Global, case: &Case, floor: &mut F) -> Result<Octets
     let admitted = admitted(alloc, case)?;
     floor.open(alloc, &case.table, &admitted.book, MADE_REPLICAS)?;
     let counts = scheduled(floor, &case.schedule)?;
-    floor.settle_all()?;
-    let ends = floor.finals(alloc)?;
+    let ends = settled_ends(alloc, floor)?;
     let text = summary_text(alloc, &admitted, counts, &ends)?;
     Ok(text)
 }

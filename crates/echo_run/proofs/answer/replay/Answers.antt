@@ -26,12 +26,12 @@ returns-clause-run g c =
     let H = history rows c.args.case.now.trace.items in
     let book = c.in_ok-admitted.admitted.book in
     let first = g.F.Floor.given c.transcript.new.floor in
-    let settled = c.settle_all.new.self in
-    let on = c.in_ok-settle_all.ensures.setting ∙ c.in_ok-text.ensures.setting ∙ c.in_ok-open.ensures.setting in
-    let exact = c.in_ok-settle_all.ensures.exact ∙ c.in_ok-text.ensures.exact ∙ c.in_ok-open.ensures.exact in
-    let ends = subst (λ (x : Bool). AreEndsOn (g.F.Floor.setting settled) x (g.F.Floor.ends settled)) exact c.in_ok-settle_all.ensures.ends in
+    let settled = c.settled_ends.new.floor in
+    let on = c.in_ok-finals.ensures.setting ∙ c.in_ok-text.ensures.setting ∙ c.in_ok-open.ensures.setting in
+    let exact = c.in_ok-finals.ensures.exact ∙ c.in_ok-text.ensures.exact ∙ c.in_ok-open.ensures.exact in
+    let ends = subst (λ (x : Bool). AreEndsOn (g.F.Floor.setting settled) x (g.F.Floor.ends settled)) exact c.in_ok-finals.ensures.settled in
     is_run rows H c.args.case.now.schedule.items c.args.replicas book (g.F.Floor.exact c.args.floor.now) (g.F.Floor.setting settled) first (g.F.Floor.given settled) (g.F.Floor.ends settled)
-    c.in_ok-admitted.ensures.book on (c.in_ok-text.ensures.given ∙ c.deref.ensures.value) c.in_ok-settle_all.ensures.given ends
+    c.in_ok-admitted.ensures.book on (c.in_ok-text.ensures.given ∙ c.deref.ensures.value) c.in_ok-finals.ensures.given ends
 
 pub returns-clause-definition : goal.returns-clause-definition
 returns-clause-definition g c = λ exact.
@@ -39,14 +39,14 @@ returns-clause-definition g c = λ exact.
     let H = history rows c.args.case.now.trace.items in
     let book = c.in_ok-admitted.admitted.book in
     let told = c.transcript.new.floor in
-    let settled = c.settle_all.new.self in
+    let settled = c.settled_ends.new.floor in
     let first = g.F.Floor.given told in
     let on = c.in_ok-text.ensures.setting ∙ c.in_ok-open.ensures.setting ∙ ap (λ (x : List (List Message)). Some (setting rows x c.args.replicas)) c.in_ok-admitted.ensures.book in
     let is_exact = c.in_ok-text.ensures.exact ∙ c.in_ok-open.ensures.exact ∙ exact in
     let ends = (returns-clause-run g c).exact_ends exact in
     let last = c.in_ok-ends.ensures
     ∙ ap (λ refused. final_text rows refused c.in_ok-finals.finals) (c.deref-2.ensures.value ∙ c.in_ok-admitted.ensures.refused)
-    ∙ ap (final_text rows (refused_of H)) c.in_ok-finals.ensures in
+    ∙ ap (final_text rows (refused_of H)) c.in_ok-finals.ensures.ends in
     let text = c.in_ok-append.ensures.ok
     ∙ ap (λ lines. lines ++ c.in_ok-ends.ends) c.in_ok-text.ensures.text
     ∙ ap (λ ends. lines_from 1 (map (λ turn. turn.1) first) ++ ends) last in

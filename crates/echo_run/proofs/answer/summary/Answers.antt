@@ -30,19 +30,19 @@ returns-clause-run g c =
     let H = history rows c.args.case.now.trace.items in
     let book = c.in_ok-admitted.admitted.book in
     let first = g.F.Floor.given c.scheduled.new.floor in
-    let settled = c.settle_all.new.self in
-    let on = c.in_ok-settle_all.ensures.setting ∙ c.in_ok-counts.ensures.setting ∙ c.in_ok-open.ensures.setting in
-    let exact = c.in_ok-settle_all.ensures.exact ∙ c.in_ok-counts.ensures.exact ∙ c.in_ok-open.ensures.exact in
-    let ends = subst (λ (x : Bool). AreEndsOn (g.F.Floor.setting settled) x (g.F.Floor.ends settled)) exact c.in_ok-settle_all.ensures.ends in
+    let settled = c.settled_ends.new.floor in
+    let on = c.in_ok-ends.ensures.setting ∙ c.in_ok-counts.ensures.setting ∙ c.in_ok-open.ensures.setting in
+    let exact = c.in_ok-ends.ensures.exact ∙ c.in_ok-counts.ensures.exact ∙ c.in_ok-open.ensures.exact in
+    let ends = subst (λ (x : Bool). AreEndsOn (g.F.Floor.setting settled) x (g.F.Floor.ends settled)) exact c.in_ok-ends.ensures.settled in
     is_run rows H c.args.case.now.schedule.items made_replicas book (g.F.Floor.exact c.args.floor.now) (g.F.Floor.setting settled) first (g.F.Floor.given settled) (g.F.Floor.ends settled)
-    c.in_ok-admitted.ensures.book on (c.in_ok-counts.ensures.given ∙ c.deref.ensures.value) c.in_ok-settle_all.ensures.given ends
+    c.in_ok-admitted.ensures.book on (c.in_ok-counts.ensures.given ∙ c.deref.ensures.value) c.in_ok-ends.ensures.given ends
 
 pub returns-clause-definition : goal.returns-clause-definition
 returns-clause-definition g c = λ exact.
     let rows = c.args.case.now.table in
     let H = history rows c.args.case.now.trace.items in
     let told = c.scheduled.new.floor in
-    let settled = c.settle_all.new.self in
+    let settled = c.settled_ends.new.floor in
     let first = g.F.Floor.given told in
     let refused = c.in_ok-admitted.admitted.refused.items in
     let counts = c.in_ok-counts.counts in
@@ -54,6 +54,6 @@ returns-clause-definition g c = λ exact.
     ∙ ap (λ (x : List (List Message)). summary_line (summary_of x refused counts finals)) c.in_ok-admitted.ensures.book
     ∙ ap (λ (x : List RefusedLine). summary_line (summary_of (book_of (length rows) H) x counts finals)) c.in_ok-admitted.ensures.refused
     ∙ ap (λ (x : Scheduled). summary_line (summary_of (book_of (length rows) H) (refused_of H) x finals)) c.in_ok-counts.ensures.counts
-    ∙ ap (λ (x : List DeviceEnd). summary_line (summary_of (book_of (length rows) H) (refused_of H) (scheduled_of (map (λ turn. turn.1) first)) x)) c.in_ok-ends.ensures in
+    ∙ ap (λ (x : List DeviceEnd). summary_line (summary_of (book_of (length rows) H) (refused_of H) (scheduled_of (map (λ turn. turn.1) first)) x)) c.in_ok-ends.ensures.ends in
     exactly_summed rows H c.args.case.now.schedule.items first (g.F.Floor.ends settled) c.in_ok-text.text
     (c.in_ok-counts.ensures.given ∙ c.deref.ensures.value) (g.met.F.Floor.answered told (setting_of rows H made_replicas) is_exact on) ends text
