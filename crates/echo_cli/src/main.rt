@@ -2,10 +2,9 @@
 //! it writes one line to standard error; it ends with the status's code.
 #![tactic(auto)]
 
-use echo_base::{RealSink, RealSource, Status, write_all};
-use echo_run::replay_own;
+use echo_base::{RealSink, RealSource, Status};
+use echo_run::replay_top;
 use link_schedule::OwnFloor;
-use report_text::status_line;
 use std::env;
 use std::io::ErrorKind;
 use std::process::ExitCode;
@@ -22,38 +21,24 @@ fn words(rt: &HostRuntime) -> Result<Vec<String>, Status> {
     }
 }
 
-/// Runs the command over standard input and output.
+/// Runs the command over standard input and output, and a schedule on a world of its own, which is whole where it has settled.
 fn run(rt: &HostRuntime) -> Status {
     match words(rt) {
         Ok(words) => {
             let mut input = RealSource::new(rt.stdin());
             let mut output = RealSink::new(rt.stdout());
             let mut floor = OwnFloor::new();
-            replay_own(rt.alloc(), &words, &mut input, &mut output, &mut floor)
+            let status = replay_top(rt.alloc(), &words, &mut input, &mut output, &mut floor);
+            floor.recall();
+            status
         }
         Err(status) => status,
     }
 }
 
-/// Prints the line of a status to standard error.
+/// Prints the line of a status to standard error, all of it also where memory is short: it takes none.
 fn print_line(rt: &HostRuntime, status: &Status) {
-    match status_line(rt.alloc(), status) {
-        Ok(line) => {
-            let mut errors = RealSink::new(rt.stderr());
-            let _ = write_all(&mut errors, line.octets());
-        }
-        Err(_) => print_bare_line(rt, status),
-    }
-}
-
-/// Prints the line of a status to standard error without the name of a reason. It takes no memory.
-fn print_bare_line(rt: &HostRuntime, status: &Status) {
-    let _ = match status {
-        Status::CaseRefused { number, line } => {
-            eprintln!(rt; "echo: case refused {number} line {line}")
-        }
-        _ => eprintln!(rt; "{status}"),
-    };
+    let _ = eprintln!(rt; "{status}");
 }
 
 fn main(rt: HostRuntime) -> ExitCode {
