@@ -207,9 +207,9 @@ class Captures(InFolder):
     message = bytes.fromhex(trace_of(ATTACH)[0].split(" ")[1])
     other = bytes.fromhex(trace_of(ATTACH)[3].split(" ")[1])
 
-    def back(self, octets: bytes) -> "Tuple[List[str], List[str]]":
-        capture = self.file("capture", octets)
-        done = self.ran("pcap2case", capture, "-", given=subscribers_of(ATTACH))
+    def back(self, octets: bytes, status: int = 0) -> "Tuple[List[str], List[str]]":
+        done = run("pcap2case", self.file("capture", octets), "-", given=subscribers_of(ATTACH))
+        self.assertEqual(done.returncode, status, done.stderr)
         return trace_of(done.stdout), told(done)
 
     def line(self, station: int, message: bytes) -> str:
@@ -247,7 +247,7 @@ class Captures(InFolder):
 
     def test_a_message_too_long_for_a_line(self) -> None:
         long = bytes.fromhex("00164090") + bytes(4092)  # "1 " and 8,192 digits
-        lines, end = self.back(pcap_of([Frame(True, 1, long), Frame(True, 1, long[:-1])]))
+        lines, end = self.back(pcap_of([Frame(True, 1, long), Frame(True, 1, long[:-1])]), status=1)  # a line is missing
         self.assertEqual(lines, [self.line(1, long[:-1])])
         self.assertEqual(end, ["pcap2case: 1 line of a trace; left out: 0 of the MME, 0 of other procedures, 1 too long for a line"])
 
