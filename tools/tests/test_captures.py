@@ -300,12 +300,13 @@ class Schedules(InFolder):
         def answers(kind: str) -> str:
             return "".join(run_program("replay", self.scheduled("--schedule", kind, "--seed", str(seed))).decode() for seed in range(6))
 
+        plain, lossy, stops = (answers(it) for it in ("plain", "lossy", "stops"))
         for word in ("void", "stale", "repeat", "stopped", "old", "ahead", "waiting"):
-            self.assertNotIn(f": {word}", answers("plain"))
+            self.assertNotIn(f": {word}", plain)
         for word in ("stale", "repeat", "old", "ahead"):
-            self.assertIn(f": {word}", answers("lossy"))
+            self.assertIn(f": {word}", lossy)
         for word in ("stopped", "repeat", "void hand"):
-            self.assertIn(f": {word}", answers("stops"))
+            self.assertIn(f": {word}", stops)
 
 
 @needs("program")
