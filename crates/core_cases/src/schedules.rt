@@ -1,14 +1,13 @@
 //! Schedules over the world of one device, with what each event comes to, by hand: what a row says by numbers first, and by the call
 //! that is awaited only then; and what a hand loses.
-ghost use Rattle.std.specs.Prelude.{◌≡◌, ◌≤◌, true, length, All, IfOk};
+ghost use Rattle.std.specs.Prelude.{◌≡◌, length, All, IfOk};
 ghost use Rattle.device_types.specs.Line.{IsLine};
 ghost use Rattle.device_types.specs.Message.{IsBody, IsMessage};
-ghost use Rattle.device_types.specs.Numbers.{IsWithin};
-ghost use Rattle.schedule_laws.specs.Answer.{IsEvent};
 ghost use Rattle.link_schedule.specs.World.{IsShort};
 
+use crate::events::{case_text, happen_all, put_wanted};
 use case_form::read_case;
-use device_types::{Body, Book, DeviceId, Event, Lane, Message, Messages};
+use device_types::{Body, Book, Message, Messages};
 use link_schedule::World;
 use std::alloc::{AllocError, Global};
 use std::test::Fail;
@@ -18,7 +17,7 @@ use subs_table::SubsTable;
 const ROW: &str =
     "{\"imsi\":\"208930000000003\",\"tmsi\":4,\"rand\":\"000102030405060708090a0b0c0d0e0f\",\"autn\":\"101112131415161718191a1b1c1d1e1f\",\
 \"res\":\"a0a1a2a3a4a5a6a7\",\"key\":\"1111111111111111111111111111111111111111111111111111111111111111\",\"apn\":\"internet\",\
-\"ip\":\"0a2d0001\",\"sgw\":\"c0a80002\",\"teid\":5,\"ambr_dl\":1000000000,\"ambr_ul\":500000000,\"forbidden\":[8,9]}";
+\"ip\":\"0a2d0001\",\"sgw\":\"c0a80002\",\"teid\":5,\"ambr_dl\":1000000000,\"ambr_ul\":500000000,\"forbidden\":[8,9]}\n";
 
 /// Schedules of two replicas, each behind a line that says what it shows.
 const SCHEDULES: &str = "\
@@ -182,66 +181,6 @@ fn opened(alloc: Global, table: &SubsTable) -> Result<World, Fail> {
     Ok(World::new(alloc, table, &book, 2)?)
 }
 
-fn is_replica(r: u32) -> bool
-    ensures { result ≡ true → IsWithin 16 r }
-{
-    r >= 1 && r <= 16
-}
-
-/// Is it the device, and a number from 1?
-fn is_item(world: &World, d: DeviceId, n: u64) -> bool
-    ensures { result ≡ true → IsWithin (length world.now.setting.rows) d.0 × (1 ≤ n) }
-{
-    n >= 1 && d.0 >= 1 && d.0 <= world.device_count()
-}
-
-/// May the event happen in the world?
-fn may_happen(world: &World, event: Event) -> bool
-    ensures { result ≡ true → IsEvent world.now.setting event }
-{
-    match event {
-        Event::Send { d, n } | Event::Reply { d, n } => is_item(world, d, n),
-        Event::Take { r, d, n } => is_replica(r) && is_item(world, d, n),
-        Event::Answer {
-            lane: Lane::Down,
-            ..
-        } => false,
-        Event::Answer { r, d, k, .. } => is_replica(r) && is_item(world, d, k),
-        Event::Read { r } | Event::Write { r } | Event::Stop { r } => is_replica(r),
-        Event::Push { d, k, .. } | Event::Effect { d, k, .. } | Event::Settle { d, k, .. } => {
-            is_item(world, d, k)
-        }
-    }
-}
-
-/// What the event comes to, put behind the text.
-fn happen(world: &mut World, told: &mut String, event: Event) -> Result<(), Fail> {
-    if !may_happen(world, event) {
-        return Err(Fail::from("not an event of the world"));
-    }
-    let answer = world.apply(event)?;
-    writeln!(told, "{answer:?}")?;
-    Ok(())
-}
-
-fn happen_all(world: &mut World, told: &mut String, events: &[Event]) -> Result<(), Fail> {
-    for event in events {
-        happen(world, told, *event)?;
-    }
-    Ok(())
-}
-
-/// The case text of the events of these lines, put behind the text, and their answers behind another.
-fn part_lines(lines: &str, text: &mut String, wanted: &mut String) -> Result<(), Fail> {
-    writeln!(text, "[subscribers]\n{ROW}\n[schedule]")?;
-    for line in lines.lines() {
-        let (event, answer) = line.split_once(" = ").ok_or("no answer")?;
-        writeln!(text, "{event}")?;
-        writeln!(wanted, "{answer}")?;
-    }
-    Ok(())
-}
-
 /// What the events of a case come to, put behind the text.
 fn tell_case(alloc: Global, text: &str, told: &mut String) -> Result<(), Fail> {
     let case = read_case(alloc, text.as_bytes())?;
@@ -259,8 +198,8 @@ fn tell_schedule(
     let (title, lines) = schedule.split_once("\n").ok_or("no events")?;
     writeln!(told, "{title}")?;
     writeln!(wanted, "{title}")?;
-    let mut text = String::new(alloc);
-    part_lines(lines, &mut text, wanted)?;
+    put_wanted(wanted, lines)?;
+    let text = case_text(alloc, ROW, lines)?;
     tell_case(alloc, text.as_str(), told)
 }
 

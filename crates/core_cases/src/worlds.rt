@@ -1,16 +1,13 @@
 //! Schedules over the worlds of two devices, with what each event comes to, by hand.
-ghost use Rattle.std.specs.Prelude.{◌≡◌, ◌≤◌, true, length, All, IfOk};
+ghost use Rattle.std.specs.Prelude.{◌≡◌, length, All, IfOk};
 ghost use Rattle.device_types.specs.Line.{IsLine};
 ghost use Rattle.device_types.specs.Message.{IsBody, IsMessage};
-ghost use Rattle.device_types.specs.Numbers.{IsWithin};
-ghost use Rattle.schedule_laws.specs.Answer.{IsEvent};
 ghost use Rattle.link_schedule.specs.Floor.{IsOpen};
 ghost use Rattle.link_schedule.specs.World.{IsShort};
 
+use crate::events::{case_text, happen_all, may_happen, put_wanted};
 use case_form::read_case;
-use device_types::{
-    Body, Book, DeviceEnd, DeviceId, Event, Finals, Lane, Message, Messages, Octets,
-};
+use device_types::{Body, Book, DeviceEnd, DeviceId, Event, Finals, Message, Messages, Octets};
 use link_schedule::{Floor, OwnFloor, World};
 use std::alloc::{AllocError, Global};
 use std::test::Fail;
@@ -395,86 +392,11 @@ fn opened(alloc: Global, table: &SubsTable, name: &str, replicas: u32) -> Result
     Ok(World::new(alloc, table, &book, replicas)?)
 }
 
-fn is_replica(r: u32) -> bool
-    ensures { result ≡ true → IsWithin 16 r }
-{
-    r >= 1 && r <= 16
-}
-
-fn is_device(world: &World, d: DeviceId) -> bool
-    ensures { result ≡ true → IsWithin (length world.now.setting.rows) d.0 }
-{
-    d.0 >= 1 && d.0 <= world.device_count()
-}
-
-/// Is it a device, and a number from 1?
-fn is_item(world: &World, d: DeviceId, n: u64) -> bool
-    ensures { result ≡ true → IsWithin (length world.now.setting.rows) d.0 × (1 ≤ n) }
-{
-    n >= 1 && is_device(world, d)
-}
-
-/// May the event happen in the world?
-fn may_happen(world: &World, event: Event) -> bool
-    ensures { result ≡ true → IsEvent world.now.setting event }
-{
-    match event {
-        Event::Send { d, n } | Event::Reply { d, n } => is_item(world, d, n),
-        Event::Take { r, d, n } => is_replica(r) && is_item(world, d, n),
-        Event::Answer {
-            lane: Lane::Down,
-            ..
-        } => false,
-        Event::Answer { r, d, k, .. } => is_replica(r) && is_item(world, d, k),
-        Event::Read { r } | Event::Write { r } | Event::Stop { r } => is_replica(r),
-        Event::Push { d, k, .. } | Event::Effect { d, k, .. } | Event::Settle { d, k, .. } => {
-            is_item(world, d, k)
-        }
-    }
-}
-
-/// What the event comes to, put behind the text.
-fn happen(world: &mut World, told: &mut String, event: Event) -> Result<(), Fail> {
-    if !may_happen(world, event) {
-        return Err(Fail::from("not an event of the world"));
-    }
-    let answer = world.apply(event)?;
-    writeln!(told, "{answer:?}")?;
-    Ok(())
-}
-
-/// What the events come to, a line each, put behind the text.
-fn happen_all(world: &mut World, told: &mut String, events: &[Event]) -> Result<(), Fail> {
-    for event in events {
-        happen(world, told, *event)?;
-    }
-    Ok(())
-}
-
-/// The case text of the events of these lines.
-fn case_text(alloc: Global, lines: &str) -> Result<String, Fail> {
-    let mut text = format!(in alloc; "[subscribers]\n{ROWS}[schedule]\n")?;
-    for line in lines.lines() {
-        let (event, _) = line.split_once(" = ").ok_or("no answer")?;
-        writeln!(text, "{event}")?;
-    }
-    Ok(text)
-}
-
-/// What these lines say that the events come to, put behind the text.
-fn put_wanted(text: &mut String, lines: &str) -> Result<(), Fail> {
-    for line in lines.lines() {
-        let (_, answer) = line.split_once(" = ").ok_or("no answer")?;
-        writeln!(text, "{answer}")?;
-    }
-    Ok(())
-}
-
 /// Puts what the events of a schedule come to, behind its first line, behind the text.
 fn tell_answers(alloc: Global, told: &mut String, title: &str, lines: &str) -> Result<(), Fail> {
     let (name, rest) = title.split_once(" ").ok_or("no replicas")?;
     let (count, _) = rest.split_once(": ").ok_or("no title")?;
-    let text = case_text(alloc, lines)?;
+    let text = case_text(alloc, ROWS, lines)?;
     let case = read_case(alloc, text.as_bytes())?;
     let mut world = opened(alloc, &case.table, name, count.parse::<u32>()?)?;
     happen_all(&mut world, told, &case.schedule)?;
@@ -579,7 +501,7 @@ fn settled(alloc: Global, table: &SubsTable, events: &[Event]) -> Result<String,
 
 /// What a world comes to that settles twice.
 fn told_world(alloc: Global) -> Result<String, Fail> {
-    let text = case_text(alloc, "send 1 1 = Sent\ntake 2 1 1 = Taken\n")?;
+    let text = case_text(alloc, ROWS, "send 1 1 = Sent\ntake 2 1 1 = Taken\n")?;
     let case = read_case(alloc, text.as_bytes())?;
     settled(alloc, &case.table, &case.schedule)
 }
@@ -671,7 +593,7 @@ Sent
 
 /// What a floor comes to that settles twice, and is opened anew.
 fn told_floor(alloc: Global) -> Result<String, Fail> {
-    let text = case_text(alloc, "")?;
+    let text = case_text(alloc, ROWS, "")?;
     let case = read_case(alloc, text.as_bytes())?;
     let mut told = String::new(alloc);
     run(alloc, &mut OwnFloor::new(), &case.table, &mut told)?;
