@@ -68,6 +68,8 @@ ffffff 0..65536 = 5 OutOfRange at 10
 80010180 0..256 = 5 OutOfRange at 11
 800005 0..256 = 5
 c0010000 0..256 = 3 NonZeroPadding at 10
+8080 8 bits = 1
+808100 16 bits = 258
 80010000 17 bits = 512
 80010180 17 bits = 515
 800005 17 bits = 1 Truncated at 11
@@ -107,6 +109,8 @@ fn tell_piece(text: &mut String, r: &mut BitReader, piece: &str) -> Result<(), A
         "3 roots .." => tell(text, read_enum(r, 3, true)),
         "0 to 3 octets" => tell(text, read_octet_string(r, 3)),
         "3 octets" => tell(text, read_octets_fixed(r, 3)),
+        "8 bits" => tell(text, read_bits_fixed(r, 8)),
+        "16 bits" => tell(text, read_bits_fixed(r, 16)),
         "17 bits" => tell(text, read_bits_fixed(r, 17)),
         "no bits" => tell(text, read_no_bits(r)),
         "end" => tell(text, end(r)),
