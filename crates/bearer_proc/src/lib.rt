@@ -2,7 +2,7 @@
 #![tactic(auto)]
 
 ghost use Rattle.std.specs.Prelude.{◌≡◌, [], ◌∷◌, IfOk};
-ghost use Rattle.device_types.specs.Acts.{made, behind, nas_to, told, setup, release, releases, left_behind, moves_connection, drops_ue, frees_bearers};
+ghost use Rattle.device_types.specs.Acts.{made, behind, station_of, enb_of, nas_to, told, setup, release, releases, left_behind, moves_connection, drops_ue, frees_bearers};
 
 use device_types::{
     Accept, Bearer, CauseCode, Down, Effect, Effects, GwCall, Link, NasOut, Session, Stage, Step,
@@ -57,20 +57,33 @@ pub fn nas_to(station: u16, enb: u32, nas: NasOut) -> Effect
     Effect::Down(Down::Nas { station, enb, nas })
 }
 
+/// The base station of the session's S1 connection and the device's eNB-UE-S1AP-ID there. Where there is none, both are 0, which are
+/// no base station's.
+fn receiver(session: &Session) -> (u16, u32)
+    ensures { result ≡ (station_of session.now.link, enb_of session.now.link) }
+{
+    match session.link {
+        Link::On { station, enb } => (station, enb),
+        Link::Off => (0, 0),
+    }
+}
+
 /// A NAS message on the session's S1 connection.
 pub fn nas_message(session: &Session, nas: NasOut) -> Effect
     ensures { result ≡ told nas session.now }
 {
-    nas_to(session.link.station(), session.link.enb(), nas)
+    let (station, enb) = receiver(session);
+    nas_to(station, enb, nas)
 }
 
 /// The setup of the device's context with its bearer, on the session's S1 connection.
 pub fn context_setup(session: &Session, accept: Accept) -> Result<Effect, AllocError>
     ensures { IfOk result (λ effect. effect ≡ setup accept session.now) }
 {
+    let (station, enb) = receiver(session);
     Ok(Effect::Down(Down::Setup {
-        station: session.link.station(),
-        enb: session.link.enb(),
+        station,
+        enb,
         dl: session.dl,
         ul: session.ul,
         sgw: session.sgw,
@@ -86,9 +99,10 @@ pub fn context_setup(session: &Session, accept: Accept) -> Result<Effect, AllocE
 pub fn context_release(session: &Session) -> Effect
     ensures { result ≡ release session.now }
 {
+    let (station, enb) = receiver(session);
     Effect::Down(Down::Release {
-        station: session.link.station(),
-        enb: session.link.enb(),
+        station,
+        enb,
         cause: session.cause,
     })
 }

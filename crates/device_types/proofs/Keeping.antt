@@ -290,7 +290,7 @@ message C k row s q m (bodies.Capability octets) p i = (((λ t r. silent C _ (r.
 
 answer : (C : CauseCode → Type 0) (row : Subscriber) (s : Session) → Ranged C s → (a : Answer) → IsAnswer a → RulesRight C (attach_answer s a ++ service_answer s a ++ [] ++ detach_answer s a)
 answer C row s q (answers.Vectors rand autn res key) i =
-    (((λ t r. silent C _ (r.0, r.1, r.2, (i.res, i.res_octets, full_key key i.key), r.4, r.5, r.6, r.7, r.8)), (told C (nas.AuthRequest rand autn) (i.rand, i.autn) (i.rand_octets, i.autn_octets), ((λ t r. silent C _ r), tt))), tt)
+    (((λ t r. silent C _ (r.0, r.1, r.2, (i.res_most, i.res_octets, full_key key i.key), r.4, r.5, r.6, r.7, r.8)), (told C (nas.AuthRequest rand autn) (i.rand, i.autn) (i.rand_octets, i.autn_octets), ((λ t r. silent C _ r), tt))), tt)
 answer C row s q (answers.Located dl ul) i =
     (((λ t r. silent C _ (r.0, r.1, r.2, r.3, i, r.5, r.6, r.7, r.8)), ((λ t r. making C _ _ r tt), ((λ t r. silent C _ r), tt))), tt)
 answer C row s q answers.Purged i = tt

@@ -6,11 +6,12 @@ use Rattle.device_types.specs.Keys.{IsKey}
 use Rattle.device_types.specs.Numbers.{IsBitRate}
 use Rattle.device_types.specs.Octets.{AreOctets}
 
--- an authentication vector (TS 33.401, 6.1.2)
+-- an authentication vector (TS 33.401, 6.1.2), with a response of 4 to 16 octets (TS 33.102, 6.3.7)
 pub record IsVector (challenge token response secret : List ℕ) : Type 0 where
   pub rand : length challenge ≡ 16
   pub autn : length token ≡ 16
-  pub res : length response ≤ 16
+  pub res_least : 4 ≤ length response
+  pub res_most : length response ≤ 16
   pub rand_octets : AreOctets challenge
   pub autn_octets : AreOctets token
   pub res_octets : AreOctets response

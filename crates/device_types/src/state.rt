@@ -1,6 +1,5 @@
 //! What the step table asks of a session, a message and a subscriber.
 ghost use Rattle.std.specs.Prelude.{◌≡◌};
-ghost use Rattle.device_types.specs.Acts.{station_of, enb_of};
 ghost use Rattle.device_types.specs.Rule.{number, at, settled, held, gone, attaching, is_attaching, served, here, forbidden};
 
 use crate::message::Message;
@@ -27,28 +26,6 @@ impl Stage {
             | Stage::AcceptingContext
             | Stage::AcceptingDone => true,
             _ => false,
-        }
-    }
-}
-
-impl Link {
-    /// The base station of the connection; 0 where there is none.
-    pub fn station(self) -> u16
-        ensures { result ≡ station_of self }
-    {
-        match self {
-            Link::Off => 0,
-            Link::On { station, .. } => station,
-        }
-    }
-
-    /// The device's eNB-UE-S1AP-ID there; 0 where there is no connection.
-    pub fn enb(self) -> u32
-        ensures { result ≡ enb_of self }
-    {
-        match self {
-            Link::Off => 0,
-            Link::On { enb, .. } => enb,
         }
     }
 }

@@ -1,5 +1,5 @@
 //! The subscribers of the core.
-ghost use Rattle.std.specs.Prelude.{◌≡◌};
+ghost use Rattle.std.specs.Prelude.{◌≡◌, ◌≤◌, ◌-◌};
 
 use crate::list_of::{Areas, Octets, copy_two};
 use crate::try_copy::TryCopy;
@@ -8,6 +8,16 @@ use std::alloc::AllocError;
 /// A device: the number of its subscriber's row, from 1.
 #[derive(Clone, Copy, Debug, PartialEq, Eq)]
 pub struct DeviceId(pub u32);
+
+impl DeviceId {
+    /// The index, from 0, of what is the device's in a list of a thing a device. It takes no memory.
+    pub fn index(self) -> usize
+        requires { 1 ≤ self.0 }
+        ensures { result ≡ self.0 - 1 }
+    {
+        self.0 as usize - 1
+    }
+}
 
 /// A row of the subscriber table.
 #[derive(Debug, Drop)]

@@ -1,8 +1,8 @@
 -- The reasons of refusals: their numbers, names and texts.
 use Rattle.std.specs.Prelude.{ℕ, ◌-◌, ◌/◌, ◌%◌, false, List, [], ◌∷◌, ◌++◌, length, replicate, slice_index_or, codes}
 use Rattle.std.specs.Fmt.{decimal, digit_glyph}
-use Rattle.echo_base.specs.declared.reason.Identity.{Identity}
-use Rattle.echo_base.specs.declared.reason.Identity.TheVariants as identity
+use Rattle.echo_base.specs.declared.identity.Identity.{Identity}
+use Rattle.echo_base.specs.declared.identity.Identity.TheVariants as identity
 use Rattle.echo_base.specs.declared.reason.Reason.{Reason}
 use Rattle.echo_base.specs.declared.reason.Reason.TheVariants.{Truncated, LongLength, NonZeroPadding, NotMinimal, OutOfRange, TooLong, SequenceExtension, BadChoice, OtherProcedure, BadCriticality, MissingIe, RepeatedIe, TrailingBytes, WrongDirection, NasShort, NasDiscriminator, NasKind, NasIdentity, BadJson, MissingColumn, BadColumn, RepeatedImsi, RepeatedTmsi, TableFull, BadSection, BadLine, TooManyLines, LineTooLong, BadHex, UnknownDevice, UnknownPair, BadSession}
 

@@ -1,7 +1,9 @@
 //! What every other crate stands on: octets in and out, refusals, and the statuses of the programs.
 #![tactic(auto)]
 
+mod column;
 mod hexadecimal;
+mod identity;
 mod laws;
 mod memory;
 mod plan;
@@ -13,12 +15,14 @@ mod source;
 mod status;
 mod whole;
 
+pub use column::Column;
 pub use hexadecimal::decode_hex;
+pub use identity::Identity;
 pub use laws::fields_are_exact;
 pub use memory::{MemSink, MemSource, SureSource};
 pub use plan::Give;
 pub use real::{RealSink, RealSource};
-pub use reason::{Column, Identity, Reason, name_of_number};
+pub use reason::{Reason, name_of_number};
 pub use refusal::{Bad, Refusal, refused};
 pub use sink::{Sink, WriteStep};
 pub use source::{ReadStep, Source};

@@ -1,63 +1,9 @@
 //! Why input is refused.
 ghost use Rattle.std.specs.Prelude.{◌≡◌};
-ghost use Rattle.echo_base.specs.Reason.{reason_number, name_of_number, reason_name, identity_text};
+ghost use Rattle.echo_base.specs.Reason.{reason_number, name_of_number, reason_name};
 
-use std::fmt;
-
-/// A column of the subscriber table, in the order of the table.
-#[derive(Clone, Copy, Debug, PartialEq, Eq)]
-pub enum Column {
-    /// The international mobile subscriber identity.
-    Imsi,
-    /// The temporary identity of the MME, the M-TMSI.
-    Tmsi,
-    /// The random challenge of the authentication vector.
-    Rand,
-    /// The authentication token of the vector.
-    Autn,
-    /// The response that is expected.
-    Res,
-    /// The key of the vector.
-    Key,
-    /// The access point name.
-    Apn,
-    /// The device's IPv4 address.
-    Ip,
-    /// The serving gateway's IPv4 address.
-    Sgw,
-    /// The serving gateway's tunnel endpoint identifier.
-    Teid,
-    /// The aggregate maximum bit rate down, in bit/s.
-    AmbrDl,
-    /// The aggregate maximum bit rate up, in bit/s.
-    AmbrUl,
-    /// The tracking areas where the device is not served.
-    Forbidden,
-}
-
-/// By what a device calls itself (3GPP TS 23.003, 2.2 and 2.8).
-#[derive(Clone, Copy, Debug, PartialEq, Eq)]
-pub enum Identity {
-    /// Its international mobile subscriber identity, of 15 digits.
-    Imsi(u64),
-    /// The M-TMSI, which an MME gave it.
-    Tmsi(u32),
-}
-
-/// Prints `imsi` and 15 digits, or `tmsi` and the number.
-impl fmt::Display for Identity {
-    ghost use Rattle.std.specs.Prelude.{Some};
-
-    ghost output = { λ i. Some (identity_text i) };
-
-    #[tactic(auto, using(crate::proofs::Printed::zeros_in_front))]
-    fn fmt<W: fmt::Write>(&self, f: &mut fmt::Formatter<W>) -> fmt::Result {
-        match *self {
-            Identity::Imsi(imsi) => write!(f, "imsi {imsi:015}"),
-            Identity::Tmsi(tmsi) => write!(f, "tmsi {tmsi}"),
-        }
-    }
-}
+use crate::column::Column;
+use crate::identity::Identity;
 
 /// Why input is refused. Each reason has a number, from 1 on in this order.
 #[derive(Clone, Copy, Debug, PartialEq, Eq)]

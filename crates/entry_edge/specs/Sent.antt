@@ -3,8 +3,8 @@ use Rattle.std.specs.Prelude.{ℕ, ◌==◌, Bool, true, false, List, [], ◌∷
 use Rattle.hex.specs.Hex.{decode_of}
 use Rattle.hex.specs.declared.error.FromHexError.{FromHexError}
 use Rattle.echo_base.specs.declared.reason.Reason.TheVariants.{BadHex, WrongDirection, MissingIe, NasKind}
-use Rattle.echo_base.specs.declared.reason.Identity.{Identity}
-use Rattle.echo_base.specs.declared.reason.Identity.TheVariants.{Tmsi}
+use Rattle.echo_base.specs.declared.identity.Identity.{Identity}
+use Rattle.echo_base.specs.declared.identity.Identity.TheVariants.{Tmsi}
 use Rattle.echo_base.specs.declared.refusal.Refusal.{Refusal}
 use Rattle.echo_base.specs.Answer.{◌>>=◌, refused}
 use Rattle.device_types.specs.declared.message.Body.{Body}

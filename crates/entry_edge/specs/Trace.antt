@@ -2,8 +2,8 @@
 use Rattle.std.specs.Prelude.{ℕ, ◌+◌, ◌==◌, ◌&&◌, Bool, true, false, List, [], ◌∷◌, ◌++◌, length, map, fold, Option, Some, None, Result, Ok, Err, if◌then◌else◌}
 use Rattle.std.specs.List.{range_with_len}
 use Rattle.echo_base.specs.declared.reason.Reason.TheVariants.{UnknownDevice, UnknownPair}
-use Rattle.echo_base.specs.declared.reason.Identity.{Identity}
-use Rattle.echo_base.specs.declared.reason.Identity.TheVariants.{Imsi, Tmsi}
+use Rattle.echo_base.specs.declared.identity.Identity.{Identity}
+use Rattle.echo_base.specs.declared.identity.Identity.TheVariants.{Imsi, Tmsi}
 use Rattle.echo_base.specs.declared.refusal.Refusal.{Refusal}
 use Rattle.echo_base.specs.Answer.{◌>>=◌, refused}
 use Rattle.device_types.specs.declared.subscriber.Subscriber.{Subscriber}

@@ -6,8 +6,8 @@ use Rattle.std.proofs.lemmas.List.Elements.{All-nil, All-cons, All-head, All-tai
 use Rattle.std.proofs.lemmas.Option.{same_Some}
 use Rattle.std.specs.Int.{w32, from_be_bytes}
 use Rattle.echo_base.specs.Format.{Decides}
-use Rattle.echo_base.specs.declared.reason.Identity.{Identity}
-use Rattle.echo_base.specs.declared.reason.Identity.TheVariants.{Imsi, Tmsi}
+use Rattle.echo_base.specs.declared.identity.Identity.{Identity}
+use Rattle.echo_base.specs.declared.identity.Identity.TheVariants.{Imsi, Tmsi}
 use Rattle.nas_kinds.specs.Identity.{halves, IsImsi, IsGuti, IsIdentity}
 use Rattle.nas_kinds.specs.Reading.{decimal_from, imsi_of_halves, imsi_of, guti_of, identity_by, identity_of}
 

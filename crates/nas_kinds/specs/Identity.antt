@@ -1,8 +1,8 @@
 -- EPS mobile identities (TS 24.301, 9.9.3.12), by their octets behind the length.
 use Rattle.std.specs.Prelude.{◌≡◌, ℕ, ◌+◌, ◌*◌, ◌/◌, ◌%◌, ◌<◌, List, [], ◌∷◌, ◌++◌, length, All, fold}
 use Rattle.std.specs.Int.{w32, from_be_bytes}
-use Rattle.echo_base.specs.declared.reason.Identity.{Identity}
-use Rattle.echo_base.specs.declared.reason.Identity.TheVariants.{Imsi, Tmsi}
+use Rattle.echo_base.specs.declared.identity.Identity.{Identity}
+use Rattle.echo_base.specs.declared.identity.Identity.TheVariants.{Imsi, Tmsi}
 
 -- the halves of octets, the low half of each first
 abbrev pub halves : List ℕ → List ℕ

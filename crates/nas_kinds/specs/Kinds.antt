@@ -1,7 +1,7 @@
 -- The messages of a device (TS 24.301, 8.2): their first octets, and their mandatory fields in order.
 use Rattle.std.specs.Prelude.{◌≡◌, ℕ, ◌/◌, ◌%◌, ◌≤◌, ◌==◌, List, ◌∷◌, Some, slice_get}
 use Rattle.echo_base.specs.declared.reason.Reason.TheVariants as reasons
-use Rattle.echo_base.specs.declared.reason.Identity.{Identity}
+use Rattle.echo_base.specs.declared.identity.Identity.{Identity}
 use Rattle.echo_base.specs.declared.refusal.Refusal.{Refusal}
 use Rattle.echo_base.specs.Answer.{refused}
 use Rattle.echo_base.specs.Format.{◌>>=◌, just, meant}

@@ -2,8 +2,8 @@
 use Rattle.std.specs.Prelude.{ℕ, ◌+◌, ◌*◌, ◌/◌, ◌%◌, ◌==◌, nat_lt, List, [], ◌∷◌, length, drop, Option, Some, None, Result, if◌then◌else◌}
 use Rattle.std.specs.Int.{w32, from_be_bytes}
 use Rattle.echo_base.specs.declared.reason.Reason.TheVariants as reasons
-use Rattle.echo_base.specs.declared.reason.Identity.{Identity}
-use Rattle.echo_base.specs.declared.reason.Identity.TheVariants.{Imsi, Tmsi}
+use Rattle.echo_base.specs.declared.identity.Identity.{Identity}
+use Rattle.echo_base.specs.declared.identity.Identity.TheVariants.{Imsi, Tmsi}
 use Rattle.echo_base.specs.declared.refusal.Refusal.{Refusal}
 use Rattle.echo_base.specs.Answer.{refused}
 use Rattle.echo_base.specs.Reading.{◌>>=◌, done, known, value_of}

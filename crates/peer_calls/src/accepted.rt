@@ -41,7 +41,7 @@ impl<C: Drop> Accepted<C> {
         requires { IsWithin (length self.now) d.0 }
         ensures { result.now ≡ calls_of self.now d.0 }
     {
-        self.lists[d.0 as usize - 1].items()
+        self.lists[d.index()].items()
     }
 
     /// What the number `k` says of a call of the device. It takes no memory.
@@ -65,7 +65,7 @@ impl<C: Drop> Accepted<C> {
         ensures ok { OnOk result (self.new ≡ with_call self.old d.0 call) }
         ensures err { OnErr result (self.new ≡ self.old) }
     {
-        let calls = &mut self.lists[d.0 as usize - 1];
+        let calls = &mut self.lists[d.index()];
         calls.push(call)
     }
 }

@@ -43,7 +43,7 @@ fn put_at(
     ensures { OnOk result (string_bytes text.new ≡ string_bytes text.old ++ text_at table.now finals.now device) }
 {
     let row = table.row(device);
-    let end = &finals[device.0 as usize - 1];
+    let end = &finals[device.index()];
     put_device(alloc, text, row, end)
 }
 

@@ -7,8 +7,8 @@ use Rattle.serde_json.specs.Data.{Data}
 use Rattle.serde_json.specs.Read.{read}
 use Rattle.serde_json.specs.Find.{get}
 use Rattle.device_types.specs.declared.subscriber.Subscriber.{Subscriber}
-use Rattle.echo_base.specs.declared.reason.Column.{Column}
-use Rattle.echo_base.specs.declared.reason.Column.TheVariants.{Imsi, Tmsi, Rand, Autn, Res, Key, Apn, Ip, Sgw, Teid, AmbrDl, AmbrUl, Forbidden}
+use Rattle.echo_base.specs.declared.column.Column.{Column}
+use Rattle.echo_base.specs.declared.column.Column.TheVariants.{Imsi, Tmsi, Rand, Autn, Res, Key, Apn, Ip, Sgw, Teid, AmbrDl, AmbrUl, Forbidden}
 use Rattle.echo_base.specs.declared.reason.Reason.TheVariants.{BadJson, MissingColumn, BadColumn}
 use Rattle.echo_base.specs.declared.refusal.Refusal.{Refusal}
 use Rattle.echo_base.specs.Answer.{◌>>=◌, refused}

@@ -129,7 +129,7 @@ impl SubsTable {
         ensures range { IsSubscriber result.now }
         ensures table { IsTable self.now }
     {
-        &self.rows[d.0 as usize - 1]
+        &self.rows[d.index()]
     }
 
     /// The device with that IMSI.
