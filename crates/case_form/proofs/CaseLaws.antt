@@ -7,13 +7,13 @@ use Rattle.std.proofs.lemmas.List.Elements.{filter-append}
 use Rattle.echo_base.specs.declared.reason.Reason.{Reason}
 use Rattle.bstr.specs.Text as bstr
 use Rattle.bstr.specs.Text.{without_terminator}
-use Rattle.case_form.specs.declared.case.Case.{Case}
 use Rattle.case_form.specs.declared.case.CaseBad.{CaseBad}
 use Rattle.case_form.specs.declared.case.CaseBad.TheVariants as answer
 use Rattle.case_form.specs.declared.section.Section.{Section}
 use Rattle.case_form.specs.declared.section.Section.TheVariants.{Subscribers, Trace, Schedule}
 use Rattle.case_form.specs.Case.{Placed, placed, placed_behind, is_section, is_counted, counted, refusals, first_bad, MatchFirstBad, IsNumbered, HasCounted}
 use Rattle.case_form.specs.Lines.{lines_of}
+use Rattle.case_form.specs.Said.{CaseState}
 use Rattle.case_form.specs.Section.{is_passed_over, is_heading}
 use Rattle.case_form.specs.State.{Seen, unread, next, reason_behind, counts_behind, after, TakesLine}
 use Rattle.case_form.proofs.FormLaws.{IsProper, nothing_is_proper, proper_more}
@@ -79,7 +79,7 @@ counted_here before rest line section is =
     let one = passes_one p (place before line) (placed_behind (before ++ line ∷ []) rest) is in
     rw split (omega (arith, length-append (filter p (placed before)) (filter p (placed_behind before (line ∷ rest))), one))
 
-abbrev pub no_case : CaseBad → Result Case CaseBad
+abbrev pub no_case : CaseBad → Result CaseState CaseBad
 no_case bad = Err bad
 
 -- a line that wanted memory is counted

@@ -18,10 +18,11 @@ use Rattle.subs_table.specs.Table.{add_refusal, has_key, imsi_of, tmsi_of, most_
 use Rattle.case_form.specs.declared.case.TraceLine.{TraceLine}
 use Rattle.case_form.specs.declared.section.Section.{Section}
 use Rattle.case_form.specs.declared.section.Section.TheVariants.{Subscribers, Trace, Schedule}
-use Rattle.case_form.specs.Case.{most_octets, most_lines, row_reason, form_reason}
+use Rattle.case_form.specs.Case.{most_octets, row_reason, form_reason}
 use Rattle.device_types.specs.Event.{IsInForm}
 use Rattle.device_types.specs.Numbers.{IsWithin}
 use Rattle.case_form.specs.Event.{event_of}
+use Rattle.case_form.specs.Said.{most_lines}
 use Rattle.case_form.specs.Section.{is_passed_over, is_heading, heading_of}
 use Rattle.case_form.specs.State.{Seen, unread, next, next_heading_reason, own_reason, reason_behind, rows_after, trace_after, schedule_after, own_after, after}
 use Rattle.case_form.specs.Trace.{sent_of}

@@ -17,8 +17,9 @@ use Rattle.subs_table.specs.Row.{row_of}
 use Rattle.case_form.specs.declared.case.TraceLine.{TraceLine}
 use Rattle.case_form.specs.declared.section.Section.{Section}
 use Rattle.case_form.specs.declared.section.Section.TheVariants.{Subscribers, Trace, Schedule}
-use Rattle.case_form.specs.Case.{most_octets, most_lines, placed_number, headings, section_behind, is_section, is_counted, counted, placed_row, rows_of, placed_trace_line, trace_of, placed_event, schedule_of, heading_reason, row_reason, form_reason, section_reason, placed_reason, refusals}
+use Rattle.case_form.specs.Case.{most_octets, placed_number, headings, section_behind, is_section, is_counted, counted, placed_row, rows_of, placed_trace_line, trace_of, placed_event, schedule_of, heading_reason, row_reason, form_reason, section_reason, placed_reason, refusals}
 use Rattle.case_form.specs.Event.{event_of}
+use Rattle.case_form.specs.Said.{most_lines}
 use Rattle.case_form.specs.Section.{place_of, is_passed_over, is_heading, heading_of}
 use Rattle.case_form.specs.State.{Seen, unread, next, is_late, next_heading_reason, own_reason, reason_behind, rows_after, trace_after, schedule_after, own_after, after}
 use Rattle.case_form.specs.Trace.{sent_of}

@@ -10,7 +10,6 @@ use Rattle.device_types.specs.declared.event.Event.{Event}
 use Rattle.device_types.specs.declared.subscriber.Subscriber.{Subscriber}
 use Rattle.subs_table.specs.Row.{row_of}
 use Rattle.subs_table.specs.Table.{add_refusal}
-use Rattle.case_form.specs.declared.case.Case.{Case}
 use Rattle.case_form.specs.declared.case.CaseBad.{CaseBad}
 use Rattle.case_form.specs.declared.case.CaseBad.TheVariants as answer
 use Rattle.case_form.specs.declared.case.TraceLine.{TraceLine}
@@ -18,15 +17,13 @@ use Rattle.case_form.specs.declared.section.Section.{Section}
 use Rattle.case_form.specs.declared.section.Section.TheVariants.{Subscribers, Trace, Schedule}
 use Rattle.case_form.specs.Event.{event_of}
 use Rattle.case_form.specs.Lines.{lines_of}
+use Rattle.case_form.specs.Said.{CaseState, most_lines}
 use Rattle.case_form.specs.Section.{place_of, is_passed_over, is_heading, heading_of}
 use Rattle.case_form.specs.Trace.{sent_of}
 
--- how many octets a line may have, and how many lines a trace or a schedule
+-- how many octets a line may have
 abbrev pub most_octets : ℕ
 most_octets = 8192
-
-abbrev pub most_lines : ℕ
-most_lines = 100000
 
 -- ---- where a line stands
 
@@ -129,10 +126,10 @@ unfoldable pub first_bad : List ℕ → Option (ℕ × Reason)
 first_bad octets = slice_get (refusals (lines_of octets)) 0
 
 -- what a text says is the case
-pub record IsCase (octets : List ℕ) (case : Case) : Type 0 where
+pub record IsCase (octets : List ℕ) (case : CaseState) : Type 0 where
   pub table : case.table ≡ rows_of (lines_of octets)
-  pub trace : case.trace.items ≡ trace_of (lines_of octets)
-  pub schedule : case.schedule.items ≡ schedule_of (lines_of octets)
+  pub trace : case.trace ≡ trace_of (lines_of octets)
+  pub schedule : case.schedule ≡ schedule_of (lines_of octets)
 
 -- a line of the text is counted in a section
 abbrev pub HasCounted : List ℕ → Type 0
@@ -144,7 +141,7 @@ IsNumbered (answer.Refused reason line) = 1 ≤ line
 IsNumbered answer.OutOfMemory = Unit {0}
 
 -- a case comes where no line is bad, and a refusal is that of the first bad line
-abbrev pub MatchFirstBad : Result Case CaseBad → Option (ℕ × Reason) → Type 0
+abbrev pub MatchFirstBad : Result CaseState CaseBad → Option (ℕ × Reason) → Type 0
 MatchFirstBad (Ok case) bad = bad ≡ None
 MatchFirstBad (Err (answer.Refused reason line)) bad = bad ≡ Some (line, reason)
 MatchFirstBad (Err answer.OutOfMemory) bad = Unit {0}

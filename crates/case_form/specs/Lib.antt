@@ -2,6 +2,7 @@ pub mod Case
 pub mod Event
 pub mod Lines
 pub mod Number
+pub mod Said
 pub mod Section
 pub mod State
 pub mod Trace

@@ -29,7 +29,7 @@ pub record Seen : Type 0 where
   pub schedule : List Event
 
 abbrev pub seen_of : Reading → Seen
-seen_of r = record { section = r.section; number = r.number; rows = r.case.table; trace = r.case.trace.items; schedule = r.case.schedule.items }
+seen_of r = record { section = r.section; number = r.number; rows = r.table; trace = r.trace.items; schedule = r.schedule.items }
 
 -- before the first line
 abbrev pub unread : Seen

@@ -1,7 +1,13 @@
 //! Cases.
+ghost use Rattle.std.specs.Prelude.{◌≡◌, ◌≤◌, length, All};
+ghost use Rattle.device_types.specs.Event.{IsInForm};
+ghost use Rattle.device_types.specs.Numbers.{IsWithin};
+ghost use Rattle.subs_table.specs.Table.{IsTable};
+ghost use Rattle.case_form.specs.Said.{most_lines};
 
 use device_types::{Event, Octets};
 use echo_base::Reason;
+use std::marker::Model;
 use subs_table::SubsTable;
 
 /// A line of a trace: what a base station sent.
@@ -15,15 +21,52 @@ pub struct TraceLine {
     pub text: Octets,
 }
 
-/// What a case text says.
+/// What a case text says: subscribers, what the base stations sent, and a schedule. A base station is from 1 to 65535, the numbers of
+/// an event are in their limits, its device is one of the subscribers, and trace and schedule have at most 100,000 lines each.
 #[derive(Debug, Drop)]
 pub struct Case {
-    /// The subscribers.
-    pub table: SubsTable,
-    /// What the base stations sent, in order.
-    pub trace: Vec<TraceLine>,
-    /// The events that are to happen, in order.
-    pub schedule: Vec<Event>,
+    pub(crate) table: SubsTable,
+    pub(crate) trace: Vec<TraceLine>,
+    pub(crate) schedule: Vec<Event>,
+}
+
+impl Model for Case {
+    ghost use Rattle.case_form.specs.Said.{CaseState, IsInLimits};
+
+    ghost Value = { CaseState };
+
+    ghost view = { λ case. record { table = case.table; trace = case.trace.items; schedule = case.schedule.items } };
+
+    ghost invariant = { λ case. IsInLimits (record { table = case.table; trace = case.trace.items; schedule = case.schedule.items }) };
+}
+
+impl Case {
+    /// The subscribers. It takes no memory.
+    pub fn table(&self) -> &SubsTable
+        ensures value { result.now ≡ self.now.table }
+        ensures rows { IsTable self.now.table }
+    {
+        let _rows = self.table.rows();
+        &self.table
+    }
+
+    /// What the base stations sent, in order. It takes no memory.
+    pub fn trace(&self) -> &[TraceLine]
+        ensures value { result.now ≡ self.now.trace }
+        ensures stations { All (λ line. IsWithin 65535 line.station) self.now.trace }
+        ensures most { length self.now.trace ≤ most_lines }
+    {
+        &self.trace
+    }
+
+    /// The events that are to happen, in order. It takes no memory.
+    pub fn schedule(&self) -> &[Event]
+        ensures value { result.now ≡ self.now.schedule }
+        ensures events { All (IsInForm (length self.now.table)) self.now.schedule }
+        ensures most { length self.now.schedule ≤ most_lines }
+    {
+        &self.schedule
+    }
 }
 
 /// Why a case text gave no case.

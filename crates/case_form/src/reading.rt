@@ -1,13 +1,12 @@
 //! Reading a case text, line by line.
 
-ghost use Rattle.std.specs.Prelude.{◌≡◌, ◌+◌, ◌≤◌, length, is_some, true, false, All, Err, IfOk, IfErr};
-ghost use Rattle.device_types.specs.Event.{IsInForm};
-ghost use Rattle.device_types.specs.Numbers.{IsWithin};
+ghost use Rattle.std.specs.Prelude.{◌≡◌, ◌+◌, length, is_some, true, false, Err, IfOk, IfErr};
 ghost use Rattle.subs_table.specs.Row.{row_of};
 ghost use Rattle.subs_table.specs.Table.{IsTable};
 ghost use Rattle.case_form.specs.declared.case.CaseBad.TheVariants.{OutOfMemory};
-ghost use Rattle.case_form.specs.Case.{row_reason, form_reason, most_lines, first_bad, MatchFirstBad, IsCase, IsNumbered, HasCounted};
+ghost use Rattle.case_form.specs.Case.{row_reason, form_reason, first_bad, MatchFirstBad, IsCase, IsNumbered, HasCounted};
 ghost use Rattle.case_form.specs.Event.{event_of};
+ghost use Rattle.case_form.specs.Said.{IsInLimits};
 ghost use Rattle.case_form.specs.Section.{heading_of};
 ghost use Rattle.case_form.specs.State.{Takes, TakesLine, counts_behind, seen_of, unread, next, next_heading_reason, reason_behind, rows_after, trace_after, schedule_after, after};
 ghost use Rattle.case_form.specs.Trace.{sent_of};
@@ -104,8 +103,12 @@ struct Reading {
     section: Option<Section>,
     /// The number of the last line.
     number: u32,
-    /// What the lines say.
-    case: Case,
+    /// The rows of the subscribers.
+    table: SubsTable,
+    /// The lines of the trace.
+    trace: Vec<TraceLine>,
+    /// The events of the schedule.
+    schedule: Vec<Event>,
 }
 
 /// Nothing read.
@@ -116,11 +119,9 @@ fn begin(alloc: Global) -> Reading
         alloc,
         section: None,
         number: 0,
-        case: Case {
-            table: SubsTable::new(alloc),
-            trace: Vec::new(alloc),
-            schedule: Vec::new(alloc),
-        },
+        table: SubsTable::new(alloc),
+        trace: Vec::new(alloc),
+        schedule: Vec::new(alloc),
     }
 }
 
@@ -143,11 +144,11 @@ fn take(reading: &mut Reading, line: &[u8]) -> Result<(), Bad>
     let number = reading.number;
     match reading.section {
         None => Err(refused(Reason::BadSection).into()),
-        Some(Section::Subscribers) => take_row(alloc, &mut reading.case.table, line),
-        Some(Section::Trace) => take_trace_line(alloc, &mut reading.case.trace, number, line),
+        Some(Section::Subscribers) => take_row(alloc, &mut reading.table, line),
+        Some(Section::Trace) => take_trace_line(alloc, &mut reading.trace, number, line),
         Some(Section::Schedule) => {
-            let rows = reading.case.table.len();
-            take_event(&mut reading.case.schedule, rows, line)
+            let rows = reading.table.len();
+            take_event(&mut reading.schedule, rows, line)
         }
     }
 }
@@ -191,19 +192,22 @@ pub fn read_case(alloc: Global, bytes: &[u8]) -> Result<Case, CaseBad>
     ensures case { IfOk result (IsCase bytes.now) }
     ensures numbers { IfErr result IsNumbered }
     ensures memory { result ≡ Err OutOfMemory → HasCounted bytes.now }
-
     ensures table { IfOk result (λ case. IsTable case.table) }
-    ensures stations { IfOk result (λ case. All (λ line. IsWithin 65535 line.station) case.trace.items) }
-    ensures events { IfOk result (λ case. All (IsInForm (length case.table)) case.schedule.items) }
-    ensures trace_most { IfOk result (λ case. length case.trace.items ≤ most_lines) }
-    ensures schedule_most { IfOk result (λ case. length case.schedule.items ≤ most_lines) }
+    ensures limits { IfOk result IsInLimits }
 {
     let mut reading = begin(alloc);
     for line in bytes.lines() {
         take_next(&mut reading, line)?;
     }
-    let Reading { case, .. } = reading;
-    // That the rows are a table is a clause of `rows`.
-    let _rows = case.table.rows();
-    Ok(case)
+    let Reading {
+        table,
+        trace,
+        schedule,
+        ..
+    } = reading;
+    Ok(Case {
+        table,
+        trace,
+        schedule,
+    })
 }
