@@ -1,6 +1,7 @@
 -- The events of a schedule: a verb, and what it is of, a word each.
 use Rattle.std.specs.Prelude.{◌≡◌, ℕ, List, [], ◌∷◌, codes, Option, Some, None, if◌then◌else◌}
 use Rattle.std.specs.Fmt.{decimal}
+use Rattle.std.specs.List.{join_with_byte}
 use Rattle.std.specs.Str.{bytes_eq}
 use Rattle.device_types.specs.declared.event.Lane.{Lane}
 use Rattle.device_types.specs.declared.event.Lane.TheVariants as lane
@@ -146,6 +147,10 @@ event_words (event.Reply d n) = codes "reply" ∷ decimal d.0 ∷ decimal n ∷ 
 event_words (event.Push d lane k) = codes "push" ∷ decimal d.0 ∷ lane_word lane ∷ decimal k ∷ []
 event_words (event.Effect d lane k) = codes "effect" ∷ decimal d.0 ∷ lane_word lane ∷ decimal k ∷ []
 event_words (event.Settle d lane k) = codes "settle" ∷ decimal d.0 ∷ lane_word lane ∷ decimal k ∷ []
+
+-- as it is printed: its words, with a space between each two
+abbrev pub event_line : Event → List ℕ
+event_line event = join_with_byte 32 (event_words event)
 
 -- a line has the words of an event in form
 abbrev pub IsEvent : ℕ → Event → List ℕ → Type 0

@@ -46,7 +46,7 @@ impl Case {
         ensures value { result.now ≡ self.now.table }
         ensures rows { IsTable self.now.table }
     {
-        let _rows = self.table.rows();
+        self.table.recall();
         &self.table
     }
 

@@ -3,15 +3,15 @@
 
 mod case;
 mod event;
-mod lane_word;
 mod laws;
 mod number;
+mod printed;
 mod reading;
 mod section;
 mod trace;
 mod words;
 
 pub use case::{Case, CaseBad, TraceLine};
-pub use lane_word::LaneWord;
 pub use laws::{events_are_exact, trace_lines_are_exact};
+pub use printed::{EventLine, LaneWord};
 pub use reading::read_case;

@@ -205,6 +205,7 @@ pub fn read_case(alloc: Global, bytes: &[u8]) -> Result<Case, CaseBad>
         schedule,
         ..
     } = reading;
+    table.recall();
     Ok(Case {
         table,
         trace,

@@ -184,8 +184,8 @@ fn opened(alloc: Global, table: &SubsTable) -> Result<World, Fail> {
 /// What the events of a case come to, put behind the text.
 fn tell_case(alloc: Global, text: &str, told: &mut String) -> Result<(), Fail> {
     let case = read_case(alloc, text.as_bytes())?;
-    let mut world = opened(alloc, &case.table)?;
-    happen_all(&mut world, told, &case.schedule)
+    let mut world = opened(alloc, case.table())?;
+    happen_all(&mut world, told, case.schedule())
 }
 
 /// What the events of a schedule come to, and what its lines say that they do, each behind its first line.

@@ -398,9 +398,9 @@ fn tell_answers(alloc: Global, told: &mut String, title: &str, lines: &str) -> R
     let (count, _) = rest.split_once(": ").ok_or("no title")?;
     let text = case_text(alloc, ROWS, lines)?;
     let case = read_case(alloc, text.as_bytes())?;
-    let mut world = opened(alloc, &case.table, name, count.parse::<u32>()?)?;
-    happen_all(&mut world, told, &case.schedule)?;
-    if world.events().len() != case.schedule.len() {
+    let mut world = opened(alloc, case.table(), name, count.parse::<u32>()?)?;
+    happen_all(&mut world, told, case.schedule())?;
+    if world.events().len() != case.schedule().len() {
         return Err(Fail::from("not all events"));
     }
     Ok(())
@@ -503,7 +503,7 @@ fn settled(alloc: Global, table: &SubsTable, events: &[Event]) -> Result<String,
 fn told_world(alloc: Global) -> Result<String, Fail> {
     let text = case_text(alloc, ROWS, "send 1 1 = Sent\ntake 2 1 1 = Taken\n")?;
     let case = read_case(alloc, text.as_bytes())?;
-    settled(alloc, &case.table, &case.schedule)
+    settled(alloc, case.table(), case.schedule())
 }
 
 #[test]
@@ -596,7 +596,7 @@ fn told_floor(alloc: Global) -> Result<String, Fail> {
     let text = case_text(alloc, ROWS, "")?;
     let case = read_case(alloc, text.as_bytes())?;
     let mut told = String::new(alloc);
-    run(alloc, &mut OwnFloor::new(), &case.table, &mut told)?;
+    run(alloc, &mut OwnFloor::new(), case.table(), &mut told)?;
     Ok(told)
 }
 

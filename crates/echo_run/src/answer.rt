@@ -2,9 +2,7 @@
 
 ghost use Rattle.std.specs.Prelude.{◌≡◌, ◌≢◌, ◌≤◌, ℕ, length, true, false, Ok, Err, IfOk, IfErr, OnOk, All};
 ghost use Rattle.echo_base.specs.Reason.{reason_number};
-ghost use Rattle.device_types.specs.Event.{IsInForm};
 ghost use Rattle.device_types.specs.Numbers.{IsWithin};
-ghost use Rattle.case_form.specs.Case.{most_lines};
 ghost use Rattle.entry_edge.specs.Trace.{history};
 ghost use Rattle.echo_run.specs.Answer.{IsAdmitted, plain_of, replay_of, is_case_wanted, text_of, answer_of, text_on, told_by, RunsOn, Ran, IsWithoutFloor, IsAnswer, IsOfLine};
 ghost use Rattle.command_words.specs.Command.{IsInLimits};
@@ -66,29 +64,25 @@ fn refused(reason: Reason, line: u32) -> NoText
 
 /// What admission gives of a case.
 fn admitted(alloc: Global, case: &Case) -> Result<Admitted, OutOfMemory>
-    requires stations { All (λ line. IsWithin 65535 line.station) case.now.trace.items }
-    requires lines { length case.now.trace.items ≤ most_lines }
-    ensures { IfOk result (IsAdmitted case.now.table (history case.now.table case.now.trace.items)) }
+    ensures { IfOk result (IsAdmitted case.now.table (history case.now.table case.now.trace)) }
 {
-    let admitted = admit(alloc, &case.table, &case.trace)?;
+    let admitted = admit(alloc, case.table(), case.trace())?;
     Ok(admitted)
 }
 
 /// The lines that admission refused, and what becomes of the devices.
 fn ends_text(alloc: Global, case: &Case, admitted: &Admitted) -> Result<Octets, OutOfMemory>
-    requires { IsAdmitted case.now.table (history case.now.table case.now.trace.items) admitted.now }
-    ensures { IfOk result (λ text. text ≡ plain_of case.now.table (history case.now.table case.now.trace.items)) }
+    requires { IsAdmitted case.now.table (history case.now.table case.now.trace) admitted.now }
+    ensures { IfOk result (λ text. text ≡ plain_of case.now.table (history case.now.table case.now.trace)) }
 {
-    let _rows = case.table.rows();
-    let finals = finals_of(alloc, &case.table, &admitted.book)?;
-    final_text(alloc, &case.table, &admitted.refused, &finals)
+    let table = case.table();
+    let finals = finals_of(alloc, table, &admitted.book)?;
+    final_text(alloc, table, &admitted.refused, &finals)
 }
 
 /// What becomes of the devices of a case.
 fn plain(alloc: Global, case: &Case) -> Result<Octets, OutOfMemory>
-    requires stations { All (λ line. IsWithin 65535 line.station) case.now.trace.items }
-    requires lines { length case.now.trace.items ≤ most_lines }
-    ensures { IfOk result (λ text. text ≡ plain_of case.now.table (history case.now.table case.now.trace.items)) }
+    ensures { IfOk result (λ text. text ≡ plain_of case.now.table (history case.now.table case.now.trace)) }
 {
     let admitted = admitted(alloc, case)?;
     ends_text(alloc, case, &admitted)
@@ -115,44 +109,39 @@ fn replay<F: Floor>(
     replicas: u32,
     floor: &mut F,
 ) -> Result<Octets, OutOfMemory>
-    requires stations { All (λ line. IsWithin 65535 line.station) case.now.trace.items }
-    requires lines { length case.now.trace.items ≤ most_lines }
-    requires events { All (IsInForm (length case.now.table)) case.now.schedule.items }
     requires replicas { IsWithin 16 replicas }
     ensures exact { F.exact floor.new ≡ F.exact floor.old }
-    ensures run { let turns = history case.now.table case.now.trace.items in
-        OnOk result (IsRun case.now.table turns case.now.schedule.items replicas (F.exact floor.old) (F.setting floor.new) (F.given floor.new) (F.ends floor.new)) }
-    ensures text { let turns = history case.now.table case.now.trace.items in
-        IfOk result (λ text. text ≡ told_of case.now.table turns case.now.schedule.items (F.given floor.new) (F.ends floor.new)) }
-    ensures definition { let turns = history case.now.table case.now.trace.items in
-        IfOk result (λ text. F.exact floor.old ≡ true → text ≡ replay_of case.now.table turns case.now.schedule.items replicas) }
+    ensures run { let turns = history case.now.table case.now.trace in
+        OnOk result (IsRun case.now.table turns case.now.schedule replicas (F.exact floor.old) (F.setting floor.new) (F.given floor.new) (F.ends floor.new)) }
+    ensures text { let turns = history case.now.table case.now.trace in
+        IfOk result (λ text. text ≡ told_of case.now.table turns case.now.schedule (F.given floor.new) (F.ends floor.new)) }
+    ensures definition { let turns = history case.now.table case.now.trace in
+        IfOk result (λ text. F.exact floor.old ≡ true → text ≡ replay_of case.now.table turns case.now.schedule replicas) }
 {
+    let table = case.table();
     let admitted = admitted(alloc, case)?;
-    floor.open(alloc, &case.table, &admitted.book, replicas)?;
-    let mut text = transcript(alloc, floor, &case.schedule)?;
+    floor.open(alloc, table, &admitted.book, replicas)?;
+    let mut text = transcript(alloc, floor, case.schedule())?;
     let finals = settled_ends(alloc, floor)?;
-    let ends = final_text(alloc, &case.table, &admitted.refused, &finals)?;
+    let ends = final_text(alloc, table, &admitted.refused, &finals)?;
     text.append(ends)?;
     Ok(text)
 }
 
 /// What the events of a case come to in numbers on a floor with two replicas, and, once it has settled, its ends.
 fn summary<F: Floor>(alloc: Global, case: &Case, floor: &mut F) -> Result<Octets, OutOfMemory>
-    requires stations { All (λ line. IsWithin 65535 line.station) case.now.trace.items }
-    requires lines { length case.now.trace.items ≤ most_lines }
-    requires events { All (IsInForm (length case.now.table)) case.now.schedule.items }
     ensures exact { F.exact floor.new ≡ F.exact floor.old }
-    ensures run { let turns = history case.now.table case.now.trace.items in
-        OnOk result (IsRun case.now.table turns case.now.schedule.items made_replicas (F.exact floor.old) (F.setting floor.new) (F.given floor.new) (F.ends floor.new)) }
-    ensures text { let turns = history case.now.table case.now.trace.items in
-        IfOk result (λ text. text ≡ summary_on case.now.table turns case.now.schedule.items (F.given floor.new) (F.ends floor.new)) }
-    ensures definition { let turns = history case.now.table case.now.trace.items in
-        IfOk result (λ text. F.exact floor.old ≡ true → text ≡ summary_by case.now.table turns case.now.schedule.items) }
+    ensures run { let turns = history case.now.table case.now.trace in
+        OnOk result (IsRun case.now.table turns case.now.schedule made_replicas (F.exact floor.old) (F.setting floor.new) (F.given floor.new) (F.ends floor.new)) }
+    ensures text { let turns = history case.now.table case.now.trace in
+        IfOk result (λ text. text ≡ summary_on case.now.table turns case.now.schedule (F.given floor.new) (F.ends floor.new)) }
+    ensures definition { let turns = history case.now.table case.now.trace in
+        IfOk result (λ text. F.exact floor.old ≡ true → text ≡ summary_by case.now.table turns case.now.schedule) }
 {
-    let _rows = case.table.rows();
+    let table = case.table();
     let admitted = admitted(alloc, case)?;
-    floor.open(alloc, &case.table, &admitted.book, MADE_REPLICAS)?;
-    let counts = scheduled(floor, &case.schedule)?;
+    floor.open(alloc, table, &admitted.book, MADE_REPLICAS)?;
+    let counts = scheduled(floor, case.schedule())?;
     let ends = settled_ends(alloc, floor)?;
     let text = summary_text(alloc, &admitted, counts, &ends)?;
     Ok(text)
@@ -175,19 +164,16 @@ fn text_of<F: Floor>(
 ) -> Result<Octets, OutOfMemory>
     requires limits { IsInLimits command }
     requires not_itself { is_case_wanted command ≡ false }
-    requires stations { All (λ line. IsWithin 65535 line.station) case.now.trace.items }
-    requires lines { length case.now.trace.items ≤ most_lines }
-    requires events { All (IsInForm (length case.now.table)) case.now.schedule.items }
     ensures exact { F.exact floor.new ≡ F.exact floor.old }
     ensures other { IsWithoutFloor command → floor.new ≡ floor.old }
-    ensures run { OnOk result (RunsOn command case.now.table case.now.trace.items case.now.schedule.items (F.exact floor.old) (F.setting floor.new) (F.given floor.new) (F.ends floor.new)) }
-    ensures text { IfOk result (λ text. text ≡ text_on command case.now.table case.now.trace.items case.now.schedule.items (F.given floor.new) (F.ends floor.new)) }
-    ensures definition { IfOk result (λ text. F.exact floor.old ≡ true → text ≡ text_of command case.now.table case.now.trace.items case.now.schedule.items) }
+    ensures run { OnOk result (RunsOn command case.now.table case.now.trace case.now.schedule (F.exact floor.old) (F.setting floor.new) (F.given floor.new) (F.ends floor.new)) }
+    ensures text { IfOk result (λ text. text ≡ text_on command case.now.table case.now.trace case.now.schedule (F.given floor.new) (F.ends floor.new)) }
+    ensures definition { IfOk result (λ text. F.exact floor.old ≡ true → text ≡ text_of command case.now.table case.now.trace case.now.schedule) }
 {
     match command {
         Command::Plain => plain(alloc, case),
         Command::Replay { replicas } => replay(alloc, case, replicas, floor),
-        Command::Show => show_text(alloc, &case.trace),
+        Command::Show => show_text(alloc, case.trace()),
         Command::Make { .. } => summary(alloc, case, floor),
     }
 }

@@ -10,7 +10,7 @@ ghost use Rattle.echo_run.specs.Answer.{IsWithoutFloor};
 use crate::answer::{NoText, answer};
 use command_words::{Command, command_of};
 use device_types::Octets;
-use echo_base::{OutOfMemory, ReadAll, Sink, Source, Status, read_all, write_all};
+use echo_base::{OutOfMemory, ReadAll, Reason, Sink, Source, Status, read_all, write_all};
 use link_schedule::Floor;
 use std::alloc::Global;
 use trace_gen::make_case;
@@ -149,7 +149,12 @@ pub fn replay_top<S: Source, K: Sink, F: Floor>(
     let octets = match case_text(alloc, command, input) {
         Ok(octets) => octets,
         Err(ReadAll::ReadFault) => return Status::ReadFault,
-        Err(ReadAll::TooLong) => return Status::CaseRefused { number: 6, line: 0 },
+        Err(ReadAll::TooLong) => {
+            return Status::CaseRefused {
+                number: Reason::TooLong.number(),
+                line: 0,
+            };
+        }
         Err(ReadAll::OutOfMemory) => return Status::OutOfMemory,
     };
     let text = match answer(alloc, command, octets, floor) {

@@ -123,11 +123,11 @@ Effect { d: DeviceId(1), lane: Down, k: 6 }, Settle { d: DeviceId(1), lane: Subs
 
 /// Tells what a case says: of each row its number and its identities, then the trace, then the schedule.
 fn tell_case(text: &mut String, case: &Case) -> Result<(), Fail> {
-    for row in case.table.rows() {
+    for row in case.table().rows() {
         let (number, imsi, tmsi) = (row.number, row.imsi, row.tmsi);
         writeln!(text, "{number} {imsi} {tmsi}")?;
     }
-    let (trace, schedule) = (&case.trace, &case.schedule);
+    let (trace, schedule) = (case.trace(), case.schedule());
     writeln!(text, "{trace:?}")?;
     writeln!(text, "{schedule:?}")?;
     Ok(())

@@ -131,7 +131,7 @@ fn put_refused(text: &mut String, refused: RefusedLine) -> Result<(), Fail> {
 /// What a trace gives.
 fn told(alloc: Global, trace: &str) -> Result<String, Fail> {
     let case = read_case(alloc, case_text(alloc, trace)?.as_bytes())?;
-    let admitted = admit(alloc, &case.table, &case.trace)?;
+    let admitted = admit(alloc, case.table(), case.trace())?;
     let mut text = String::new(alloc);
     for (i, messages) in admitted.book.items().iter().enumerate() {
         for message in messages.items() {

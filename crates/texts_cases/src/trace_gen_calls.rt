@@ -221,9 +221,9 @@ fn made(alloc: Global, number: u32, devices: u32, rounds: u32) -> Result<String,
         return Err(Fail::from("a line is refused"));
     };
     let (rows, messages, events) = (
-        case.table.rows().len(),
-        case.trace.len(),
-        case.schedule.len(),
+        case.table().rows().len(),
+        case.trace().len(),
+        case.schedule().len(),
     );
     let (octets, hash) = (text.octets().len(), hash_of(text.octets()));
     Ok(format!(in alloc;

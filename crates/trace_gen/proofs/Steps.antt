@@ -11,7 +11,7 @@ use Rattle.trace_gen.specs.declared.counts.Counts.{Counts}
 use Rattle.trace_gen.specs.declared.script.Sending.TheVariants.{AttachRequest}
 use Rattle.trace_gen.specs.declared.script.Sent.{Sent}
 use Rattle.trace_gen.specs.Draws.{drawn, next_state, state_after}
-use Rattle.trace_gen.specs.Events.{event_line}
+use Rattle.case_form.specs.Event.{event_line}
 use Rattle.trace_gen.specs.Made.{ended, events_text}
 use Rattle.trace_gen.specs.Schedule.{counts_of, sent_events, schedule_behind}
 use Rattle.trace_gen.specs.State.{none, with_sent, AreCounts}

@@ -1,11 +1,9 @@
 -- The events of a message, and those of a call after it. Two replicas work: r is the first, and 3 - r the other.
 use Rattle.std.specs.Prelude.{ℕ, ◌-◌, List, [], ◌∷◌}
-use Rattle.std.specs.List.{join_with_byte}
 use Rattle.device_types.specs.declared.event.Lane.{Lane}
 use Rattle.device_types.specs.declared.event.Event.{Event}
 use Rattle.device_types.specs.declared.event.Event.TheVariants.{Send, Take, Answer, Read, Write, Stop, Reply, Push, Effect, Settle}
 use Rattle.device_types.specs.declared.subscriber.DeviceId.{DeviceId}
-use Rattle.case_form.specs.Event.{event_words}
 use Rattle.trace_gen.specs.declared.script.Call.{Call}
 use Rattle.trace_gen.specs.declared.script.Call.TheVariants.{Subscriber, Gateway, Notice}
 use Rattle.trace_gen.specs.Scripts.{lane_of}
@@ -29,7 +27,3 @@ abbrev pub call_events : ℕ → DeviceId → Call → ℕ → List Event
 call_events r d Subscriber k = answered_events r d (lane_of Subscriber) k
 call_events r d Gateway k = answered_events r d (lane_of Gateway) k
 call_events r d Notice k = notice_events d (lane_of Notice) k
-
--- the words of an event, with a space between each two
-abbrev pub event_line : Event → List ℕ
-event_line event = join_with_byte 32 (event_words event)

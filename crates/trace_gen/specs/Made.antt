@@ -4,7 +4,7 @@ use Rattle.std.specs.List.{flat_map, range_with_len}
 use Rattle.device_types.specs.declared.event.Event.{Event}
 use Rattle.trace_gen.specs.declared.script.Sent.{Sent}
 use Rattle.trace_gen.specs.Draws.{state_after}
-use Rattle.trace_gen.specs.Events.{event_line}
+use Rattle.case_form.specs.Event.{event_line}
 use Rattle.trace_gen.specs.Messages.{trace_line}
 use Rattle.trace_gen.specs.Schedule.{schedule_behind}
 use Rattle.trace_gen.specs.Subscribers.{subscriber_line}

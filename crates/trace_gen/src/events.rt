@@ -1,15 +1,15 @@
 //! Events.
 
-ghost use Rattle.std.specs.Prelude.{◌≡◌, ◌++◌, ◌≤◌, Some, OnOk, string_bytes};
-ghost use Rattle.trace_gen.specs.Events.{message_events, answered_events, notice_events, call_events, event_line};
+ghost use Rattle.std.specs.Prelude.{◌≡◌, ◌++◌, ◌≤◌, OnOk, string_bytes};
+ghost use Rattle.case_form.specs.Event.{event_line};
+ghost use Rattle.trace_gen.specs.Events.{message_events, answered_events, notice_events, call_events};
 ghost use Rattle.trace_gen.specs.Made.{ended, events_text};
 ghost use Rattle.trace_gen.specs.Scripts.{lane_of};
 
 use crate::script::Call;
-use case_form::LaneWord;
+use case_form::EventLine;
 use device_types::{DeviceId, Event, Lane};
 use echo_base::OutOfMemory;
-use std::fmt;
 
 /// The lane of a call.
 pub fn lane_of(call: Call) -> Lane
@@ -18,31 +18,6 @@ pub fn lane_of(call: Call) -> Lane
     match call {
         Call::Gateway => Lane::Gateway,
         Call::Subscriber | Call::Notice => Lane::Subscriber,
-    }
-}
-
-/// The line of an event, without its end.
-#[derive(Clone, Copy)]
-struct EventLine(Event);
-
-impl fmt::Display for EventLine {
-    ghost output = { λ line. Some (event_line line.0) };
-
-    fn fmt<W: fmt::Write>(&self, f: &mut fmt::Formatter<W>) -> fmt::Result {
-        match self.0 {
-            Event::Send { d, n } => write!(f, "send {} {n}", d.0),
-            Event::Take { r, d, n } => write!(f, "take {r} {} {n}", d.0),
-            Event::Answer { r, d, lane, k } => {
-                write!(f, "answer {r} {} {} {k}", d.0, LaneWord(lane))
-            }
-            Event::Read { r } => write!(f, "read {r}"),
-            Event::Write { r } => write!(f, "write {r}"),
-            Event::Stop { r } => write!(f, "stop {r}"),
-            Event::Reply { d, n } => write!(f, "reply {} {n}", d.0),
-            Event::Push { d, lane, k } => write!(f, "push {} {} {k}", d.0, LaneWord(lane)),
-            Event::Effect { d, lane, k } => write!(f, "effect {} {} {k}", d.0, LaneWord(lane)),
-            Event::Settle { d, lane, k } => write!(f, "settle {} {} {k}", d.0, LaneWord(lane)),
-        }
     }
 }
 

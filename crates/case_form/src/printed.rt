@@ -1,0 +1,48 @@
+//! Events and lanes as they stand in a schedule.
+
+ghost use Rattle.std.specs.Prelude.{Some};
+ghost use Rattle.case_form.specs.Event.{lane_word, event_line};
+
+use device_types::{Event, Lane};
+use std::fmt;
+
+/// A lane, which prints as its word: `down`, `gateway` or `subscriber`.
+#[derive(Clone, Copy)]
+pub struct LaneWord(pub Lane);
+
+impl fmt::Display for LaneWord {
+    ghost output = { λ lane. Some (lane_word lane.0) };
+
+    fn fmt<W: fmt::Write>(&self, f: &mut fmt::Formatter<W>) -> fmt::Result {
+        match self.0 {
+            Lane::Down => write!(f, "down"),
+            Lane::Gateway => write!(f, "gateway"),
+            Lane::Subscriber => write!(f, "subscriber"),
+        }
+    }
+}
+
+/// An event, which prints as its line in a schedule, without an end: `take 2 1 3`. `read_case` reads it so.
+#[derive(Clone, Copy)]
+pub struct EventLine(pub Event);
+
+impl fmt::Display for EventLine {
+    ghost output = { λ line. Some (event_line line.0) };
+
+    fn fmt<W: fmt::Write>(&self, f: &mut fmt::Formatter<W>) -> fmt::Result {
+        match self.0 {
+            Event::Send { d, n } => write!(f, "send {} {n}", d.0),
+            Event::Take { r, d, n } => write!(f, "take {r} {} {n}", d.0),
+            Event::Answer { r, d, lane, k } => {
+                write!(f, "answer {r} {} {} {k}", d.0, LaneWord(lane))
+            }
+            Event::Read { r } => write!(f, "read {r}"),
+            Event::Write { r } => write!(f, "write {r}"),
+            Event::Stop { r } => write!(f, "stop {r}"),
+            Event::Reply { d, n } => write!(f, "reply {} {n}", d.0),
+            Event::Push { d, lane, k } => write!(f, "push {} {} {k}", d.0, LaneWord(lane)),
+            Event::Effect { d, lane, k } => write!(f, "effect {} {} {k}", d.0, LaneWord(lane)),
+            Event::Settle { d, lane, k } => write!(f, "settle {} {} {k}", d.0, LaneWord(lane)),
+        }
+    }
+}
