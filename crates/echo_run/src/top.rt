@@ -73,6 +73,12 @@ fn put_text<K: Sink>(out: &mut K, text: &Octets) -> Status
 /// `CaseRefused` with the number 6 (TooLong) and the line 0 for more than 67,108,864 octets, and with the number of the reason and
 /// the line for the first bad line; `WriteFault`, where the sink failed, and then a front of the text was written; `Done`.
 /// `OutOfMemory` may stand in place of any but `WriteFault`. On a status but `Done` and `WriteFault` nothing was written.
+///
+/// ```rust
+/// let mut floor = OwnFloor::new();
+/// let status = replay_top(alloc, &words, &mut input, &mut output, &mut floor);
+/// floor.recall();
+/// ```
 pub fn replay_top<S: Source, K: Sink, F: Floor>(
     alloc: Global,
     words: &[String],
