@@ -25,7 +25,7 @@ class Browser:
     def __init__(self) -> None:
         self.folder = tempfile.mkdtemp()
         reads, writes = os.pipe(), os.pipe()  # it reads from its descriptor 3, and writes to its descriptor 4
-        line = f'exec "$0" "$@" 3<&{reads[0]} 4>&{writes[1]}'
+        line = f'exec "$0" "$@" 3</dev/fd/{reads[0]} 4>/dev/fd/{writes[1]}'  # by their paths: dash takes no 3<&10
         words = [*WORDS.split(" "), f"--user-data-dir={self.folder}", "about:blank"]
         command = ["/bin/sh", "-c", line, str(shutil.which(CHROMIUM)), *words]
         quiet = subprocess.DEVNULL

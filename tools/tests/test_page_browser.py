@@ -1,7 +1,6 @@
 """Pages as they are in a browser: their counts, search, filters, ladder, keys, print, colours, and how fast a large one opens."""
 
 import json
-import shutil
 import tempfile
 import unittest
 from pathlib import Path
@@ -43,16 +42,6 @@ DRAWN = """(row) => {
 }"""
 
 
-def setUpModule() -> None:
-    InBrowser.folder = Path(tempfile.mkdtemp())
-
-
-def tearDownModule() -> None:
-    for it in InBrowser.started:
-        it.close()
-    shutil.rmtree(InBrowser.folder)
-
-
 def counts_of(lines: List[str]) -> Dict[str, int]:
     counts: Dict[str, int] = {}
     for it in lines:
@@ -82,15 +71,20 @@ def devices_of(events: List[str], answers: List[str]) -> List[int]:
 
 @needs(CHROMIUM)
 class InBrowser(unittest.TestCase):
-    """Tests of one browser, which is started for the first of them, and of one folder of pages."""
+    """Tests of one browser and of one folder of pages, both made for their class."""
 
-    started: ClassVar[List[Browser]] = []
+    browser: ClassVar[Browser]
     folder: ClassVar[Path]
 
+    @classmethod
+    def setUpClass(cls) -> None:
+        folder = tempfile.TemporaryDirectory()
+        cls.addClassCleanup(folder.cleanup)
+        cls.folder = Path(folder.name)
+        cls.browser = Browser()
+        cls.addClassCleanup(cls.browser.close)
+
     def setUp(self) -> None:
-        if not self.started:
-            self.started.append(Browser())
-        self.browser = self.started[0]
         self.browser.call("Emulation.setDeviceMetricsOverride", width=1400, height=900, deviceScaleFactor=1, mobile=False)
 
     def tearDown(self) -> None:
@@ -98,11 +92,16 @@ class InBrowser(unittest.TestCase):
         self.assertEqual([it for it in self.browser.asked if not it.startswith("file://")], [])
         self.assertLessEqual(len(self.browser.asked), 1)
 
-    def open(self, case_file: Path, text_file: Path, address: str = "") -> None:
-        page = self.folder / f"{case_file.stem}.html"
+    @classmethod
+    def page(cls, case_file: Path, text_file: Path) -> Path:
+        """The page of a run, which is made once for all tests of a class."""
+        page = cls.folder / f"{case_file.stem}.html"
         if not page.exists():
             page.write_text(page_of(run_of(case_file, text_file), None))
-        self.browser.open(page, address)
+        return page
+
+    def open(self, case_file: Path, text_file: Path, address: str = "") -> None:
+        self.browser.open(self.page(case_file, text_file), address)
 
     def open_example(self, name: str, address: str = "") -> None:
         folder = DATA if name in PLAIN + REPLAYS else EXAMPLES
@@ -475,22 +474,26 @@ class Looks(InBrowser):
 class Large(InBrowser):
     """100,000 events, as many as a case text takes."""
 
+    measures_seconds = True  # so it runs alone
     run_made: ClassVar[MadeRun]
+    large: ClassVar[Path]
 
     @classmethod
     def setUpClass(cls) -> None:
+        super().setUpClass()
         cls.run_made = MadeRun(devices=800, messages=10, events=100000)
         case, text = cls.run_made.texts()
         (cls.folder / "large.txt").write_bytes(case)
         (cls.folder / "large_text.txt").write_bytes(text)
+        cls.large = cls.page(cls.folder / "large.txt", cls.folder / "large_text.txt")
 
-    def opened(self, address: str = "") -> None:
-        self.open(self.folder / "large.txt", self.folder / "large_text.txt", address)
+    def opened(self) -> None:
+        """Opens the page, unless a test before left it open."""
+        if self.value("location.href") != self.large.as_uri():
+            self.browser.open(self.large)
 
     def test_it_opens_in_time(self) -> None:
-        self.opened()
-        page = self.folder / "large.html"
-        seconds = min(self.browser.open(page) for _ in range(3))
+        seconds = min(self.browser.open(self.large) for _ in range(3))
         self.assertLess(seconds, SECONDS_TO_OPEN)
         counts = self.run_made.counts
         expected = {"devices": 800, "messages": 8000, "refused": 0, "events": 100000, "committed": 8000, "stale": 8000}
@@ -526,7 +529,7 @@ class Large(InBrowser):
         self.assertLess(cast(float, self.value(spent)), 16)  # the half of them, within a frame of 60 a second
 
     def test_a_device_and_a_filter(self) -> None:
-        self.opened(f"#device={imsi_of(799)}&answers=stale")
+        self.browser.open(self.large, f"#device={imsi_of(799)}&answers=stale")
         self.assertEqual([it[1] for it in self.events()], [f"stale {it} {it + 1}" for it in range(10)])
         self.value('document.getElementById("search").focus()')
         self.browser.write("0080")
