@@ -1,11 +1,14 @@
 """Case texts to captures and back, as a user runs the tools."""
 
+import os
 import struct
 import subprocess
+import tempfile
 import unittest
+from concurrent.futures import ThreadPoolExecutor
 from ipaddress import IPv4Address
 from pathlib import Path
-from typing import List, Tuple
+from typing import ClassVar, Dict, List, Tuple
 
 from balthiri_tools.case_text import CaseText, TraceLine, read_event
 from balthiri_tools.frames import frames_of
@@ -150,9 +153,20 @@ class Large(InFolder):
 
 @needs("program", "tshark")
 class RoundTrip(InFolder):
+    captures: ClassVar[Path]
+    told_of: ClassVar[Dict[str, List[str]]]
+
+    @classmethod
+    def setUpClass(cls) -> None:
+        folder = tempfile.TemporaryDirectory()
+        cls.addClassCleanup(folder.cleanup)
+        cls.captures, cls.told_of = Path(folder.name), {}
+
     def captured(self, name: str) -> Path:
-        capture = self.folder / f"{name}.pcap"
-        self.ran("case2pcap", DATA / f"{name}.txt", DATA / f"{name}_text.txt", "-o", capture)
+        """The capture of a case text, which is made once for all tests; what was told of it is in `told_of`."""
+        capture = self.captures / f"{name}.pcap"
+        if name not in self.told_of:
+            self.told_of[name] = told(self.ran("case2pcap", DATA / f"{name}.txt", DATA / f"{name}_text.txt", "-o", capture))
         return capture
 
     def test_the_trace_comes_back(self) -> None:
@@ -168,11 +182,11 @@ class RoundTrip(InFolder):
         case = DATA / "plain_1.txt"
         lines = trace_of(case.read_bytes())
         there = [it for it in lines if is_from_station(it)]
-        done = self.ran("case2pcap", case, DATA / "plain_1_text.txt", "-o", self.folder / "made")
+        capture = self.captured("plain_1")
         downs = sum(it.startswith(b"down ") for it in (DATA / "plain_1_text.txt").read_bytes().split(b"\n"))
         left_out = f"{len(lines) - len(there)} lines of the trace that are no message of a base station"
-        self.assertEqual(told(done), [f"case2pcap: {len(there)} messages up, {downs} down; left out: {left_out}"])
-        back = self.ran("pcap2case", self.folder / "made", "-", given=subscribers_of(case.read_bytes()))
+        self.assertEqual(self.told_of["plain_1"], [f"case2pcap: {len(there)} messages up, {downs} down; left out: {left_out}"])
+        back = self.ran("pcap2case", capture, "-", given=subscribers_of(case.read_bytes()))
         self.assertEqual(told(back), [f"pcap2case: {len(there)} lines of a trace; left out: {downs} of the MME, 0 of other procedures"])
 
     def test_up_and_down_in_order(self) -> None:
@@ -271,34 +285,49 @@ push 1 gateway 2;effect 1 gateway 2;answer 2 1 gateway 2;read 2;write 2;settle 1
 """
 
 
-@needs("program", "tshark")
-class Schedules(InFolder):
-    def scheduled(self, *words: str) -> bytes:
-        return self.ran("pcap2case", EXAMPLES / "attach.pcap", "-", *words, given=subscribers_of(ATTACH)).stdout
+def scheduled(kind: str, *words: object) -> bytes:
+    """The case text with a schedule of this kind that is written of the capture of the attach."""
+    done = run("pcap2case", EXAMPLES / "attach.pcap", "-", "--schedule", kind, *words, given=subscribers_of(ATTACH))
+    assert done.returncode == 0, done.stderr
+    return done.stdout
 
-    def events(self, *words: str) -> List[str]:
-        return self.scheduled(*words).decode().split("[schedule]\n")[1].splitlines()
+
+@needs("program", "tshark")
+class Schedules(unittest.TestCase):
+    """Schedules of the attach by kind, seed and number of replicas. Those that the tests share are written side by side."""
+
+    written: ClassVar[Dict[Tuple[str, int, int], bytes]]
+
+    @classmethod
+    def setUpClass(cls) -> None:
+        chosen = [*((seed, 2) for seed in range(6)), (1, 1), (3, 16)]
+        words = [(kind, *it) for kind in ("plain", "lossy", "stops") for it in chosen]
+        with ThreadPoolExecutor(os.cpu_count()) as pool:
+            cls.written = dict(zip(words, pool.map(lambda it: scheduled(it[0], "--seed", it[1], "--replicas", it[2]), words)))
+
+    def events(self, case: bytes) -> List[str]:
+        return case.decode().split("[schedule]\n")[1].splitlines()
 
     def test_plain_does_each_thing_once(self) -> None:
-        self.assertEqual(self.events("--schedule", "plain"), PLAIN_SCHEDULE.replace("\n", ";").split(";")[:-1])
+        self.assertEqual(self.events(scheduled("plain")), PLAIN_SCHEDULE.replace("\n", ";").split(";")[:-1])
 
     def test_the_seed_decides(self) -> None:
         for kind in ("lossy", "stops"):
-            runs = [self.events("--schedule", kind, "--seed", str(seed)) for seed in (1, 1, 2, 3)]
+            cases = [scheduled(kind, "--seed", 1), *(self.written[kind, seed, 2] for seed in (1, 2, 3))]
+            runs = [self.events(it) for it in cases]
             self.assertEqual(runs[0], runs[1])
             self.assertNotEqual(runs[0], runs[2])
             self.assertNotEqual(runs[2], runs[3])
 
     def test_the_program_takes_each(self) -> None:
         for kind in ("plain", "lossy", "stops"):
-            for seed, replicas in (("1", "1"), ("2", "2"), ("3", "16")):
-                case = self.scheduled("--schedule", kind, "--seed", seed, "--replicas", replicas)
-                self.assertEqual(run_program("plain", case), ATTACH_TEXT)
+            for seed, replicas in ((1, 1), (2, 2), (3, 16)):
+                self.assertEqual(run_program("plain", self.written[kind, seed, replicas]), ATTACH_TEXT)
 
     @unittest.skipUnless(has_replay(), "the built program has no command replay")
     def test_what_the_events_come_to(self) -> None:
         def answers(kind: str) -> str:
-            return "".join(run_program("replay", self.scheduled("--schedule", kind, "--seed", str(seed))).decode() for seed in range(6))
+            return "".join(run_program("replay", self.written[kind, seed, 2]).decode() for seed in range(6))
 
         plain, lossy, stops = (answers(it) for it in ("plain", "lossy", "stops"))
         for word in ("void", "stale", "repeat", "stopped", "old", "ahead", "waiting"):

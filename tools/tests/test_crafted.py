@@ -2,11 +2,12 @@
 
 import gzip
 import unittest
+from functools import lru_cache
 from typing import Dict, List, Tuple
 
 from balthiri_tools.capture import read_capture
 from balthiri_tools.sctp import Packet, messages_of
-from balthiri_tools.trace import trace_of
+from balthiri_tools.trace import Trace, trace_of
 from crafted import BEGINS, CAPTURES, ENDS, MME, STATION, UP, WHOLE, data, sctp
 from support import DATA, EXAMPLES, InFolder, Quiet, needs, run, subscribers_of, told
 
@@ -63,6 +64,12 @@ MISSING: Dict[str, Tuple[Lines, List[str], str]] = {
 ATTACH_FRAMES = {"ethernet.pcap": [1, 3, 5, 7, 8, 9], "bundles.pcap": [1, 1, 2, 2, 3, 3], "out_of_order.pcap": [1, 3, 5, 6, 2, 4, 7]}
 
 
+@lru_cache(maxsize=None)
+def trace_at(name: str) -> Trace:
+    """The trace of a capture, which is read once for all tests."""
+    return trace_of(read_capture(str(FOLDER / name), Quiet()))
+
+
 def lines_of(lines: Lines) -> List[str]:
     return [f"{station} {UP[number].hex()}" for station, number in lines]
 
@@ -78,7 +85,7 @@ class Files(unittest.TestCase):
 @needs("tshark")
 class Traces(unittest.TestCase):
     def trace(self, name: str) -> "Tuple[List[str], List[str], str, bool]":
-        trace = trace_of(read_capture(str(FOLDER / name), Quiet()))
+        trace = trace_at(name)
         lines = [it for it in trace.lines if not it.startswith("#")]
         self.assertEqual(len(lines), trace.pdus)
         return lines, trace.told_left_out()[len("left out: ") :].split(", "), trace.end, trace.is_missing_lines()
@@ -100,10 +107,9 @@ class Traces(unittest.TestCase):
 
     def test_frames_and_times(self) -> None:
         for name, frames in ATTACH_FRAMES.items():
-            comments = [it for it in trace_of(read_capture(str(FOLDER / name), Quiet())).lines if it.startswith("#")]
+            comments = [it for it in trace_at(name).lines if it.startswith("#")]
             self.assertEqual([it.split(" at ")[0] for it in comments], [f"# frame {it}" for it in frames])
-        nanosecond = trace_of(read_capture(str(FOLDER / "nanosecond.pcap"), Quiet()))
-        self.assertEqual(nanosecond.lines[2], "# frame 3 at 2.000000002")
+        self.assertEqual(trace_at("nanosecond.pcap").lines[2], "# frame 3 at 2.000000002")
 
 
 def packets(*octets: bytes, source: str = STATION) -> List[Packet]:
