@@ -120,6 +120,12 @@ class Browser:
         """Waits until the page has drawn once more."""
         self.value("new Promise((done) => requestAnimationFrame(() => requestAnimationFrame(() => done(true))))")
 
+    def busy(self) -> float:
+        """The processor time that the page's own thread has taken, in seconds."""
+        self.call("Performance.enable", timeDomain="threadTicks")
+        metrics = cast(List[Json], self.call("Performance.getMetrics")["metrics"])
+        return next(cast(float, it["value"]) for it in metrics if it["name"] == "TaskDuration")
+
     def press(self, key: str, text: Optional[str] = None) -> None:
         """A key, pressed and let go; with a text for a key that writes one."""
         codes = {"Enter": 13, "Escape": 27, "PageDown": 34, "End": 35, "Home": 36, "ArrowLeft": 37, "ArrowUp": 38, "ArrowRight": 39, "ArrowDown": 40, "Tab": 9}
