@@ -1,0 +1,4 @@
+pub mod Octets
+pub mod Exact
+pub mod Spelled
+pub mod Sessions

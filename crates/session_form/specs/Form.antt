@@ -1,0 +1,222 @@
+-- The form of a session: its table of fields, and what follows from it.
+use Rattle.std.specs.Prelude.{◌≡◌, ◌≢◌, ◌⊎◌, ℕ, Bool, true, false, List, [], ◌∷◌, slice_get, replicate, Some, Result}
+use Rattle.std.proofs.Common.{inl, inr, refl}
+use Rattle.echo_base.specs.declared.reason.Reason.TheVariants as reasons
+use Rattle.device_types.specs.declared.session.Link.{Link}
+use Rattle.device_types.specs.declared.session.Link.TheVariants.{Off, On}
+use Rattle.device_types.specs.declared.session.Bearer.{Bearer}
+use Rattle.device_types.specs.declared.session.Bearer.TheVariants as bearer
+use Rattle.device_types.specs.declared.session.Stage.{Stage}
+use Rattle.device_types.specs.declared.session.Stage.TheVariants as stage
+use Rattle.device_types.specs.declared.session.Session.{Session}
+use Rattle.echo_base.specs.declared.refusal.Refusal.{Refusal}
+use Rattle.echo_base.specs.Reading.{value_of}
+use Rattle.session_form.specs.Fields.{Input, Reader, plain, only, listed, is_most, Field, number, octets, counted, either, also, named, Row, Rows, last, ◌▸◌, section, taken, Table, whole, format_alone, reading_alone, run, InRange}
+
+-- ---- values by their numbers
+
+-- the stages in the order of their numbers, from 0
+abbrev pub stages : List Stage
+stages = stage.Detached ∷ stage.AwaitVectors ∷ stage.Authenticating ∷ stage.Securing ∷ stage.AwaitLocation ∷ stage.AwaitCreate ∷ stage.Accepting ∷ stage.AcceptingContext ∷ stage.AcceptingDone ∷ stage.AwaitModify ∷ stage.Connecting ∷ stage.Connected ∷ stage.AwaitRelease ∷ stage.Releasing ∷ stage.Idle ∷ stage.AwaitDelete ∷ []
+
+abbrev pub stage_number : Stage → ℕ
+stage_number stage.Detached = 0
+stage_number stage.AwaitVectors = 1
+stage_number stage.Authenticating = 2
+stage_number stage.Securing = 3
+stage_number stage.AwaitLocation = 4
+stage_number stage.AwaitCreate = 5
+stage_number stage.Accepting = 6
+stage_number stage.AcceptingContext = 7
+stage_number stage.AcceptingDone = 8
+stage_number stage.AwaitModify = 9
+stage_number stage.Connecting = 10
+stage_number stage.Connected = 11
+stage_number stage.AwaitRelease = 12
+stage_number stage.Releasing = 13
+stage_number stage.Idle = 14
+stage_number stage.AwaitDelete = 15
+
+-- the states of the default bearer
+abbrev pub bearers : List Bearer
+bearers = bearer.None ∷ bearer.Made ∷ bearer.Active ∷ []
+
+abbrev pub bearer_number : Bearer → ℕ
+bearer_number bearer.None = 0
+bearer_number bearer.Made = 1
+bearer_number bearer.Active = 2
+
+-- truth values
+abbrev pub truths : List Bool
+truths = false ∷ true ∷ []
+
+abbrev pub truth_number : Bool → ℕ
+truth_number false = 0
+truth_number true = 1
+
+pub each_stage : (s : Stage) → slice_get stages (stage_number s) ≡ Some s
+each_stage stage.Detached = refl
+each_stage s = refl
+
+pub each_bearer : (b : Bearer) → slice_get bearers (bearer_number b) ≡ Some b
+each_bearer bearer.None = refl
+each_bearer b = refl
+
+pub each_truth : (b : Bool) → slice_get truths (truth_number b) ≡ Some b
+each_truth false = refl
+each_truth true = refl
+
+-- ---- kinds of fields
+
+abbrev pub stage_field : Field Stage
+stage_field = number (listed stages stage_number each_stage refl) 1 0 15 refl
+
+abbrev pub bearer_field : Field Bearer
+bearer_field = number (listed bearers bearer_number each_bearer refl) 1 0 2 refl
+
+-- a truth value: 0 or 1
+abbrev pub truth_field : Field Bool
+truth_field = number (listed truths truth_number each_truth refl) 1 0 1 refl
+
+-- a number of n octets, from 0 to most
+abbrev pub up_to : (n most : ℕ) → is_most n most ≡ true → Field ℕ
+up_to n most fits = number plain n 0 most fits
+
+-- n octets of zero
+abbrev pub zeros : (n : ℕ) → is_most n 0 ≡ true → Field (Unit {0})
+zeros n fits = number (only 0) n 0 0 fits
+
+abbrev pub link_of : (Unit {0} × Unit {0}) ⊎ (ℕ × ℕ) → Link
+link_of (inl none) = Off
+link_of (inr pair) = On pair.0 pair.1
+
+abbrev pub link_parts : Link → (Unit {0} × Unit {0}) ⊎ (ℕ × ℕ)
+link_parts Off = inl (tt, tt)
+link_parts (On station enb) = inr (station, enb)
+
+pub link_back : (v : (Unit {0} × Unit {0}) ⊎ (ℕ × ℕ)) → link_parts (link_of v) ≡ v
+link_back (inl none) = refl
+link_back (inr pair) = refl
+
+pub link_again : (v : Link) → link_of (link_parts v) ≡ v
+link_again Off = refl
+link_again (On station enb) = refl
+
+-- a link: an octet that says whether it is on, its station of two octets and its eNB id of four, which are zeros where it is off
+abbrev pub link_field : Field Link
+link_field = named (record { make = link_of; parts = link_parts; back = link_back; again = link_again })
+    (either (also (zeros 2 refl) (zeros 4 refl)) (also (number plain 2 1 65535 refl) (up_to 4 16777215 refl)))
+
+-- ---- the table
+
+abbrev pub row : {A : Type 0} → (Session → A) → Field A → Row Session A
+row part field = record { part = part; field = field }
+
+-- where the device is, and what it can do
+abbrev pub front : Rows Session (Stage × (Link × (ℕ × (ℕ × (ℕ × (ℕ × ℕ))))))
+front =
+    row (λ s. s.stage) stage_field ▸
+    row (λ s. s.link) link_field ▸
+    row (λ s. s.plmn) (up_to 3 16777215 refl) ▸
+    row (λ s. s.tac) (up_to 2 65535 refl) ▸
+    row (λ s. s.eea) (up_to 1 255 refl) ▸
+    row (λ s. s.eia) (up_to 1 255 refl) ▸
+    last (row (λ s. s.pti) (up_to 1 255 refl))
+
+-- its bit rates, and the ends of its tunnel
+abbrev pub tunnel : Rows Session (ℕ × (ℕ × (ℕ × (ℕ × (ℕ × (ℕ × ℕ))))))
+tunnel =
+    row (λ s. s.dl) (up_to 8 10000000000 refl) ▸
+    row (λ s. s.ul) (up_to 8 10000000000 refl) ▸
+    row (λ s. s.sgw) (up_to 4 4294967295 refl) ▸
+    row (λ s. s.teid) (up_to 4 4294967295 refl) ▸
+    row (λ s. s.ip) (up_to 4 4294967295 refl) ▸
+    row (λ s. s.side_addr) (up_to 4 4294967295 refl) ▸
+    last (row (λ s. s.side_teid) (up_to 4 4294967295 refl))
+
+-- how it is served
+abbrev pub service : Rows Session (Bearer × (Bool × (Bool × (ℕ × (Bool × (ℕ × ℕ))))))
+service =
+    row (λ s. s.bearer) bearer_field ▸
+    row (λ s. s.registered) truth_field ▸
+    row (λ s. s.off) truth_field ▸
+    row (λ s. s.cause.group) (up_to 1 4 refl) ▸
+    row (λ s. s.cause.extended) truth_field ▸
+    row (λ s. s.cause.index) (up_to 1 63 refl) ▸
+    last (row (λ s. s.radio) (up_to 4 4294967295 refl))
+
+-- form 1: which form it is, and each field of a session in its order, with its octets and its greatest number
+abbrev pub form_1 : Table Session
+form_1 = record {
+  Parts = _;
+  rows =
+      row (λ s. tt) (number (only 1) 1 1 1 refl) ▸
+      section front ▸
+      row (λ s. s.res) (counted 16 refl) ▸
+      row (λ s. s.key) (octets 32) ▸
+      section tunnel ▸
+      last (section service);
+  make = λ form in_front res key in_tunnel in_service.
+      taken front (λ stage link plmn tac eea eia pti.
+      taken tunnel (λ dl ul sgw teid ip side_addr side_teid.
+      taken service (λ bearer registered off group extended index radio. record {
+        stage = stage;
+        link = link;
+        plmn = plmn;
+        tac = tac;
+        eea = eea;
+        eia = eia;
+        pti = pti;
+        res = res;
+        key = key;
+        dl = dl;
+        ul = ul;
+        sgw = sgw;
+        teid = teid;
+        ip = ip;
+        side_addr = side_addr;
+        side_teid = side_teid;
+        bearer = bearer;
+        registered = registered;
+        off = off;
+        cause = record { group = group; extended = extended; index = index };
+        radio = radio;
+      }) in_service) in_tunnel) in_front;
+  back = λ parts. refl;
+  again = λ s. refl;
+}
+
+abbrev pub session_field : Field Session
+session_field = whole form_1
+
+-- ---- what follows from the table
+
+-- a session whose fields are in their ranges
+abbrev pub IsInRange : Session → Type 0
+IsInRange s = InRange session_field s
+
+-- the octets of a session
+unfoldable pub form_of : Session → List ℕ
+form_of s = run session_field s
+
+-- octets that are a session
+abbrev pub IsFormOf : List ℕ → Session → Type 0
+IsFormOf os s = IsInRange s × (os ≡ form_of s)
+
+abbrev pub start : List ℕ → Input
+start os = record { place = 0; left = os }
+
+-- the first octet of the first field that is not whole or not in its range, or the first octet too many, is at that place
+unfoldable pub IsWrongAt : List ℕ → ℕ → Type 0
+IsWrongAt os place = (format_alone session_field).Refuses (start os) (record { reason = reasons.BadSession; place = place })
+
+-- a session of which something is kept in memory of its own: RES, and a key that is not zeros
+abbrev pub TakesMemory : Session → Type 0
+TakesMemory s = (s.res ≢ []) ⊎ (s.key ≢ replicate 32 0)
+
+-- what reading gives
+unfoldable pub session_at : Reader Session
+session_at = reading_alone session_field
+
+unfoldable pub session_in : List ℕ → Result Session Refusal
+session_in os = value_of (session_at (start os))

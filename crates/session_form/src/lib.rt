@@ -1,0 +1,13 @@
+//! A session as octets, both ways: one table of its fields says which octets they are, which of them are in range, how they are
+//! read, and where other octets are wrong.
+#![tactic(auto)]
+
+mod laws;
+mod reader;
+mod reading;
+mod writer;
+mod writing;
+
+pub use laws::{one_answer, ranges_are_those_of_sessions};
+pub use reading::read_session;
+pub use writing::write_session;
