@@ -11,7 +11,7 @@ use Rattle.aper_fields.specs.Sequence.{zero_bit_in, present_in, choice_in}
 use Rattle.aper_fields.specs.Many.{InOrder}
 use Rattle.aper_fields.specs.Asn1.{AsnType, Fields, part_run, bit_string, integer, only, enumerated, octet_string, fixed_octets, choice_index, extensible, on, choice, sequence, sequence_of, container, by_test, variant, named, needed, optional, absent, also, format, fields_in, flags_in, run, fields_run, flags_run, each_run, list_run, present_run, index_run, IsBetween, Fits, FieldsFit, IsSound, AreSound}
 use Rattle.aper_fields.proofs.Ends.{EndsBy, nothing_ends, then_ends, front_ends, number_ends, fixed_bits_ends, enumerated_ends, octet_string_ends, fixed_octets_ends}
-use Rattle.aper_fields.proofs.Types.{in_order, periodic}
+use Rattle.aper_fields.proofs.Types.{in_order, sizes_bound, periodic}
 use Rattle.aper_fields.proofs.Room.{item_least}
 use Rattle.aper_fields.proofs.Sizes.{some}
 
@@ -86,7 +86,7 @@ mutual
       (tt, number_ends low (high - low) value at bits (s.2.1.1 ∙ ap (λ n. number_run low (high - low) n at) whole))
   least (enumerated roots marked some) sound v at bits s = (s.0, enumerated_ends roots marked v at bits s.1)
   least (octet_string most few) sound v at bits s = ((s.0.0, s.0.2), octet_string_ends v at bits s.1)
-  least (fixed_octets n) sound v at bits s = (s.0, fixed_octets_ends v at bits s.1)
+  least (fixed_octets n fixed) sound v at bits s = (s.0, fixed_octets_ends v at bits s.1)
   least (choice_index roots n enough) sound v at bits s = (choice_in_range roots n v at bits s, choice_ends roots n v v at bits s)
   least (extensible reason p) sound v at bits s =
       let x = least p sound v _ s.2 s.5 in
@@ -112,10 +112,10 @@ mutual
     then_ends (fixed_bits_run 1 0) (flags_run p v (fixed_bits_run 1 0 ▸ fields_run p v)) at s.1 s.2 bits s.3 (zero_ends reasons.SequenceExtension at s.0 s.1 s.4)
         (flags_least p v _ v (fixed_bits_run 1 0 ▸ fields_run p v) _ s.2 (λ flags i l t. let f = t.5 in subst (λ w. EndsBy (fixed_bits_run 1 0 ▸ fields_run p w) i l) (sym f.5.5.0) (then_ends (fixed_bits_run 1 0) (fields_run p f.0) i t.1 t.2 l t.3 (present_zero t.0 i t.1 t.4) (front_ends (fields_run p f.0) _ f.1 f.2 t.2 f.3 (fields_least p sound flags f.0 _ f.1 f.4).1))) s.5),
   )
-  least (sequence_of low high bounds p) sound v at bits s =
+  least (sequence_of low high sizes p) sound v at bits s =
       let x = each_least (format p) (λ a. Fits IsOctets p a) (λ a. run p a) (λ a i l t. least p sound a i l t) [] v _ s.2 s.5.1 in
       let first : s.1 ≡ number_run low (high - low) (length v) at = s.4.1 ∙ ap (λ n. number_run low (high - low) n at) (sym s.5.0) in
-      ((omega (arith, s.4.0.0, s.5.0), omega (arith, s.4.0.1, s.5.0, in_order low high bounds), x.0), then_ends (number_run low (high - low) (length v)) (each_run (λ a. run p a) v) at s.1 s.2 bits s.3 (number_ends low (high - low) (length v) at s.1 first) x.1)
+      ((omega (arith, s.4.0.0, s.5.0), omega (arith, s.4.0.1, s.5.0, in_order low high (sizes_bound low high sizes)), x.0), then_ends (number_run low (high - low) (length v)) (each_run (λ a. run p a) v) at s.1 s.2 bits s.3 (number_ends low (high - low) (length v) at s.1 first) x.1)
   least (container id criticality head p) sound v at bits s =
       item_least id criticality (format p) v (run p v) at bits (Fits IsOctets p v) (λ offset held t. (least p sound.2 v offset held t).0) (record { some = some IsOctets p sound.0 v (least p sound.2 v s.0.offset s.5.0.0 s.5.0.1).0; periodic = periodic p v; ends = λ i l t. (least p sound.2 v i l t).1 }) s
   least (by_test true p q) sound v at bits s = least p sound.0 v at bits s

@@ -7,7 +7,7 @@ use Rattle.aper_fields.specs.Run.{Run, ◌▸◌, fixed_bits_run, number_run, op
 use Rattle.aper_fields.proofs.Lengths.{Takes, then_takes, number_takes, fixed_bits_takes, octet_string_takes, fixed_octets_takes, enumerated_takes, open_takes}
 use Rattle.aper_fields.proofs.NotEmpty.{first_some, bit_some, fixed_bits_some, number_some, text_some, marked_some, unmarked_some, octets_some}
 use Rattle.aper_fields.specs.Asn1.{AsnType, Fields, bit_string, integer, only, enumerated, octet_string, fixed_octets, choice_index, extensible, on, choice, sequence, sequence_of, container, by_test, variant, named, needed, optional, absent, also, run, fields_run, flags_run, each_run, list_run, item_run, part_run, present_run, index_run, Fits, FieldsFit, most_bits, most_flags, most_fields, takes_some, IsSound, AreSound}
-use Rattle.aper_fields.proofs.Types.{small_top}
+use Rattle.aper_fields.proofs.Types.{small_top, sizes_bound}
 
 -- ---- at least a bit
 
@@ -28,13 +28,13 @@ some S (integer low high bounds) b v fits = number_some low (high - low) v (omeg
 some S (enumerated roots true few) b v fits = marked_some roots v
 some S (enumerated roots false few) b v fits = unmarked_some roots v (ltb-true _ _ b) (ltb-true _ _ (and_parts _ _ few).1)
 some S (octet_string most few) b v fits = text_some v
-some S (sequence_of low high bounds p) b v fits = first_some (number_run low (high - low) (length v)) (each_run (λ a. run p a) v) 0 (number_some low (high - low) (length v) (omega (arith, ltb-true _ _ b)) (small_top low high bounds))
+some S (sequence_of low high sizes p) b v fits = first_some (number_run low (high - low) (length v)) (each_run (λ a. run p a) v) 0 (number_some low (high - low) (length v) (omega (arith, ltb-true _ _ b)) (small_top low high (sizes_bound low high sizes)))
 some S (sequence p) b v fits = first_some (fixed_bits_run 1 0) (flags_run p v (fixed_bits_run 1 0 ▸ fields_run p v)) 0 bit_some
 some S (choice p q) b (inl a) fits = first_some (index_run 1 0) (run p a) 0 (index_some 1 0)
 some S (choice p q) b (inr a) fits = first_some (index_run 1 1) (run q a) 0 (index_some 1 1)
 some S (extensible reason p) b v fits = first_some (fixed_bits_run 1 0) (run p v) 0 bit_some
 some S (on p most q) b v fits = first_some (run p v.0) (run (q v.0) v.1) 0 (some S p b v.0 fits.0)
-some S (fixed_octets n) b v fits = octets_some n v (ltb-true _ _ b) fits.0
+some S (fixed_octets n fixed) b v fits = octets_some n v (ltb-true _ _ b) fits.0
 some S (choice_index roots n enough) b v fits = index_some n v
 some S (by_test true p q) b v fits = some S p b v fits
 some S (by_test false p q) b v fits = some S q b v fits
@@ -90,7 +90,7 @@ mutual
   takes S (only reason low high value bounds) sound v fits = number_takes low (high - low) value
   takes S (enumerated roots marked few) sound v fits = enumerated_takes roots marked v
   takes S (octet_string most few) sound v fits = λ at. omega (arith, octet_string_takes v at, fits.0)
-  takes S (fixed_octets n) sound v fits = λ at. omega (arith, fixed_octets_takes v at, fits.0)
+  takes S (fixed_octets n fixed) sound v fits = λ at. omega (arith, fixed_octets_takes v at, fits.0)
   takes S (choice_index roots n enough) sound v fits = λ at. omega (arith, index_takes n v at)
   takes S (extensible reason p) sound v fits = then_takes 8 (most_bits p) (fixed_bits_run 1 0) (run p v) (fixed_bits_takes 1 0) (takes S p sound v fits)
   takes S (on p most q) sound v fits =
@@ -106,7 +106,7 @@ mutual
       let fields = then_takes 8 (most_fields p) (fixed_bits_run 1 0) (fields_run p v) (fixed_bits_takes 1 0) (fields_take S p sound v fits) in
       let whole = then_takes 8 (most_flags p + (8 + most_fields p)) (fixed_bits_run 1 0) (flags_run p v (fixed_bits_run 1 0 ▸ fields_run p v)) (fixed_bits_takes 1 0) (flags_takes p v (fixed_bits_run 1 0 ▸ fields_run p v) (8 + most_fields p) fields) in
       λ at. omega (arith, whole at)
-  takes S (sequence_of low high bounds p) sound v fits =
+  takes S (sequence_of low high sizes p) sound v fits =
       let whole = list_takes (λ a. Fits S p a) low high (most_bits p) (λ a. run p a) (λ a f. takes S p sound a f) v fits.2 in
       λ at. omega (arith, whole at, mul-le (length v) (most_bits p) high (most_bits p) fits.1 (omega arith))
   takes S (container id criticality head p) sound v fits = item_takes id criticality (most_bits p) (run p v 0) (takes S p sound.2 v fits 0)
@@ -134,7 +134,7 @@ part_takes_of In n f each None fits = absurd fits
 
 abbrev pub most_of : {A : Type 0} → AsnType A → A → ℕ
 most_of (octet_string most few) v = 23 + 8 * length v
-most_of (sequence_of low high bounds p) v = 74 + length v * most_bits p
+most_of (sequence_of low high sizes p) v = 74 + length v * most_bits p
 most_of (variant kind p) v = most_part (λ a. most_of p a) (kind.part v)
 most_of (named same p) v = most_of p (same.parts v)
 most_of p v = most_bits p
@@ -142,7 +142,7 @@ most_of p v = most_bits p
 pub takes_of : {A : Type 0} (S : List ℕ → Type 0) (s : AsnType A) → IsSound s → (v : A) → Fits S s v → Takes (most_of s v) (run s v)
 unfolding run
 takes_of S (octet_string most few) sound v fits = octet_string_takes v
-takes_of S (sequence_of low high bounds p) sound v fits = list_takes (λ a. Fits S p a) low high (most_bits p) (λ a. run p a) (λ a f. takes S p sound a f) v fits.2
+takes_of S (sequence_of low high sizes p) sound v fits = list_takes (λ a. Fits S p a) low high (most_bits p) (λ a. run p a) (λ a f. takes S p sound a f) v fits.2
 takes_of S (variant kind p) sound v fits = part_takes_of (λ a. Fits S p a) (λ a. most_of p a) (λ a. run p a) (λ a f. takes_of S p sound a f) (kind.part v) fits
 takes_of S (named same p) sound v fits = takes_of S p sound (same.parts v) fits
 takes_of S p sound v fits = takes S p sound v fits

@@ -12,7 +12,7 @@ use Rattle.aper_fields.proofs.Periodic.{IsPeriodic}
 use Rattle.aper_fields.specs.Sequence.{zero_bit_in, present_in, extensions_in, choice_in, criticality_in, item_in}
 use Rattle.aper_fields.specs.Many.{InOrder, inside}
 use Rattle.aper_fields.specs.Asn1.{AsnType, Fields, Variant, are_bounds, part_run, bit_string, integer, only, enumerated, octet_string, fixed_octets, choice_index, extensible, on, choice, sequence, sequence_of, container, by_test, variant, named, needed, optional, absent, also, format, fields_in, flags_in, run, fields_run, flags_run, each_run, list_run, item_run, present_run, index_run, IsBetween, Fits, FieldsFit, IsSound, AreSound}
-use Rattle.aper_fields.proofs.Types.{in_order, periodic}
+use Rattle.aper_fields.proofs.Types.{in_order, sizes_bound, periodic}
 use Rattle.aper_fields.proofs.Opens.{FitsOpen, open_holds}
 use Rattle.aper_fields.proofs.Sizes.{some, takes}
 
@@ -92,14 +92,14 @@ mutual
       (value, refl, (eq-eqb value value refl, ((leb-true _ _ ends.0, omega (arith, leb-true _ _ ends.1, in_order low high parts.0)), refl)))
   spelled (enumerated roots marked some) sound v fits at = (fits, refl)
   spelled (octet_string most few) sound v fits at = ((fits.0, omega (arith, fits.0, leb-true most 16383 few), fits.1), refl)
-  spelled (fixed_octets n) sound v fits at = (fits, refl)
-  spelled (choice_index roots n enough) sound v fits at = choice_spelled roots n v fits (omega (arith, fits, leb-true roots (2 ^ n) enough)) at
+  spelled (fixed_octets n fixed) sound v fits at = (fits, refl)
+  spelled (choice_index roots n enough) sound v fits at = choice_spelled roots n v fits (omega (arith, fits, leb-true roots (2 ^ n) (and_parts _ _ enough).0)) at
   spelled (extensible reason p) sound v fits at = (0, _, _, refl, zero_bit reason at, spelled p sound v fits _)
   spelled (on p most q) sound v fits at = (v.0, _, _, refl, spelled p sound.0 v.0 fits.0 at, (v.1, _, [], sym (append-nil _), spelled (q v.0) (sound.1 v.0).0 v.1 fits.1 _, (refl, refl)))
   spelled (choice p q) sound (inl a) fits at = (0, _, _, refl, choice_spelled 2 1 0 (omega arith) (omega arith) at, (a, refl, spelled p sound.0 a fits _))
   spelled (choice p q) sound (inr b) fits at = (1, _, _, refl, choice_spelled 2 1 1 (omega arith) (omega arith) at, (b, refl, spelled q sound.1 b fits _))
   spelled (sequence p) sound v fits at = (0, _, _, refl, zero_bit reasons.SequenceExtension at, flags_spelled p v _ v _ (λ i. (false, _, _, refl, present_spelled false i, (v, _, [], sym (append-nil _), fields_spelled p sound v fits _, ended v _))) _)
-  spelled (sequence_of low high bounds p) sound v fits at = (length v, _, _, refl, ((fits.0, omega (arith, fits.1, in_order low high bounds)), refl), (refl, each_spelled (format p) (λ a. Fits IsOctets p a) (λ a. run p a) (λ a f. spelled p sound a f) [] v fits.2 _))
+  spelled (sequence_of low high sizes p) sound v fits at = (length v, _, _, refl, ((fits.0, omega (arith, fits.1, in_order low high (sizes_bound low high sizes))), refl), (refl, each_spelled (format p) (λ a. Fits IsOctets p a) (λ a. run p a) (λ a f. spelled p sound a f) [] v fits.2 _))
   spelled (container id criticality head p) sound v fits at =
       let parts = and_parts (leb id 65535) (leb criticality 2) head in
       item_spelled id criticality (format p) v (run p v) at (leb-true _ _ parts.0) (leb-true _ _ parts.1) (record { everywhere = λ i. spelled p sound.2 v fits i }) (periodic p v) (some IsOctets p sound.0 v fits, omega (arith, takes IsOctets p sound.2 v fits 0, sound.1))

@@ -1,7 +1,7 @@
 -- What holds of every type: its reading is exact for its format, what is written depends on its offset within an octet alone, and a value is in its range whatever its strings are.
-use Rattle.std.proofs.Common.{ℕ, ◌≡◌, ◌-◌, ◌^◌, ◌<◌, ◌≤◌, Bool, true, false, ◌&&◌, List, [], ◌∷◌, length, eqb, ltb, leb, inl, inr, Option, Some, None, IfSome, IsSomeAnd}
+use Rattle.std.proofs.Common.{ℕ, ◌≡◌, ◌-◌, ◌^◌, ◌<◌, ◌≤◌, Bool, true, false, ◌&&◌, List, [], ◌∷◌, length, eqb, ltb, leb, inl, inr, Option, Some, None, IfSome, IsSomeAnd, arith}
 use Rattle.std.specs.List.{AllByRecursion}
-use Rattle.std.proofs.lemmas.Bool.{ltb-true, leb-true, and_parts}
+use Rattle.std.proofs.lemmas.Bool.{lt-ltb, ltb-true, leb-true, and_from, and_parts}
 use Rattle.echo_base.specs.declared.reason.Reason.TheVariants as reasons
 use Rattle.aper_fields.specs.Run.{Run}
 use Rattle.aper_fields.specs.Format.{Format, IsExactly, number_in}
@@ -10,7 +10,7 @@ use Rattle.aper_fields.proofs.ExactNumbers.{number_exactly}
 use Rattle.aper_fields.proofs.ExactPieces.{fixed_bits_exactly, enumerated_exactly, octet_string_exactly, fixed_octets_exactly}
 use Rattle.aper_fields.proofs.Periodic.{IsPeriodic, constant_periodic, then_periodic, fixed_bits_periodic, number_periodic, enumerated_periodic, octet_string_periodic, fixed_octets_periodic, open_periodic}
 use Rattle.aper_fields.specs.SequenceReading.{Reader}
-use Rattle.aper_fields.specs.Asn1.{AsnType, Fields, are_bounds, part_run, bit_string, integer, only, enumerated, octet_string, fixed_octets, choice_index, extensible, on, choice, sequence, sequence_of, container, by_test, variant, named, needed, optional, absent, also, format, fields_in, flags_in, reading, fields_at, flags_at, list_at, contained_item_at, run, fields_run, flags_run, each_run, list_run, item_run, present_run, index_run, Fits, FieldsFit}
+use Rattle.aper_fields.specs.Asn1.{AsnType, Fields, are_bounds, are_sizes, part_run, bit_string, integer, only, enumerated, octet_string, fixed_octets, choice_index, extensible, on, choice, sequence, sequence_of, container, by_test, variant, named, needed, optional, absent, also, format, fields_in, flags_in, reading, fields_at, flags_at, list_at, contained_item_at, run, fields_run, flags_run, each_run, list_run, item_run, present_run, index_run, Fits, FieldsFit}
 use Rattle.aper_fields.proofs.SequenceExact.{behind, zero_bit_exactly, present_exactly, extensions_exactly, choice_exactly, item_exactly}
 use Rattle.aper_fields.proofs.Manys.{many_exactly}
 use Rattle.aper_fields.proofs.Inside.{inside_exactly}
@@ -20,6 +20,12 @@ small_top low high bounds = ltb-true _ _ (and_parts (leb low high) (ltb (high - 
 
 pub in_order : (low high : ℕ) → are_bounds low high ≡ true → low ≤ high
 in_order low high bounds = leb-true _ _ (and_parts (leb low high) (ltb (high - low) (2 ^ 64)) bounds).0
+
+-- the bounds of a list are bounds
+pub sizes_bound : (low high : ℕ) → are_sizes low high ≡ true → are_bounds low high ≡ true
+sizes_bound low high sizes =
+    let parts = and_parts (leb low high) (ltb high 65536) sizes in
+    and_from (leb low high) (ltb (high - low) (2 ^ 64)) parts.0 (lt-ltb _ _ (omega (arith, ltb-true high 65536 parts.1)))
 
 -- ---- reading is exact for the format
 
@@ -41,13 +47,13 @@ mutual
       let parts = and_parts (leb 1 roots) (ltb roots (2 ^ 64)) some in
       enumerated_exactly roots marked (leb-true _ _ parts.0) (ltb-true _ _ parts.1)
   exactly (octet_string most few) = octet_string_exactly most
-  exactly (fixed_octets n) = fixed_octets_exactly n
+  exactly (fixed_octets n fixed) = fixed_octets_exactly n
   exactly (choice_index roots n enough) = choice_exactly roots n
   exactly (extensible reason p) = behind _ _ _ _ (zero_bit_exactly reason) (λ extension. exactly p)
   exactly (on p most q) = behind _ _ _ _ (exactly p) (λ a. behind _ _ _ _ (exactly (q a)) (λ b. just_exactly (a, b)))
   exactly (choice p q) = behind _ _ _ _ (choice_exactly 2 1) (λ kind. either_exactly (eqb kind 0) _ _ _ _ (mapped_exactly inl _ _ (exactly p)) (mapped_exactly inr _ _ (exactly q)))
   exactly (sequence p) = behind _ _ _ _ (zero_bit_exactly reasons.SequenceExtension) (λ extension. flags_exactly p _ _ (λ flags. behind _ _ _ _ present_exactly (λ more. behind _ _ _ _ (fields_exactly p flags) (λ v. behind _ _ _ _ (extensions_exactly more) (λ end. just_exactly v)))))
-  exactly (sequence_of low high bounds p) = behind _ _ _ _ (number_exactly low (high - low) (small_top low high bounds)) (many_exactly _ _ (λ before. exactly p))
+  exactly (sequence_of low high sizes p) = behind _ _ _ _ (number_exactly low (high - low) (small_top low high (sizes_bound low high sizes))) (many_exactly _ _ (λ before. exactly p))
   exactly (container id criticality head p) = behind _ _ _ _ (item_exactly id) (λ content. inside_exactly content (format p) (reading p) (exactly p))
   exactly (by_test b p q) = either_exactly b _ _ _ _ (exactly p) (exactly q)
   exactly (variant kind p) = mapped_exactly kind.make (format p) (reading p) (exactly p)
@@ -93,14 +99,14 @@ mutual
   periodic (only reason low high value bounds) v = number_periodic low (high - low) value
   periodic (enumerated roots marked some) v = enumerated_periodic roots marked v
   periodic (octet_string most few) v = octet_string_periodic v
-  periodic (fixed_octets n) v = fixed_octets_periodic v
+  periodic (fixed_octets n fixed) v = fixed_octets_periodic v
   periodic (choice_index roots n enough) v = index_periodic n v
   periodic (extensible reason p) v = then_periodic _ _ (fixed_bits_periodic 1 0) (periodic p v)
   periodic (on p most q) v = then_periodic _ _ (periodic p v.0) (periodic (q v.0) v.1)
   periodic (choice p q) (inl a) = then_periodic _ _ (index_periodic 1 0) (periodic p a)
   periodic (choice p q) (inr b) = then_periodic _ _ (index_periodic 1 1) (periodic q b)
   periodic (sequence p) v = then_periodic _ _ (fixed_bits_periodic 1 0) (flags_periodic p v _ (then_periodic _ _ (fixed_bits_periodic 1 0) (fields_periodic p v)))
-  periodic (sequence_of low high bounds p) v = then_periodic _ _ (number_periodic low (high - low) (length v)) (each_periodic (λ a. run p a) (λ a. periodic p a) v)
+  periodic (sequence_of low high sizes p) v = then_periodic _ _ (number_periodic low (high - low) (length v)) (each_periodic (λ a. run p a) (λ a. periodic p a) v)
   periodic (container id criticality head p) v = item_periodic id criticality (run p v 0)
   periodic (by_test true p q) v = periodic p v
   periodic (by_test false p q) v = periodic q v
@@ -130,13 +136,13 @@ each_of P Q each (x ∷ xs) all = (each x all.0, each_of P Q each xs all.1)
 mutual
   pub fits_by : {A : Type 0} (S T : List ℕ → Type 0) → ((octets : List ℕ) → S octets → T octets) → (s : AsnType A) (v : A) → Fits S s v → Fits T s v
   fits_by S T each (octet_string most few) v fits = (fits.0, each v fits.1)
-  fits_by S T each (fixed_octets n) v fits = (fits.0, each v fits.1)
+  fits_by S T each (fixed_octets n fixed) v fits = (fits.0, each v fits.1)
   fits_by S T each (extensible reason p) v fits = fits_by S T each p v fits
   fits_by S T each (on p most q) v fits = (fits_by S T each p v.0 fits.0, fits_by S T each (q v.0) v.1 fits.1)
   fits_by S T each (choice p q) (inl a) fits = fits_by S T each p a fits
   fits_by S T each (choice p q) (inr b) fits = fits_by S T each q b fits
   fits_by S T each (sequence p) v fits = fields_fit_by S T each p v fits
-  fits_by S T each (sequence_of low high bounds p) v fits = (fits.0, fits.1, each_of (λ a. Fits S p a) (λ a. Fits T p a) (λ a f. fits_by S T each p a f) v fits.2)
+  fits_by S T each (sequence_of low high sizes p) v fits = (fits.0, fits.1, each_of (λ a. Fits S p a) (λ a. Fits T p a) (λ a f. fits_by S T each p a f) v fits.2)
   fits_by S T each (container id criticality head p) v fits = fits_by S T each p v fits
   fits_by S T each (by_test true p q) v fits = fits_by S T each p v fits
   fits_by S T each (by_test false p q) v fits = fits_by S T each q v fits

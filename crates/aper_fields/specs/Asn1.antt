@@ -1,5 +1,5 @@
 -- Types of ASN.1 (ITU-T X.680), as TS 36.413 uses them: what a value is made of, in order. All that is said of a value follows from its type.
-use Rattle.std.specs.Prelude.{◌≡◌, ◌⊎◌, ℕ, zero, suc, ◌+◌, ◌-◌, ◌*◌, ◌^◌, ◌<◌, ◌≤◌, ◌==◌, nat_lt, nat_le, ◌&&◌, Bool, true, false, List, [], ◌∷◌, length, if◌then◌else◌, Option, Some, None, is_some, IsSomeAnd, IfSome}
+use Rattle.std.specs.Prelude.{◌≡◌, ◌⊎◌, ℕ, zero, suc, ◌+◌, ◌-◌, ◌*◌, ◌^◌, ◌<◌, ◌≤◌, ◌==◌, nat_lt, nat_le, ◌&&◌, Bool, true, false, List, [], ◌∷◌, length, if◌then◌else◌, Option, Some, None, is_some, IsSomeAnd, IfSome, IsTrue}
 use Rattle.std.specs.List.{AllByRecursion}
 use Rattle.std.proofs.Common.{inl, inr}
 use Rattle.echo_base.specs.declared.reason.Reason.{Reason}
@@ -37,6 +37,18 @@ pub record Variant (A B : Type 0) : Type 0 where
 abbrev pub are_bounds : ℕ → ℕ → Bool
 are_bounds low high = nat_le low high && nat_lt (high - low) (2 ^ 64)
 
+-- bounds of how many items a list has that is no longer than its count can say as a whole number: below 64K (ITU-T X.691, 11.9 and 20)
+abbrev pub are_sizes : ℕ → ℕ → Bool
+are_sizes low high = nat_le low high && nat_lt high 65536
+
+-- octets of a fixed size that begin at an octet and have no length: more than two, and below 64K bits (ITU-T X.691, 16 and 17)
+abbrev pub is_fixed_size : ℕ → Bool
+is_fixed_size n = nat_lt 2 n && nat_lt (8 * n) 65536
+
+-- so many roots of a CHOICE have indices in a field of n bits: the least that holds them, for up to 255 of them (ITU-T X.691, 11.5 and 23)
+abbrev pub is_index_width : ℕ → ℕ → Bool
+is_index_width roots n = nat_le roots (2 ^ n) && (nat_lt (2 ^ n) (2 * roots) && nat_lt roots 256)
+
 -- an id and a criticality
 abbrev pub is_head : ℕ → ℕ → Bool
 is_head id criticality = nat_le id 65535 && nat_le criticality 2
@@ -53,10 +65,10 @@ mutual
     enumerated : (roots : ℕ) (marked : Bool) → nat_le 1 roots && nat_lt roots (2 ^ 64) ≡ true → AsnType EnumValue
     -- OCTET STRING, of which at most so many octets are taken
     octet_string : (most : ℕ) → nat_le most 16383 ≡ true → AsnType (List ℕ)
-    -- BIT STRING (SIZE (8 * n)), as so many octets
-    fixed_octets : ℕ → AsnType (List ℕ)
+    -- BIT STRING (SIZE (8 * n)), as so many octets, or OCTET STRING (SIZE (n))
+    fixed_octets : (n : ℕ) → is_fixed_size n ≡ true → AsnType (List ℕ)
     -- the index of a root of a CHOICE with extension mark, in n bits
-    choice_index : (roots n : ℕ) → nat_le roots (2 ^ n) ≡ true → AsnType ℕ
+    choice_index : (roots n : ℕ) → is_index_width roots n ≡ true → AsnType ℕ
     -- a type with extension mark, of which no extension is taken
     extensible : {A : Type 0} → Reason → AsnType A → AsnType A
     -- one, and behind it what its value calls for, of at most so many bits
@@ -66,7 +78,7 @@ mutual
     -- SEQUENCE with extension mark and iE-Extensions
     sequence : {P A : Type 0} → Fields P A → AsnType A
     -- SEQUENCE (SIZE (low..high)) OF
-    sequence_of : {A : Type 0} (low high : ℕ) → are_bounds low high ≡ true → AsnType A → AsnType (List A)
+    sequence_of : {A : Type 0} (low high : ℕ) → are_sizes low high ≡ true → AsnType A → AsnType (List A)
     -- ProtocolIE-SingleContainer: an id, a criticality and an open type
     container : {A : Type 0} (id criticality : ℕ) → is_head id criticality ≡ true → AsnType A → AsnType A
     -- one type or another, by a test, as what an open type contains by its id
@@ -100,13 +112,13 @@ unfoldable mutual
   format (only reason low high value bounds) = mapped (λ v. tt) (passing (λ v. v == value) reason (number_in low (high - low)))
   format (enumerated roots marked some) = enumerated_in roots marked
   format (octet_string most few) = octet_string_in most
-  format (fixed_octets n) = fixed_octets_in n
+  format (fixed_octets n fixed) = fixed_octets_in n
   format (choice_index roots n enough) = choice_in roots n
   format (extensible reason p) = zero_bit_in reason >>= λ extension. format p
   format (on p most q) = format p >>= λ a. format (q a) >>= λ b. just (a, b)
   format (choice p q) = choice_in 2 1 >>= λ kind. formats.either (kind == 0) (mapped inl (format p)) (mapped inr (format q))
   format (sequence p) = zero_bit_in reasons.SequenceExtension >>= λ extension. flags_in p (λ flags. present_in >>= λ more. fields_in p flags >>= λ v. extensions_in more >>= λ end. just v)
-  format (sequence_of low high bounds p) = number_in low (high - low) >>= many_in (λ before. format p)
+  format (sequence_of low high sizes p) = number_in low (high - low) >>= many_in (λ before. format p)
   format (container id criticality head p) = item_in id >>= λ content. inside content (format p)
   format (by_test b p q) = formats.either b (format p) (format q)
   format (variant kind p) = mapped kind.make (format p)
@@ -145,13 +157,13 @@ unfoldable mutual
   reading (only reason low high value bounds) = reader.◌>>=◌ (passing_at (λ v. v == value) reason (number_at low (high - low))) (λ v. done tt)
   reading (enumerated roots marked some) = enumerated_at roots marked
   reading (octet_string most few) = octet_string_at most
-  reading (fixed_octets n) = fixed_octets_at n
+  reading (fixed_octets n fixed) = fixed_octets_at n
   reading (choice_index roots n enough) = choice_at roots n
   reading (extensible reason p) = reader.◌>>=◌ (zero_bit_at reason) (λ extension. reading p)
   reading (on p most q) = reader.◌>>=◌ (reading p) (λ a. reader.◌>>=◌ (reading (q a)) (λ b. done (a, b)))
   reading (choice p q) = reader.◌>>=◌ (choice_at 2 1) (λ kind. λ i. if kind == 0 then reader.◌>>=◌ (reading p) (λ a. done (inl a)) i else reader.◌>>=◌ (reading q) (λ b. done (inr b)) i)
   reading (sequence p) = reader.◌>>=◌ (zero_bit_at reasons.SequenceExtension) (λ extension. flags_at p (λ flags. reader.◌>>=◌ present_at (λ more. reader.◌>>=◌ (fields_at p flags) (λ v. reader.◌>>=◌ (extensions_at more) (λ end. done v)))))
-  reading (sequence_of low high bounds p) = list_at low high (reading p)
+  reading (sequence_of low high sizes p) = list_at low high (reading p)
   reading (container id criticality head p) = contained_item_at id (reading p)
   reading (by_test b p q) = λ i. if b then reading p i else reading q i
   reading (variant kind p) = reader.◌>>=◌ (reading p) (λ a. done (kind.make a))
@@ -209,14 +221,14 @@ unfoldable mutual
   run (only reason low high value bounds) v = number_run low (high - low) value
   run (enumerated roots marked some) v = enumerated_run roots marked v
   run (octet_string most few) v = octet_string_run v
-  run (fixed_octets n) v = fixed_octets_run v
+  run (fixed_octets n fixed) v = fixed_octets_run v
   run (choice_index roots n enough) v = index_run n v
   run (extensible reason p) v = fixed_bits_run 1 0 ▸ run p v
   run (on p most q) v = run p v.0 ▸ run (q v.0) v.1
   run (choice p q) (inl a) = index_run 1 0 ▸ run p a
   run (choice p q) (inr b) = index_run 1 1 ▸ run q b
   run (sequence p) v = fixed_bits_run 1 0 ▸ flags_run p v (fixed_bits_run 1 0 ▸ fields_run p v)
-  run (sequence_of low high bounds p) v = list_run low high (λ a. run p a) v
+  run (sequence_of low high sizes p) v = list_run low high (λ a. run p a) v
   run (container id criticality head p) v = item_run id criticality (run p v 0)
   run (by_test b p q) v = if b then run p v else run q v
   run (variant kind p) v = part_run (λ a. run p a) (kind.part v)
@@ -242,14 +254,14 @@ abbrev mutual
   Fits S (only reason low high value bounds) v = Unit {0}
   Fits S (enumerated roots marked some) v = IsEnumValue roots marked v
   Fits S (octet_string most few) v = (length v ≤ most) × S v
-  Fits S (fixed_octets n) v = (length v ≡ n) × S v
+  Fits S (fixed_octets n fixed) v = (length v ≡ n) × S v
   Fits S (choice_index roots n enough) v = v < roots
   Fits S (extensible reason p) v = Fits S p v
   Fits S (on p most q) v = Fits S p v.0 × Fits S (q v.0) v.1
   Fits S (choice p q) (inl a) = Fits S p a
   Fits S (choice p q) (inr b) = Fits S q b
   Fits S (sequence p) v = FieldsFit S p v
-  Fits S (sequence_of low high bounds p) v = (low ≤ length v) × (length v ≤ high) × AllByRecursion (λ a. Fits S p a) v
+  Fits S (sequence_of low high sizes p) v = (low ≤ length v) × (length v ≤ high) × AllByRecursion (λ a. Fits S p a) v
   Fits S (container id criticality head p) v = Fits S p v
   Fits S (by_test true p q) v = Fits S p v
   Fits S (by_test false p q) v = Fits S q v
@@ -287,13 +299,13 @@ abbrev mutual
   most_bits (only reason low high value bounds) = 74
   most_bits (enumerated roots marked some) = 75
   most_bits (octet_string most few) = 23 + 8 * most
-  most_bits (fixed_octets n) = 7 + 8 * n
+  most_bits (fixed_octets n fixed) = 7 + 8 * n
   most_bits (choice_index roots n enough) = 15 + n
   most_bits (extensible reason p) = 8 + most_bits p
   most_bits (on p most q) = most_bits p + most
   most_bits (choice p q) = 16 + (most_bits p + most_bits q)
   most_bits (sequence p) = 16 + (most_flags p + most_fields p)
-  most_bits (sequence_of low high bounds p) = 74 + high * most_bits p
+  most_bits (sequence_of low high sizes p) = 74 + high * most_bits p
   most_bits (container id criticality head p) = 114 + most_bits p
   most_bits (by_test b p q) = if b then most_bits p else most_bits q
   most_bits (variant kind p) = most_bits p
@@ -311,33 +323,33 @@ takes_some (bit_string n) = nat_lt 0 n
 takes_some (integer low high bounds) = nat_lt low high
 takes_some (enumerated roots marked some) = if marked then true else nat_lt 1 roots
 takes_some (octet_string most few) = true
-takes_some (fixed_octets n) = nat_lt 0 n
+takes_some (fixed_octets n fixed) = nat_lt 0 n
 takes_some (choice_index roots n enough) = true
 takes_some (extensible reason p) = true
 takes_some (on p most q) = takes_some p
 takes_some (choice p q) = true
 takes_some (sequence p) = true
-takes_some (sequence_of low high bounds p) = nat_lt low high
+takes_some (sequence_of low high sizes p) = nat_lt low high
 takes_some (by_test b p q) = if b then takes_some p else takes_some q
 takes_some (variant kind p) = takes_some p
 takes_some (named same p) = takes_some p
 takes_some _ = false
 
--- Each open type contains at least a bit and at most 16,383 octets, and what a value calls for takes no more bits than are said.
+-- Each open type contains at least a bit and at most 16,383 octets, a bit string has fewer than 64K bits (ITU-T X.691, 16), and what a value calls for takes no more bits than are said.
 abbrev mutual
   pub IsSound : {A : Type 0} → AsnType A → Type 0
-  IsSound (bit_string n) = Unit {0}
+  IsSound (bit_string n) = IsTrue (nat_lt n 65536)
   IsSound (integer low high bounds) = Unit {0}
   IsSound (only reason low high value bounds) = Unit {0}
   IsSound (enumerated roots marked some) = Unit {0}
   IsSound (octet_string most few) = Unit {0}
-  IsSound (fixed_octets n) = Unit {0}
+  IsSound (fixed_octets n fixed) = Unit {0}
   IsSound (choice_index roots n enough) = Unit {0}
   IsSound (extensible reason p) = IsSound p
   IsSound (on p most q) = IsSound p × ((a : _) → IsSound (q a) × (most_bits (q a) ≤ most))
   IsSound (choice p q) = IsSound p × IsSound q
   IsSound (sequence p) = AreSound p
-  IsSound (sequence_of low high bounds p) = IsSound p
+  IsSound (sequence_of low high sizes p) = IsSound p
   IsSound (container id criticality head p) = (takes_some p ≡ true) × (most_bits p ≤ 8 * 16383) × IsSound p
   IsSound (by_test b p q) = IsSound p × IsSound q
   IsSound (variant kind p) = IsSound p

@@ -41,11 +41,11 @@ setup_right S v fits =
 
 pub done_sound : IsSound erab_done
 unfolding erab_done erab_id address
-done_sound = (tt, ((tt, λ size. (tt, omega arith)), tt))
+done_sound = (tt, ((tt, λ size. (refl, omega arith)), refl))
 
 pub setup_sound : IsSound erab_to_setup
 unfolding erab_to_setup erab_id address qos arp
-setup_sound = (tt, ((tt, (tt, tt)), ((tt, λ size. (tt, omega arith)), (tt, tt))))
+setup_sound = (tt, ((tt, (refl, tt)), ((tt, λ size. (refl, omega arith)), (refl, tt))))
 
 few_done : most_bits erab_done ≤ 8 * 16383
 unfolding erab_done erab_id address

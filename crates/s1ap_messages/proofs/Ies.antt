@@ -62,7 +62,8 @@ value_sound (value.Key key) = tt
 value_sound (value.Radio radio) = tt
 value_sound (value.Ids ids) = ((tt, tt), tt)
 value_sound (value.Rrc rrc) = tt
-value_sound _ = (tt, tt)
+value_sound (value.Rates rates) = (tt, tt)
+value_sound _ = (refl, refl)
 
 -- each value is written in something
 each_some : (v : FieldValue) → takes_some (asn1_of v) ≡ true

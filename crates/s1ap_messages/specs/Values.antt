@@ -65,7 +65,7 @@ tai = ie_type names.tai types.tai value.Tai (elim [ value.Tai v ↦ Some v | _ �
 
 -- Security Key (9.2.1.41): BIT STRING (SIZE (256))
 abbrev pub security_key : IeType
-security_key = ie_type names.security_key (fixed_octets names.security_key_octets) value.Key (elim [ value.Key v ↦ Some v | _ ↦ None ]) (λ v. refl) (elim [ value.Key v ↦ refl | _ ↦ tt ])
+security_key = ie_type names.security_key (fixed_octets names.security_key_octets refl) value.Key (elim [ value.Key v ↦ Some v | _ ↦ None ]) (λ v. refl) (elim [ value.Key v ↦ refl | _ ↦ tt ])
 
 -- UE Radio Capability (9.2.1.27)
 abbrev pub radio_capability : IeType
