@@ -11,7 +11,7 @@ use crate::reader::BitReader;
 use crate::reading::{read_bits_fixed, read_open};
 use echo_base::{Reason, Refusal};
 
-/// Reads the bit.
+/// A bit that has to be 0: the reading of `read_zero_bit`, whose relation is `exact` there.
 #[tactic(auto, unfolding(crate::specs::SequenceReading::zero_bit_at))]
 #[inline(always)]
 fn zero_bit(r: &mut BitReader, reason: Reason) -> Result<u64, Refusal>
@@ -36,7 +36,7 @@ pub fn read_zero_bit(r: &mut BitReader, reason: Reason) -> Result<u64, Refusal>
     zero_bit(r, reason)
 }
 
-/// Reads the two bits.
+/// Two bits, of which 3 is no criticality: the reading of `read_criticality`, whose relation is `exact` there.
 #[tactic(auto, unfolding(crate::specs::SequenceReading::criticality_at))]
 #[inline(always)]
 fn criticality(r: &mut BitReader) -> Result<u64, Refusal>
@@ -61,7 +61,8 @@ pub fn read_criticality(r: &mut BitReader) -> Result<u64, Refusal>
     criticality(r)
 }
 
-/// Passes over an entry of iE-Extensions.
+/// Passes over an entry of iE-Extensions (TS 36.413, 9.3.7): an id of 16 bits, a criticality and an open type, whatever is
+/// in it.
 #[tactic(auto, unfolding(crate::specs::SequenceReading::entry_at))]
 fn skip_entry(r: &mut BitReader) -> Result<(), Refusal>
     ensures { Gives result r.old r.new (entry_at r.old) }
@@ -74,7 +75,7 @@ fn skip_entry(r: &mut BitReader) -> Result<(), Refusal>
     Ok(())
 }
 
-/// Passes over so many entries.
+/// Passes over `count` entries of iE-Extensions, one behind another.
 #[tactic(auto, unfolding(crate::specs::SequenceReading::skipped_at))]
 fn skip_entries(r: &mut BitReader, count: u64) -> Result<(), Refusal>
     ensures { Gives result r.old r.new (skipped_at entry_at count r.old) }

@@ -65,7 +65,7 @@ impl<'a> BitReader<'a> {
         self.place
     }
 
-    /// The same place once more.
+    /// A second reader at the same place, to read ahead with.
     #[inline(always)]
     pub fn ahead(&self) -> BitReader<'a>
         ensures { result ≡ self.now }
@@ -77,7 +77,7 @@ impl<'a> BitReader<'a> {
         }
     }
 
-    /// The refusal of what is due here.
+    /// A refusal for that reason, at the octet of the next bit.
     #[inline(always)]
     pub fn refusal(&self, reason: Reason) -> Refusal
         ensures { result ≡ refusal reason self.now }
@@ -104,7 +104,7 @@ impl<'a> BitReader<'a> {
         (8 - self.used) % 8
     }
 
-    /// Are that many bits left?
+    /// Are at least `count` bits left?
     #[inline(always)]
     fn has(&self, count: u32) -> bool
         requires { count ≤ 64 }
@@ -113,7 +113,7 @@ impl<'a> BitReader<'a> {
         self.bytes.len() >= (self.used + count).div_ceil(8) as usize
     }
 
-    /// Are that many octets left?
+    /// Are at least `count` whole octets left?
     #[inline(always)]
     pub(crate) fn has_octets(&self, count: usize) -> bool
         requires { gap self.now.offset ≡ 0 }

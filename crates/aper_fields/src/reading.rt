@@ -182,7 +182,8 @@ pub fn read_bits_fixed(r: &mut BitReader, n: u32) -> Result<u64, Refusal>
     Ok(value)
 }
 
-/// The index of a root.
+/// A root of an ENUMERATED of `roots` roots: its index, as a number from 0 to `roots - 1` (ITU-T X.691, Encoding the
+/// enumerated type).
 #[inline(always)]
 fn read_root(r: &mut BitReader, roots: u32) -> Result<EnumValue, Refusal>
     requires some { 1 ≤ roots }
@@ -274,7 +275,7 @@ pub fn end(r: &BitReader) -> Result<(), Refusal>
     Ok(())
 }
 
-/// Passes over an octet of zeros.
+/// The octet 00 that a value of no bits has in a container (ITU-T X.691, Complete encoding): Truncated, or NonZeroPadding.
 #[tactic(auto, unfolding(crate::specs::Reading::empty_at))]
 fn skip_empty(r: &mut BitReader) -> Result<u64, Refusal>
     ensures { Gives result r.old r.new (empty_at r.old) }

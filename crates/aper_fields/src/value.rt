@@ -14,16 +14,18 @@ use crate::writer::BitWriter;
 use echo_base::{Bad, OutOfMemory, Refusal};
 use std::alloc::Global;
 
-/// A value that takes no memory.
+/// A value of a type of ASN.1 (ITU-T X.680) that takes no memory.
 pub trait PlainValue: Copy {
-    /// What it is made of.
+    /// Its type. From it follow which runs of bits spell the value, how it is read and the run with which it is written.
     ghost asn1: { AsnType Self };
 
-    /// Reads the pieces.
+    /// Reads the value piece by piece, as its type gives it from left to right: what a type provides for `read`. It is
+    /// refused for the first piece that is wrong, and then the reader has not moved.
     fn read_pieces(r: &mut BitReader) -> Result<Self, Refusal>
         ensures { Gives result r.old r.new (reading asn1 r.old) };
 
-    /// Writes the pieces, without iE-Extensions. Where memory runs out, what was written before still stands in front.
+    /// Writes the value piece by piece, without iE-Extensions: what a type provides for `write`. Where memory runs out, what
+    /// was written before still stands in front.
     fn write_pieces(self, w: &mut BitWriter) -> Result<(), OutOfMemory>
         requires { CanBeWritten asn1 self }
         ensures ok { OnOk result (w.new ≡ then_written w.old (run asn1 self)) }
@@ -47,12 +49,13 @@ pub trait PlainValue: Copy {
     }
 }
 
-/// A value that may take memory where it is read; each that takes none is one too.
+/// A value of a type of ASN.1 (ITU-T X.680) that may take memory where it is read; each that takes none is one too.
 pub trait OwnedValue: Drop {
-    /// What it is made of.
+    /// Its type, as that of a `PlainValue`.
     ghost asn1: { AsnType Self };
 
-    /// Reads the pieces. Where memory runs out, nothing is read.
+    /// Reads the value piece by piece, as its type gives it from left to right: what a type provides for `read`. It is
+    /// refused for the first piece that is wrong. After that, and where memory runs out, the reader has not moved.
     fn read_pieces(alloc: Global, r: &mut BitReader) -> Result<Self, Bad>
         ensures { GivesIn result r.old r.new (reading asn1 r.old) };
 
@@ -60,7 +63,8 @@ pub trait OwnedValue: Drop {
     fn skip(r: &mut BitReader) -> Result<(), Refusal>
         ensures { Gives result r.old r.new (skipping (reading asn1) r.old) };
 
-    /// Writes the pieces, without iE-Extensions. Where memory runs out, what was written before still stands in front.
+    /// Writes the value piece by piece, without iE-Extensions: what a type provides for `write`. Where memory runs out, what
+    /// was written before still stands in front.
     fn write_pieces(&self, w: &mut BitWriter) -> Result<(), OutOfMemory>
         requires { CanBeWritten asn1 self.now }
         ensures ok { OnOk result (w.new ≡ then_written w.old (run asn1 self.now)) }

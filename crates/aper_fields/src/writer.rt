@@ -117,7 +117,7 @@ fn add_octet(bytes: &mut Vec<u8>, value: u64, count: u32) -> Result<(), AllocErr
     Ok(())
 }
 
-/// Writes two more octets.
+/// Puts two octets of a number below 2^16 at the end, the higher one first.
 fn add_two(bytes: &mut Vec<u8>, value: u64) -> Result<(), AllocError>
     requires { value < 2 ^ 16 }
     ensures ok { OnOk result (FreeBehind (bits_of bytes.old.items ++ bits 16 value) bytes.new.items 0) }
@@ -226,7 +226,7 @@ fn append_bits(bytes: &mut Vec<u8>, free: u32, value: u64, count: u32) -> Result
 }
 
 impl BitWriter {
-    /// A writer of no bits yet.
+    /// A writer to which nothing was written yet. It takes no memory.
     pub fn new(alloc: Global) -> BitWriter
         ensures { result ≡ [] }
     {
@@ -252,7 +252,7 @@ impl BitWriter {
         self.bytes
     }
 
-    /// Writes a number in so many bits.
+    /// Puts a number into `count` bits, the highest first. Where memory runs out, nothing is written.
     pub(crate) fn write_bits(&mut self, value: u64, count: u32) -> Result<(), AllocError>
         requires fits { value < 2 ^ count }
         requires small { count ≤ 64 }

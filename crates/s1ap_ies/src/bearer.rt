@@ -13,7 +13,8 @@ use aper_fields::{
 };
 use echo_base::{OutOfMemory, Reason, Refusal};
 
-/// Reads an E-RAB ID (TS 36.413, 9.2.1.2).
+/// Reads an E-RAB ID (TS 36.413, 9.2.1.2): a bit 0, since no extension is taken, and four bits. It is refused as OutOfRange
+/// where that bit is 1, and as Truncated.
 #[tactic(auto, unfolding(aper_fields::specs::Asn1::reading, aper_fields::specs::Asn1::flags_at, aper_fields::specs::Asn1::fields_at, crate::specs::Values::erab_id))]
 pub fn read_erab_id(r: &mut BitReader) -> Result<u64, Refusal>
     ensures read { Gives result r.old r.new (reading erab_id r.old) }
@@ -26,7 +27,8 @@ pub fn read_erab_id(r: &mut BitReader) -> Result<u64, Refusal>
     Ok(id)
 }
 
-/// Writes an E-RAB ID.
+/// Writes an E-RAB ID (TS 36.413, 9.2.1.2): a bit 0 and four bits. Where memory runs out, what was written before still
+/// stands in front.
 #[tactic(auto, unfolding(aper_fields::specs::Asn1::run, crate::specs::Values::erab_id))]
 pub fn write_erab_id(w: &mut BitWriter, id: u8) -> Result<(), OutOfMemory>
     requires { id < 16 }

@@ -107,7 +107,8 @@ fn write_nas(w: &mut BitWriter, nas: &Option<Octets>) -> Result<(), OutOfMemory>
     }
 }
 
-/// Writes the fields behind the E-RAB ID.
+/// Writes what stands behind the E-RAB ID (TS 36.413, 9.1.4.1): QoS parameters, transport layer address, TEID and, where
+/// there is one, the NAS-PDU. Where memory runs out, what was written before still stands in front.
 #[tactic(auto, unfolding(crate::specs::Values::erab_to_setup, crate::specs::Values::qos, crate::specs::Values::arp))]
 fn write_bearer(w: &mut BitWriter, erab: &ErabToSetup) -> Result<(), OutOfMemory>
     requires { CanBeWritten erab_to_setup erab.now }

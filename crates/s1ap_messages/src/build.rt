@@ -11,7 +11,7 @@ use crate::value::IeValue;
 use echo_base::OutOfMemory;
 use std::alloc::Global;
 
-/// Finds a value that is there in its slot.
+/// Binds what stands in a slot by the name, where the slot holds that variant; by the function's condition it does.
 macro_rules! find {
     ($slots:ident, $place:literal, $variant:ident($name:ident)) => {
         let Some(IeValue::$variant($name)) = $slots.at($place) else {

@@ -104,7 +104,8 @@ pub fn read_header(r: &mut BitReader) -> Result<MessageKind, Refusal>
     Ok(kind)
 }
 
-/// Writes the header of a message.
+/// Writes the header of a message (TS 36.413, 9.3.2): the CHOICE of the outcome, the procedure code in an octet, and the two
+/// bits of the criticality. What stands behind it is an open type. It fails for want of memory alone.
 #[tactic(auto, unfolding(crate::specs::Run::header_run))]
 pub fn write_header(w: &mut BitWriter, header: Header) -> Result<(), OutOfMemory>
     ensures { OnOk result (w.new ≡ then_written w.old (header_run header)) }

@@ -20,18 +20,19 @@ use std::marker::{Model, PhantomData};
 
 /// An E-RAB that stands in a list (TS 36.413, 9.1.4.1 and 9.1.4.3): a value, in a trait of which these two alone are.
 pub trait Erab: Drop {
-    /// What it is made of.
+    /// Its type in ASN.1, as that of an `OwnedValue`.
     ghost asn1: { AsnType Self };
 
-    /// Passes over it, and takes no memory.
+    /// Passes over an item's value, as `OwnedValue::skip` does. It takes no memory, and is refused as `read_erab` refuses it.
     fn skip_erab(r: &mut BitReader) -> Result<(), Refusal>
         ensures { Gives result r.old r.new (skipping (reading asn1) r.old) };
 
-    /// Reads it.
+    /// Reads an item's value, as `OwnedValue::read` does: it is refused for its first piece that is wrong. After that, and
+    /// where memory runs out, the reader has not moved.
     fn read_erab(alloc: Global, r: &mut BitReader) -> Result<Self, Bad>
         ensures { GivesIn result r.old r.new (reading asn1 r.old) };
 
-    /// Writes it.
+    /// Writes an item's value, as `OwnedValue::write` does, without iE-Extensions. It fails for want of memory alone.
     fn write_erab(&self, w: &mut BitWriter) -> Result<(), OutOfMemory>
         requires { CanBeWritten asn1 self.now }
         ensures { OnOk result (w.new ≡ then_written w.old (run asn1 self.now)) };
@@ -87,7 +88,7 @@ fn read_one<T: Erab>(alloc: Global, r: &mut BitReader, id: u16) -> Result<T, Bad
     Ok(erab)
 }
 
-/// Reads so many items of a list.
+/// Reads `count` items of a list, each with that id, one behind another.
 #[tactic(auto, unfolding(aper_fields::specs::Many::many_at))]
 fn read_many<T: Erab>(
     alloc: Global,
@@ -135,7 +136,7 @@ fn skip_one<T: Erab>(r: &mut BitReader, id: u16) -> Result<(), Refusal>
     Ok(())
 }
 
-/// Passes over so many items of a list.
+/// Passes over `count` items of a list, each with that id, one behind another.
 #[tactic(auto, unfolding(aper_fields::specs::SequenceReading::skipped_at))]
 fn skip_many<T: Erab>(r: &mut BitReader, id: u16, count: u64) -> Result<(), Refusal>
     ensures { Gives result r.old r.new (skipped_at (contained_item_at id (skipping (reading T.asn1))) count r.old) }
@@ -241,7 +242,7 @@ fn write_one<T: Erab>(
     end_open(w, start)
 }
 
-/// Writes the items of a list.
+/// Writes an item for each value, with that id and criticality, in order.
 #[tactic(auto, unfolding(aper_fields::specs::Asn1::each_run))]
 fn write_items<T: Erab>(
     w: &mut BitWriter,
@@ -277,7 +278,8 @@ fn write_erabs<T: Erab>(
     write_items(w, id, criticality, erabs)
 }
 
-/// Writes an E-RAB to Be Setup List.
+/// Writes the E-RAB to Be Setup List of a request (TS 36.413, 9.1.4.1): how many items there are, 1 to 256, and each behind
+/// the id 52 and the criticality reject. It fails for want of memory alone.
 #[tactic(auto, unfolding(aper_fields::specs::Asn1::run, s1ap_ies::specs::Values::erabs_to_setup), using(s1ap_ies::proofs::Items::setup_items))]
 pub fn write_erabs_to_setup(w: &mut BitWriter, erabs: &[ErabToSetup]) -> Result<(), OutOfMemory>
     requires { CanBeWritten erabs_to_setup erabs.now }
@@ -286,7 +288,8 @@ pub fn write_erabs_to_setup(w: &mut BitWriter, erabs: &[ErabToSetup]) -> Result<
     write_erabs(w, names::ERAB_TO_SETUP_ITEM, Criticality::Reject, erabs)
 }
 
-/// Writes an E-RAB Setup List.
+/// Writes the E-RAB Setup List of a response (TS 36.413, 9.1.4.3): how many items there are, 1 to 256, and each behind the id
+/// 50 and the criticality ignore. It fails for want of memory alone.
 #[tactic(auto, unfolding(aper_fields::specs::Asn1::run, s1ap_ies::specs::Values::erabs_done), using(s1ap_ies::proofs::Items::done_items))]
 pub fn write_erabs_done(w: &mut BitWriter, erabs: &[ErabDone]) -> Result<(), OutOfMemory>
     requires { CanBeWritten erabs_done erabs.now }

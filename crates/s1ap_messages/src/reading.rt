@@ -63,7 +63,8 @@ fn read_ie<'a>(
     Ok(Some((place, value)))
 }
 
-/// Reads so many IEs.
+/// Reads `count` IEs of the table `rows`, in any order, each into the slot of its row; an IE of no row is passed over. They
+/// are refused for the first that is wrong, as `read_ie` refuses it.
 #[tactic(auto, unfolding(crate::specs::Reading::fields_at))]
 fn read_fields<'a>(r: &mut BitReader<'a>, rows: &[IeRow], count: u64) -> Result<Slots<'a>, Refusal>
     requires { length rows.now ≤ 6 }

@@ -119,7 +119,8 @@ fn find_later_value<'a>(r: &mut BitReader<'a>, id: u16) -> Result<FoundValue<'a>
     }
 }
 
-/// Finds the value of the IE with that id.
+/// Finds the value of the IE with that id, by the IE's type (TS 36.413, 9.2). It is refused for the first piece that is
+/// wrong, and then the reader has not moved.
 #[tactic(auto, unfolding(aper_fields::specs::Asn1::reading, crate::specs::Values::value_type))]
 pub fn find_value<'a>(r: &mut BitReader<'a>, id: u16) -> Result<FoundValue<'a>, Refusal>
     ensures { Gives result r.old r.new (reading (value_type id) r.old) }

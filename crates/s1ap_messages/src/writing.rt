@@ -25,7 +25,7 @@ use s1ap_ies::names::{MOST_ENB_UE_S1AP_ID, MOST_MME_UE_S1AP_ID, RRC_CAUSE_ROOTS}
 use s1ap_ies::{PlainValue, begin_item};
 use std::alloc::Global;
 
-/// Writes the value of an IE.
+/// Writes the value of an IE, which is what its open type contains (TS 36.413, 9.2). It fails for want of memory alone.
 #[tactic(auto, unfolding(crate::specs::Run::value_run, aper_fields::specs::Asn1::run))]
 fn write_value(w: &mut BitWriter, value: &LentValue) -> Result<(), OutOfMemory>
     requires { IsRightValue (seen value.now) }
@@ -64,7 +64,7 @@ fn write_ie(w: &mut BitWriter, row: &IeRow, value: &Option<LentValue>) -> Result
     end_open(w, start)
 }
 
-/// Writes the IEs of the rows of a table.
+/// Writes an IE for each row whose value is there, in the order of the rows. It fails for want of memory alone.
 #[tactic(auto, unfolding(crate::specs::Run::fields_run))]
 fn write_fields(
     w: &mut BitWriter,
@@ -112,7 +112,8 @@ fn write_ies(
     write_fields(w, rows(&table), values)
 }
 
-/// Writes the IEs of a message.
+/// Writes the SEQUENCE of a message's IEs (TS 36.413, 9.1), which is what the open type behind its header contains. It fails
+/// for want of memory alone.
 fn write_body(w: &mut BitWriter, p: &Pdu) -> Result<(), OutOfMemory>
     requires { AllByRecursion (λ v. IfSome v IsRightField) (values_of p.now) }
     ensures { OnOk result (w.new ≡ then_written w.old (ies_run (kind_of p.now) (values_of p.now))) }

@@ -37,7 +37,7 @@ pub fn begin(alloc: Global, kind: MessageKind, room: usize) -> Result<Vec<u8>, A
     begin_with(alloc, kind, rows_in(kind), room)
 }
 
-/// Puts a length.
+/// Puts a length (ITU-T X.691, 11.9): an octet where it is below 128, else two that begin with the bits 10.
 #[inline(always)]
 #[tactic(auto, unfolding(crate::specs::Usual::count_octets))]
 pub fn put_count(out: &mut Vec<u8>, n: usize) -> Result<(), AllocError>
@@ -71,7 +71,7 @@ pub fn counted_len(octets: &[u8]) -> usize
     count_len(octets.len()) + octets.len()
 }
 
-/// Puts octets behind their length.
+/// Puts an OCTET STRING of free size (ITU-T X.691, 17): its length, and its octets.
 #[inline(always)]
 #[tactic(auto, unfolding(crate::specs::Usual::counted))]
 pub fn put_counted(out: &mut Vec<u8>, octets: &[u8]) -> Result<(), AllocError>

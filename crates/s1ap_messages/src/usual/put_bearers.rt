@@ -40,7 +40,7 @@ pub fn nas_len(nas: &Option<Octets>) -> usize
     }
 }
 
-/// Puts the NAS-PDU of an E-RAB.
+/// Puts the NAS-PDU of an E-RAB that is to be set up, its length and its octets, where it has one; else nothing.
 #[inline(always)]
 #[tactic(auto, unfolding(crate::specs::Usual::nas_octets))]
 fn put_nas(out: &mut Vec<u8>, nas: &Option<Octets>) -> Result<(), AllocError>

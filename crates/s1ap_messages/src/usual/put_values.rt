@@ -14,7 +14,7 @@ use aper_fields::EnumValue;
 use s1ap_ies::{BitRates, Cause, Cgi, Criticality, SecCaps, Stmsi, Tai, UeIds, names};
 use std::alloc::AllocError;
 
-/// Puts an IE that is an identity, given in 64 bits.
+/// Puts an IE as `put_id` does, of an identity in 64 bits.
 #[inline(always)]
 fn put_wide_id(
     out: &mut Vec<u8>,
@@ -31,7 +31,8 @@ fn put_wide_id(
     Ok(())
 }
 
-/// Puts an IE that is an identity.
+/// Puts the IE of an MME or an eNB UE S1AP ID (TS 36.413, 9.2.3.3 and 9.2.3.4): the count of its octets less one in the two
+/// highest bits of an octet, and the number in as few octets as it needs.
 #[inline(always)]
 pub fn put_id(
     out: &mut Vec<u8>,
@@ -45,7 +46,7 @@ pub fn put_id(
     put_wide_id(out, id, criticality, u64::from(n))
 }
 
-/// Puts an IE that is an octet string.
+/// Puts the IE of an OCTET STRING, as a NAS-PDU is (TS 36.413, 9.2.3.5): the string's length, and its octets.
 #[inline(always)]
 pub fn put_text(
     out: &mut Vec<u8>,
@@ -62,7 +63,8 @@ pub fn put_text(
     Ok(())
 }
 
-/// Puts a TAI.
+/// Puts the IE of a TAI (TS 36.413, 9.2.3.16): an octet 00, which says that nothing optional is there, the PLMN identity in
+/// three octets, the tracking area code in two.
 #[inline(always)]
 #[tactic(auto, unfolding(crate::specs::Usual::ie_octets, crate::specs::Usual::counted, crate::specs::Usual::count_octets, crate::specs::Usual::tai_octets))]
 pub fn put_tai(out: &mut Vec<u8>, criticality: Criticality, tai: &Tai) -> Result<(), AllocError>
@@ -83,7 +85,8 @@ pub fn put_tai(out: &mut Vec<u8>, criticality: Criticality, tai: &Tai) -> Result
     ])
 }
 
-/// Puts a CGI.
+/// Puts the IE of an E-UTRAN CGI (TS 36.413, 9.2.1.38), with the criticality ignore: an octet 00, the PLMN identity in three
+/// octets, the cell identity in 28 bits, and four bits 0.
 #[inline(always)]
 #[tactic(auto, unfolding(crate::specs::Usual::ie_octets, crate::specs::Usual::counted, crate::specs::Usual::count_octets, crate::specs::Usual::cgi_octets))]
 pub fn put_cgi(out: &mut Vec<u8>, cgi: &Cgi) -> Result<(), AllocError>
@@ -106,7 +109,8 @@ pub fn put_cgi(out: &mut Vec<u8>, cgi: &Cgi) -> Result<(), AllocError>
     ])
 }
 
-/// Puts an RRC establishment cause.
+/// Puts the IE of an RRC Establishment Cause (TS 36.413, 9.2.1.3a), with the criticality ignore, in an octet: a bit 0 and the
+/// root's index in three bits, and bits 0; or the bits 10 and an index beyond the roots in six.
 #[inline(always)]
 #[tactic(auto, unfolding(crate::specs::Usual::ie_octets, crate::specs::Usual::counted, crate::specs::Usual::count_octets, crate::specs::Usual::rrc_octets))]
 pub fn put_rrc(out: &mut Vec<u8>, rrc: &EnumValue) -> Result<(), AllocError>
@@ -135,7 +139,8 @@ pub fn four(n: u32) -> [u8; 4]
     ]
 }
 
-/// Puts an S-TMSI.
+/// Puts the IE of an S-TMSI (TS 36.413, 9.2.3.6), with the criticality reject: two bits 0, the MME code in eight bits, bits 0
+/// up to the next octet, and the M-TMSI in four octets.
 #[inline(always)]
 #[tactic(auto, unfolding(crate::specs::Usual::ie_octets, crate::specs::Usual::counted, crate::specs::Usual::count_octets, crate::specs::Usual::stmsi_octets, crate::specs::Usual::four_octets))]
 fn put_stmsi(out: &mut Vec<u8>, stmsi: &Stmsi) -> Result<(), AllocError>
@@ -159,7 +164,8 @@ pub fn put_last_stmsi(out: &mut Vec<u8>, stmsi: &Option<Stmsi>) -> Result<(), Al
     }
 }
 
-/// Puts bit rates.
+/// Puts the IE of UE Aggregate Maximum Bit Rates (TS 36.413, 9.2.1.20), with the criticality reject: downlink, then uplink,
+/// each as the count of its octets less one and the bit/s in as few octets as they need.
 #[inline(always)]
 pub fn put_rates(out: &mut Vec<u8>, rates: &BitRates) -> Result<(), AllocError>
     requires { IsBitRates rates.now }
@@ -176,7 +182,8 @@ pub fn put_rates(out: &mut Vec<u8>, rates: &BitRates) -> Result<(), AllocError>
     Ok(())
 }
 
-/// Puts security capabilities.
+/// Puts the IE of UE Security Capabilities (TS 36.413, 9.2.1.40), with the criticality reject: two bits 0, then twice a bit 0
+/// and 16 bits of algorithms, encryption before integrity protection, and four bits 0.
 #[inline(always)]
 #[tactic(auto, unfolding(crate::specs::Usual::ie_octets, crate::specs::Usual::counted, crate::specs::Usual::count_octets, crate::specs::Usual::caps_octets))]
 pub fn put_caps(out: &mut Vec<u8>, caps: &SecCaps) -> Result<(), AllocError>
@@ -195,7 +202,7 @@ pub fn put_caps(out: &mut Vec<u8>, caps: &SecCaps) -> Result<(), AllocError>
     ])
 }
 
-/// Puts a security key.
+/// Puts the IE of a Security Key (TS 36.413, 9.2.1.41), with the criticality reject: its 32 octets.
 #[inline(always)]
 #[tactic(auto, unfolding(crate::specs::Usual::ie_octets, crate::specs::Usual::counted))]
 pub fn put_key(out: &mut Vec<u8>, key: &[u8]) -> Result<(), AllocError>
@@ -206,7 +213,9 @@ pub fn put_key(out: &mut Vec<u8>, key: &[u8]) -> Result<(), AllocError>
     out.extend_from_slice(key)
 }
 
-/// Puts a cause.
+/// Puts the IE of a Cause (TS 36.413, 9.2.1.3), with the criticality ignore, in one octet or two: a bit 0 and the group in
+/// three bits, then a bit 0 and the root's index in as many bits as the group's roots need, or the bits 10 and an index
+/// beyond them in six; bits 0 at the end.
 #[tactic(auto, unfolding(crate::specs::Usual::ie_octets, crate::specs::Usual::counted, crate::specs::Usual::count_octets, crate::specs::Usual::cause_octets, device_types::specs::Cause::cause_roots))]
 pub fn put_cause(out: &mut Vec<u8>, cause: &Cause) -> Result<(), AllocError>
     requires { IsCause cause.now }
@@ -237,7 +246,8 @@ pub fn put_cause(out: &mut Vec<u8>, cause: &Cause) -> Result<(), AllocError>
     out.extend_from_slice(&[0, id, ignore, 1, 16 * cause.group + i])
 }
 
-/// Puts both identities of a device.
+/// Puts the IE of UE S1AP IDs (TS 36.413, 9.1.4.6), with the criticality reject, of both identities: each as the count of its
+/// octets less one and the number in as few octets as it needs, behind the bits 00 of the choice and 00 of the SEQUENCE.
 fn put_pair(out: &mut Vec<u8>, mme: u64, enb: u64) -> Result<(), AllocError>
     requires mme { mme < 2 ^ 32 }
     requires enb { enb < 2 ^ 32 }
@@ -254,7 +264,8 @@ fn put_pair(out: &mut Vec<u8>, mme: u64, enb: u64) -> Result<(), AllocError>
     Ok(())
 }
 
-/// Puts the MME UE S1AP ID of a device alone.
+/// Puts the IE of UE S1AP IDs (TS 36.413, 9.1.4.6), with the criticality reject, of the MME UE S1AP ID alone: as the count of
+/// its octets less one and the number in as few octets as it needs, behind the bits 01 of the choice.
 fn put_single(out: &mut Vec<u8>, mme: u64) -> Result<(), AllocError>
     requires { mme < 2 ^ 32 }
     ensures { OnOk result (out.new.items ≡ out.old.items ++ ie_octets named.ue_ids named.reject (ids_octets (Mme mme))) }
@@ -264,7 +275,8 @@ fn put_single(out: &mut Vec<u8>, mme: u64) -> Result<(), AllocError>
     Ok(())
 }
 
-/// Puts UE S1AP IDs.
+/// Puts the IE of UE S1AP IDs (TS 36.413, 9.1.4.6), with the criticality reject: both identities of a device, or the MME's
+/// alone. It fails for want of memory alone.
 pub fn put_ids(out: &mut Vec<u8>, ids: &UeIds) -> Result<(), AllocError>
     ensures { OnOk result (out.new.items ≡ out.old.items ++ ie_octets named.ue_ids named.reject (ids_octets ids.now)) }
 {
