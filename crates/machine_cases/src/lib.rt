@@ -5,3 +5,5 @@
 
 #[cfg(test)]
 mod device_machine_calls;
+#[cfg(test)]
+mod session_form_calls;

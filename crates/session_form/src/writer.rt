@@ -1,20 +1,139 @@
 //! Writing the fields of a session behind one another.
-ghost use Rattle.std.specs.Prelude.{◌≡◌, ◌≤◌, ◌<◌, ◌++◌, ◌∷◌, [], OnOk, length};
+ghost use Rattle.std.specs.Prelude.{◌≡◌, ◌≤◌, ◌<◌, ◌+◌, ◌++◌, [], length};
 ghost use Rattle.session_form.specs.Fields.{number_run, written_onto};
 ghost use Rattle.session_form.specs.Form.{stage_number, bearer_number, stage_field, bearer_field, truth_field, link_field};
 
 use device_types::{Bearer, Link, Stage};
-use echo_base::OutOfMemory;
+use std::marker::Model;
 
-/// Puts the lowest octets of a number, so many, the highest first.
-#[inline(always)]
-#[tactic(auto, unfolding(crate::specs::Fields::number_run), using(crate::proofs::Octets::lowest))]
-pub fn put_number(out: &mut Vec<u8>, count: usize, number: u64) -> Result<(), OutOfMemory>
-    requires { count ≤ 8 }
-    ensures { OnOk result (out.new.items ≡ out.old.items ++ number_run count number) }
-{
-    let octets = number.to_be_bytes();
-    out.extend_from_slice(&octets[8 - count..])
+/// The octets of a form whose RES has the most octets.
+const MOST_OCTETS: usize = 112;
+
+/// The octets of a form so far, with room for the longest one.
+#[derive(Drop)]
+pub struct FormWriter {
+    octets: [u8; MOST_OCTETS],
+    used: usize,
+}
+
+impl Model for FormWriter {
+    ghost use Rattle.std.specs.Prelude.{ℕ, ◌≤◌, List, take};
+
+    ghost Value = { List ℕ };
+
+    ghost view = { λ w. take w.used w.octets };
+
+    ghost invariant = { λ w. w.used ≤ 112 };
+}
+
+impl FormWriter {
+    /// No octets.
+    #[inline(always)]
+    pub fn new() -> FormWriter
+        ensures { result ≡ [] }
+    {
+        FormWriter {
+            octets: [0; MOST_OCTETS],
+            used: 0,
+        }
+    }
+
+    /// The octets so far.
+    #[inline(always)]
+    pub fn octets(&self) -> &[u8]
+        ensures { result.now ≡ self.now }
+    {
+        &self.octets[..self.used]
+    }
+
+    /// Puts octets.
+    #[inline(always)]
+    pub fn put(&mut self, octets: &[u8])
+        requires { length self.old + length octets.now ≤ 112 }
+        ensures octets { self.new ≡ self.old ++ octets.now }
+        ensures count { length self.new ≡ length self.old + length octets.now }
+    {
+        let end = self.used + octets.len();
+        self.octets[self.used..end].copy_from_slice(octets);
+        self.used = end;
+    }
+
+    /// Puts the lowest octets of a number, so many, the highest first.
+    #[inline(always)]
+    pub fn number(&mut self, count: usize, number: u64)
+        requires few { count ≤ 8 }
+        requires room { length self.old + count ≤ 112 }
+        ensures octets { self.new ≡ self.old ++ number_run count number }
+        ensures count { length self.new ≡ length self.old + count }
+    {
+        self.put(&number.to_be_bytes()[8 - count..]);
+    }
+
+    /// Puts a stage.
+    #[inline(always)]
+    #[tactic(auto, unfolding(crate::specs::Fields::written_onto))]
+    pub fn stage(&mut self, stage: Stage)
+        requires { length self.old + 1 ≤ 112 }
+        ensures octets { self.new ≡ written_onto stage_field stage self.old }
+        ensures count { length self.new ≡ length self.old + 1 }
+    {
+        self.number(1, stage_number(stage));
+    }
+
+    /// Puts the state of the default bearer.
+    #[inline(always)]
+    #[tactic(auto, unfolding(crate::specs::Fields::written_onto))]
+    pub fn bearer(&mut self, bearer: Bearer)
+        requires { length self.old + 1 ≤ 112 }
+        ensures octets { self.new ≡ written_onto bearer_field bearer self.old }
+        ensures count { length self.new ≡ length self.old + 1 }
+    {
+        self.number(1, bearer_number(bearer));
+    }
+
+    /// Puts a truth value.
+    #[inline(always)]
+    #[tactic(auto, unfolding(crate::specs::Fields::written_onto))]
+    pub fn truth(&mut self, truth: bool)
+        requires { length self.old + 1 ≤ 112 }
+        ensures octets { self.new ≡ written_onto truth_field truth self.old }
+        ensures count { length self.new ≡ length self.old + 1 }
+    {
+        self.number(1, if truth { 1 } else { 0 });
+    }
+
+    /// Puts a link: whether it is on, its station and its eNB id, which are zeros where it is off.
+    #[inline(always)]
+    #[tactic(auto, unfolding(crate::specs::Fields::written_onto))]
+    pub fn link(&mut self, link: Link)
+        requires { length self.old + 7 ≤ 112 }
+        ensures octets { self.new ≡ written_onto link_field link self.old }
+        ensures count { length self.new ≡ length self.old + 7 }
+    {
+        match link {
+            Link::Off => {
+                self.number(1, 0);
+                self.number(2, 0);
+                self.number(4, 0);
+            }
+            Link::On { station, enb } => {
+                self.number(1, 1);
+                self.number(2, station as u64);
+                self.number(4, enb as u64);
+            }
+        }
+    }
+
+    /// Puts octets behind an octet that says how many they are.
+    #[inline(always)]
+    pub fn counted(&mut self, octets: &[u8])
+        requires { length self.old + (1 + length octets.now) ≤ 112 }
+        ensures octets { self.new ≡ (self.old ++ number_run 1 (length octets.now)) ++ octets.now }
+        ensures count { length self.new ≡ length self.old + (1 + length octets.now) }
+    {
+        self.number(1, octets.len() as u64);
+        self.put(octets);
+    }
 }
 
 /// The number of a stage.
@@ -50,60 +169,4 @@ fn bearer_number(bearer: Bearer) -> u64
         Bearer::Made => 1,
         Bearer::Active => 2,
     }
-}
-
-/// Puts a stage.
-#[inline(always)]
-#[tactic(auto, unfolding(crate::specs::Fields::written_onto))]
-pub fn put_stage(out: &mut Vec<u8>, stage: Stage) -> Result<(), OutOfMemory>
-    ensures { OnOk result (out.new.items ≡ written_onto stage_field stage out.old.items) }
-{
-    put_number(out, 1, stage_number(stage))
-}
-
-/// Puts the state of the default bearer.
-#[inline(always)]
-#[tactic(auto, unfolding(crate::specs::Fields::written_onto))]
-pub fn put_bearer(out: &mut Vec<u8>, bearer: Bearer) -> Result<(), OutOfMemory>
-    ensures { OnOk result (out.new.items ≡ written_onto bearer_field bearer out.old.items) }
-{
-    put_number(out, 1, bearer_number(bearer))
-}
-
-/// Puts a truth value.
-#[inline(always)]
-#[tactic(auto, unfolding(crate::specs::Fields::written_onto))]
-pub fn put_truth(out: &mut Vec<u8>, truth: bool) -> Result<(), OutOfMemory>
-    ensures { OnOk result (out.new.items ≡ written_onto truth_field truth out.old.items) }
-{
-    put_number(out, 1, if truth { 1 } else { 0 })
-}
-
-/// Puts a link: whether it is on, its station and its eNB id, which are zeros where it is off.
-#[inline(always)]
-#[tactic(auto, unfolding(crate::specs::Fields::written_onto))]
-pub fn put_link(out: &mut Vec<u8>, link: Link) -> Result<(), OutOfMemory>
-    ensures { OnOk result (out.new.items ≡ written_onto link_field link out.old.items) }
-{
-    match link {
-        Link::Off => {
-            put_number(out, 1, 0)?;
-            put_number(out, 2, 0)?;
-            put_number(out, 4, 0)
-        }
-        Link::On { station, enb } => {
-            put_number(out, 1, 1)?;
-            put_number(out, 2, station as u64)?;
-            put_number(out, 4, enb as u64)
-        }
-    }
-}
-
-/// Puts octets behind an octet that says how many they are.
-#[inline(always)]
-pub fn put_counted(out: &mut Vec<u8>, octets: &[u8]) -> Result<(), OutOfMemory>
-    ensures { OnOk result (out.new.items ≡ (out.old.items ++ number_run 1 (length octets.now)) ++ octets.now) }
-{
-    put_number(out, 1, octets.len() as u64)?;
-    out.extend_from_slice(octets)
 }

@@ -1,0 +1,193 @@
+//! Sessions as octets, worked out by hand from the table of fields in `docs/FORMATS.md`.
+
+use device_types::Session;
+use echo_base::{Bad, Reason};
+use session_form::{read_session, write_session};
+use std::alloc::{AllocError, Global};
+use std::test::Fail;
+
+/// A session with everything set, and no two like fields the same: its fields in order, with spaces between them.
+const SET: &str = "01 0b 01 0102 00030405 02f839 0607 08 09 0a 02 b1b2 \
+c0c1c2c3c4c5c6c7c8c9cacbcccdcecfd0d1d2d3d4d5d6d7d8d9dadbdcdddedf \
+0000000102030405 0000000203040506 c0a80001 0b0c0d0e 0a2d0001 c0a80002 0f101112 02 01 00 03 01 15 16171819";
+
+/// The same as the program has it.
+const SET_FIELDS: &str = "Session { stage: Connected, link: On { station: 258, enb: 197637 }, \
+plmn: 194617, tac: 1543, eea: 8, eia: 9, pti: 10, res: ListOf { items: [177, 178] }, key: Key { octets: ListOf { items: \
+[192, 193, 194, 195, 196, 197, 198, 199, 200, 201, 202, 203, 204, 205, 206, 207, \
+208, 209, 210, 211, 212, 213, 214, 215, 216, 217, 218, 219, 220, 221, 222, 223] } }, dl: 4328719365, ul: 8640529670, \
+sgw: 3232235521, teid: 185339150, ip: 170721281, side_addr: 3232235522, side_teid: 252711186, bearer: Active, \
+registered: true, off: false, cause: CauseCode { group: 3, extended: true, index: 21 }, radio: 370612249 }";
+
+/// Changes of that session: at a place so many octets are taken away and others put there. `kept` says that what comes of it is read,
+/// and written as it was; a number is the place where it is BadSession.
+const CHANGES: &str = "\
+form 0 1 01 kept\n\
+form 0 1 00 0\n\
+form 0 1 02 0\n\
+stage 1 1 0f kept\n\
+stage 1 1 10 1\n\
+link 2 1 02 2\n\
+link 2 1 00 3\n\
+off 2 7 00000000000000 kept\n\
+off 2 7 00000100000000 3\n\
+off 2 7 00000000000001 5\n\
+station 3 2 0001 kept\n\
+station 3 2 ffff kept\n\
+station 3 2 0000 3\n\
+enb 5 4 00ffffff kept\n\
+enb 5 4 01000000 5\n\
+plmn 9 3 ffffff kept\n\
+tac 12 2 ffff kept\n\
+eea 14 1 ff kept\n\
+eia 15 1 ff kept\n\
+pti 16 1 ff kept\n\
+res 17 3 00 kept\n\
+res 17 3 10000102030405060708090a0b0c0d0e0f kept\n\
+res 17 3 11000102030405060708090a0b0c0d0e0f10 17\n\
+key 20 32 0000000000000000000000000000000000000000000000000000000000000000 kept\n\
+key 20 32 ffffffffffffffffffffffffffffffffffffffffffffffffffffffffffffffff kept\n\
+dl 52 8 00000002540be400 kept\n\
+dl 52 8 00000002540be401 52\n\
+ul 60 8 00000002540be400 kept\n\
+ul 60 8 00000002540be401 60\n\
+sgw 68 4 ffffffff kept\n\
+teid 72 4 ffffffff kept\n\
+ip 76 4 ffffffff kept\n\
+side_addr 80 4 ffffffff kept\n\
+side_teid 84 4 ffffffff kept\n\
+bearer 88 1 00 kept\n\
+bearer 88 1 03 88\n\
+registered 89 1 00 kept\n\
+registered 89 1 02 89\n\
+off 90 1 01 kept\n\
+off 90 1 02 90\n\
+group 91 1 04 kept\n\
+group 91 1 05 91\n\
+extended 92 1 00 kept\n\
+extended 92 1 02 92\n\
+index 93 1 3f kept\n\
+index 93 1 40 93\n\
+radio 94 4 ffffffff kept\n\
+end 98 0 00 98\n\
+";
+
+/// The first so many octets of that session, and what comes of them, where it is another thing than of one octet less: each field
+/// that is not whole is BadSession at its first octet.
+const CUTS: &str = "0 0,1 1,2 2,3 3,5 5,9 9,12 12,14 14,15 15,16 16,17 17,18 18,20 20,52 52,60 60,68 68,72 72,76 76,80 80,84 84,88 88,\
+89 89,90 90,91 91,92 92,93 93,94 94,98 kept,";
+
+/// Writes what comes of the octets: `kept`, or the place where they are BadSession.
+fn tell(alloc: Global, text: &mut String, octets: &[u8]) -> Result<(), AllocError> {
+    match read_session(alloc, octets) {
+        Ok(session) => {
+            let written = write_session(alloc, &session)?;
+            text.push_str(if written.octets() == octets { "kept" } else { "other" })
+        }
+        Err(Bad::Refused(refusal)) if refusal.reason == Reason::BadSession => {
+            let place = refusal.place;
+            write!(text, "{place}")
+        }
+        Err(Bad::Refused(refusal)) => write!(text, "{refusal:?}"),
+        Err(Bad::OutOfMemory) => Err(AllocError),
+    }
+}
+
+/// The octets with so many at a place taken away, and others put there.
+fn changed(
+    alloc: Global,
+    octets: &[u8],
+    place: usize,
+    count: usize,
+    others: &[u8],
+) -> Result<Vec<u8>, Fail> {
+    let (front, behind) = octets.split_at_checked(place).ok_or("no such place")?;
+    let (_, rest) = behind.split_at_checked(count).ok_or("too many")?;
+    let mut new = Vec::from_slice(alloc, front)?;
+    new.extend_from_slice(others)?;
+    new.extend_from_slice(rest)?;
+    Ok(new)
+}
+
+/// The octets that are written in hexadecimal digits, with spaces between them.
+fn octets_of(alloc: Global, text: &str) -> Result<Vec<u8>, Fail> {
+    let mut octets = Vec::new(alloc);
+    for digits in text.split(' ') {
+        octets.extend_from_slice(&hex::decode(alloc, digits)?)?;
+    }
+    Ok(octets)
+}
+
+/// A line of the table of changes, with what comes of it.
+fn tell_change(alloc: Global, text: &mut String, set: &[u8], line: &str) -> Result<(), Fail> {
+    let (front, _) = line.rsplit_once(' ').ok_or("no answer")?;
+    let mut words = front.split(' ').skip(1);
+    let place = words.next().ok_or("no place")?.parse::<usize>()?;
+    let count = words.next().ok_or("no count")?.parse::<usize>()?;
+    let others = hex::decode(alloc, words.next().ok_or("no octets")?)?;
+    write!(text, "{front} ")?;
+    tell(alloc, text, &changed(alloc, set, place, count, &others)?)?;
+    text.push('\n')?;
+    Ok(())
+}
+
+/// What comes of the first octets, as the table of cuts has it.
+fn tell_cuts(alloc: Global, text: &mut String, octets: &[u8]) -> Result<(), Fail> {
+    let mut before = String::new(alloc);
+    for n in 0..octets.len() + 1 {
+        let mut now = String::new(alloc);
+        tell(alloc, &mut now, &octets[..n])?;
+        if now != before {
+            write!(text, "{n} {now},")?;
+        }
+        before = now;
+    }
+    Ok(())
+}
+
+#[test]
+fn each_field_has_its_range_and_place(rt: HostRuntime) -> Result<(), Fail> {
+    let alloc = rt.alloc();
+    let set = octets_of(alloc, SET)?;
+    let mut text = String::new(alloc);
+    for line in CHANGES.lines() {
+        tell_change(alloc, &mut text, &set, line)?;
+    }
+    tell_cuts(alloc, &mut text, &set)?;
+    let wanted = format!(in alloc; "{CHANGES}{CUTS}")?;
+    assert_eq!(rt; text.as_str(), wanted.as_str());
+    Ok(())
+}
+
+#[test]
+fn session_with_everything_set_is_read(rt: HostRuntime) -> Result<(), Fail> {
+    let alloc = rt.alloc();
+    let session = read_session(alloc, &octets_of(alloc, SET)?).map_err(|_| "refused")?;
+    let text = format!(in alloc; "{session:?}")?;
+    assert_eq!(rt; text.as_str(), SET_FIELDS);
+    Ok(())
+}
+
+/// The opening session is `01` and 95 octets 00. With the stage `10` it is wrong at 1; 95 octets of it are wrong at 92, where the
+/// radio capability's count begins; with an octet more it is wrong at 96.
+#[test]
+fn opening_session_is_one_and_zeros(rt: HostRuntime) -> Result<(), Fail> {
+    let alloc = rt.alloc();
+    let mut octets = Vec::new(alloc);
+    octets.push(1)?;
+    octets.extend_from_slice(&[0; 95])?;
+    let read = read_session(alloc, &octets).map_err(|_| "refused")?;
+    let opening = Session::opening(alloc);
+    let mut text = format!(in alloc; "{read:?}\n")?;
+    let mut wanted = format!(in alloc; "{opening:?}\n")?;
+    tell(alloc, &mut text, &octets)?;
+    text.push(' ')?;
+    tell(alloc, &mut text, &changed(alloc, &octets, 1, 1, &[16])?)?;
+    text.push(' ')?;
+    tell(alloc, &mut text, &octets[..95])?;
+    text.push(' ')?;
+    tell(alloc, &mut text, &changed(alloc, &octets, 96, 0, &[0])?)?;
+    wanted.push_str("kept 1 92 96")?;
+    assert_eq!(rt; text.as_str(), wanted.as_str());
+    Ok(())
+}
