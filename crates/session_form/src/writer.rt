@@ -7,7 +7,7 @@ use device_types::{Bearer, Link, Stage};
 use std::marker::Model;
 
 /// The octets of a form whose RES has the most octets.
-const MOST_OCTETS: usize = 112;
+pub const MOST_OCTETS: usize = 112;
 
 /// The octets of a form so far, with room for the longest one.
 #[derive(Drop)]
@@ -18,12 +18,13 @@ pub struct FormWriter {
 
 impl Model for FormWriter {
     ghost use Rattle.std.specs.Prelude.{ℕ, ◌≤◌, List, take};
+    ghost use Rattle.session_form.specs.declared.writer.TheConstants.{MOST_OCTETS};
 
     ghost Value = { List ℕ };
 
     ghost view = { λ w. take w.used w.octets };
 
-    ghost invariant = { λ w. w.used ≤ 112 };
+    ghost invariant = { λ w. w.used ≤ MOST_OCTETS };
 }
 
 impl FormWriter {
@@ -49,7 +50,7 @@ impl FormWriter {
     /// Puts octets.
     #[inline(always)]
     pub fn put(&mut self, octets: &[u8])
-        requires { length self.old + length octets.now ≤ 112 }
+        requires { length self.old + length octets.now ≤ MOST_OCTETS }
         ensures octets { self.new ≡ self.old ++ octets.now }
         ensures count { length self.new ≡ length self.old + length octets.now }
     {
@@ -62,7 +63,7 @@ impl FormWriter {
     #[inline(always)]
     pub fn number(&mut self, count: usize, number: u64)
         requires few { count ≤ 8 }
-        requires room { length self.old + count ≤ 112 }
+        requires room { length self.old + count ≤ MOST_OCTETS }
         ensures octets { self.new ≡ self.old ++ number_run count number }
         ensures count { length self.new ≡ length self.old + count }
     {
@@ -73,7 +74,7 @@ impl FormWriter {
     #[inline(always)]
     #[tactic(auto, unfolding(crate::specs::Fields::written_onto))]
     pub fn stage(&mut self, stage: Stage)
-        requires { length self.old + 1 ≤ 112 }
+        requires { length self.old + 1 ≤ MOST_OCTETS }
         ensures octets { self.new ≡ written_onto stage_field stage self.old }
         ensures count { length self.new ≡ length self.old + 1 }
     {
@@ -84,7 +85,7 @@ impl FormWriter {
     #[inline(always)]
     #[tactic(auto, unfolding(crate::specs::Fields::written_onto))]
     pub fn bearer(&mut self, bearer: Bearer)
-        requires { length self.old + 1 ≤ 112 }
+        requires { length self.old + 1 ≤ MOST_OCTETS }
         ensures octets { self.new ≡ written_onto bearer_field bearer self.old }
         ensures count { length self.new ≡ length self.old + 1 }
     {
@@ -95,7 +96,7 @@ impl FormWriter {
     #[inline(always)]
     #[tactic(auto, unfolding(crate::specs::Fields::written_onto))]
     pub fn truth(&mut self, truth: bool)
-        requires { length self.old + 1 ≤ 112 }
+        requires { length self.old + 1 ≤ MOST_OCTETS }
         ensures octets { self.new ≡ written_onto truth_field truth self.old }
         ensures count { length self.new ≡ length self.old + 1 }
     {
@@ -106,7 +107,7 @@ impl FormWriter {
     #[inline(always)]
     #[tactic(auto, unfolding(crate::specs::Fields::written_onto))]
     pub fn link(&mut self, link: Link)
-        requires { length self.old + 7 ≤ 112 }
+        requires { length self.old + 7 ≤ MOST_OCTETS }
         ensures octets { self.new ≡ written_onto link_field link self.old }
         ensures count { length self.new ≡ length self.old + 7 }
     {
@@ -127,7 +128,7 @@ impl FormWriter {
     /// Puts octets behind an octet that says how many they are.
     #[inline(always)]
     pub fn counted(&mut self, octets: &[u8])
-        requires { length self.old + (1 + length octets.now) ≤ 112 }
+        requires { length self.old + (1 + length octets.now) ≤ MOST_OCTETS }
         ensures octets { self.new ≡ (self.old ++ number_run 1 (length octets.now)) ++ octets.now }
         ensures count { length self.new ≡ length self.old + (1 + length octets.now) }
     {

@@ -3,7 +3,7 @@ ghost use Rattle.std.specs.Prelude.{◌≡◌, ◌≤◌, ◌+◌, IfOk, length}
 ghost use Rattle.session_form.specs.Fields.{fields_of, parts_of, written_onto};
 ghost use Rattle.session_form.specs.Form.{front, tunnel, service, session_field, form_of, IsInRange};
 
-use crate::writer::FormWriter;
+use crate::writer::{FormWriter, MOST_OCTETS};
 use device_types::{Octets, Session};
 use echo_base::OutOfMemory;
 use std::alloc::Global;
@@ -12,7 +12,7 @@ use std::alloc::Global;
 #[inline(always)]
 #[tactic(auto, unfolding(crate::specs::Fields::written_onto))]
 fn put_front(w: &mut FormWriter, s: &Session)
-    requires { length w.old + 16 ≤ 112 }
+    requires { length w.old + 16 ≤ MOST_OCTETS }
     ensures octets { w.new ≡ written_onto (fields_of front) (parts_of front s.now) w.old }
     ensures count { length w.new ≡ length w.old + 16 }
 {
@@ -29,7 +29,7 @@ fn put_front(w: &mut FormWriter, s: &Session)
 #[inline(always)]
 #[tactic(auto, unfolding(crate::specs::Fields::written_onto))]
 fn put_tunnel(w: &mut FormWriter, s: &Session)
-    requires { length w.old + 36 ≤ 112 }
+    requires { length w.old + 36 ≤ MOST_OCTETS }
     ensures octets { w.new ≡ written_onto (fields_of tunnel) (parts_of tunnel s.now) w.old }
     ensures count { length w.new ≡ length w.old + 36 }
 {
@@ -46,7 +46,7 @@ fn put_tunnel(w: &mut FormWriter, s: &Session)
 #[inline(always)]
 #[tactic(auto, unfolding(crate::specs::Fields::written_onto))]
 fn put_service(w: &mut FormWriter, s: &Session)
-    requires { length w.old + 10 ≤ 112 }
+    requires { length w.old + 10 ≤ MOST_OCTETS }
     ensures octets { w.new ≡ written_onto (fields_of service) (parts_of service s.now) w.old }
 {
     w.bearer(s.bearer);
