@@ -19,8 +19,8 @@ plmn: 194617, tac: 1543, eea: 8, eia: 9, pti: 10, res: ListOf { items: [177, 178
 sgw: 3232235521, teid: 185339150, ip: 170721281, side_addr: 3232235522, side_teid: 252711186, bearer: Active, \
 registered: true, off: false, cause: CauseCode { group: 3, extended: true, index: 21 }, radio: 370612249 }";
 
-/// Changes of that session: at a place so many octets are taken away and others put there. `kept` says that what comes of it is read,
-/// and written as it was; a number is the place where it is BadSession.
+/// Changes of that session: at a place so many octets are taken away and others put there. `kept` says that what comes of it is
+/// read, and written as it was; a number is the place where it is BadSession.
 const CHANGES: &str = "\
 form 0 1 01 kept\n\
 form 0 1 00 0\n\
@@ -74,8 +74,8 @@ end 98 0 00 98\n\
 
 /// The first so many octets of that session, and what comes of them, where it is another thing than of one octet less: each field
 /// that is not whole is BadSession at its first octet.
-const CUTS: &str = "0 0,1 1,2 2,3 3,5 5,9 9,12 12,14 14,15 15,16 16,17 17,18 18,20 20,52 52,60 60,68 68,72 72,76 76,80 80,84 84,88 88,\
-89 89,90 90,91 91,92 92,93 93,94 94,98 kept,";
+const CUTS: &str = "0 0,1 1,2 2,3 3,5 5,9 9,12 12,14 14,15 15,16 16,17 17,18 18,20 20,52 52,60 60,68 68,72 72,76 76,80 80,\
+84 84,88 88,89 89,90 90,91 91,92 92,93 93,94 94,98 kept,";
 
 /// Writes what comes of the octets: `kept`, or the place where they are BadSession.
 fn tell(alloc: Global, text: &mut String, octets: &[u8]) -> Result<(), AllocError> {
