@@ -10,6 +10,7 @@ use Rattle.echo_base.specs.Answer.{◌>>=◌, refused}
 use Rattle.device_types.specs.declared.message.Body.{Body}
 use Rattle.device_types.specs.declared.message.Body.TheVariants.{Attach, Service, Area, Detach, Response, Secured, SecurityRefused, AttachDone, ContextDone, ContextFailed, ReleaseAsked, Released, Capability}
 use Rattle.device_types.specs.declared.cause.CauseCode.{CauseCode}
+use Rattle.s1ap_ies.specs.Names as names
 use Rattle.s1ap_ies.specs.declared.cause.Cause.{Cause}
 use Rattle.s1ap_ies.specs.declared.tai.Tai.{Tai}
 use Rattle.s1ap_ies.specs.declared.stmsi.Stmsi.{Stmsi}
@@ -39,7 +40,7 @@ octets_of text = some_octets (decode_of text)
 
 -- An INITIAL UE MESSAGE carries a request, which says which device it is from. A SERVICE REQUEST says it by the S-TMSI; at the end of the PDU that is missing.
 abbrev pub service_from : ℕ → Option Stmsi → Result (Identity × Body) Refusal
-service_from end None = Err (record { reason = MissingIe 96; place = end })
+service_from end None = Err (record { reason = MissingIe names.stmsi; place = end })
 service_from end (Some stmsi) = Ok (Tmsi stmsi.tmsi, Service)
 
 abbrev pub request_of : ℕ → Tai → Option Stmsi → NasIn → Result (Identity × Body) Refusal
@@ -59,13 +60,13 @@ onward_of tai SecurityComplete = Ok Secured
 onward_of tai (SecurityReject cause) = Ok SecurityRefused
 onward_of tai nas = Err (refused (NasKind (type_of nas)))
 
--- the context is set up with the first E-RAB 5
+-- the context is set up with the default bearer: the first item with its E-RAB ID
 abbrev pub context_from : Option ErabDone → Body
 context_from None = ContextFailed
 context_from (Some done) = ContextDone done.address done.teid
 
 abbrev pub context_of : List ErabDone → Body
-context_of done = context_from (find (λ item. item.id == 5) done)
+context_of done = context_from (find (λ item. item.id == names.default_erab) done)
 
 abbrev pub code_of : Cause → CauseCode
 code_of cause = record { group = cause.group; extended = cause.extended; index = cause.index }

@@ -40,7 +40,7 @@ pub struct Admission {
     pub refused: Vec<RefusedLine>,
 }
 
-/// Puts a message behind others.
+/// Puts what a line says behind a device's messages, with the next number. It fails for want of memory alone.
 fn push_message(messages: &mut Messages, t: Taken) -> Result<(), OutOfMemory>
     ensures { OnOk result (messages.new ≡ and_message messages.old t) }
 {
@@ -54,7 +54,7 @@ fn push_message(messages: &mut Messages, t: Taken) -> Result<(), OutOfMemory>
     })
 }
 
-/// Puts a message behind those of its device.
+/// Puts what a line says behind the messages of the device that it is from. It fails for want of memory alone.
 fn add_message(lines: &mut Vec<Messages>, t: Taken) -> Result<(), OutOfMemory>
     requires { IsWithin (length lines.old.items) t.device.0 }
     ensures { OnOk result (lines.new.items ≡ slice_set lines.old.items (t.device.0 - 1)
@@ -64,7 +64,7 @@ fn add_message(lines: &mut Vec<Messages>, t: Taken) -> Result<(), OutOfMemory>
     push_message(messages, t)
 }
 
-/// Puts a line behind the refused ones.
+/// Notes a line that is refused, behind those before it. It fails for want of memory alone.
 fn add_refused(refused: &mut Vec<RefusedLine>, line: RefusedLine) -> Result<(), OutOfMemory>
     ensures { OnOk result (refused.new.items ≡ refused.old.items ++ line ∷ []) }
 {
@@ -72,7 +72,7 @@ fn add_refused(refused: &mut Vec<RefusedLine>, line: RefusedLine) -> Result<(), 
     Ok(())
 }
 
-/// No messages of so many devices.
+/// A list of messages for each of `devices` devices, with nothing in it.
 fn no_lines(alloc: Global, devices: u32) -> Result<Vec<Messages>, OutOfMemory>
     ensures { IfOk result (λ lines. lines.items ≡ replicate devices []) }
 {
@@ -83,7 +83,7 @@ fn no_lines(alloc: Global, devices: u32) -> Result<Vec<Messages>, OutOfMemory>
     Ok(lines)
 }
 
-/// Nothing seen.
+/// What is kept before the first line of a trace: no pair is bound, no message and no refusal noted.
 fn begin(alloc: Global, table: &SubsTable) -> Result<Admission, OutOfMemory>
     ensures { IfOk result (IsSeen table.now []) }
 {
@@ -94,7 +94,8 @@ fn begin(alloc: Global, table: &SubsTable) -> Result<Admission, OutOfMemory>
     })
 }
 
-/// Takes the next line.
+/// Takes the next line of a trace: an admitted one is noted in the pairs and put behind its device's messages, another one is
+/// noted as refused. It fails for want of memory alone.
 fn take_line(
     alloc: Global,
     table: &SubsTable,
@@ -122,7 +123,7 @@ fn take_line(
     }
 }
 
-/// The book of these lines.
+/// The book of these messages, those of device `d` at place `d - 1`.
 fn bound_up(alloc: Global, lines: Vec<Messages>) -> Result<Book, OutOfMemory>
     requires { All IsLine lines.items }
     ensures { IfOk result (λ book. book ≡ lines.items) }
@@ -137,7 +138,7 @@ fn bound_up(alloc: Global, lines: Vec<Messages>) -> Result<Book, OutOfMemory>
 /// Goes through a trace in order. Each line is admitted to the book, as the next message of its device, or refused for the
 /// first check that it fails: BadHex; the refusals of `read_pdu`; WrongDirection at octet 1 for a message that an MME sends;
 /// for an INITIAL UE MESSAGE and an UPLINK NAS TRANSPORT the refusals of `read_nas`, then NasKind with the message type
-/// where the NAS message does not belong there; MissingIe of the S-TMSI (96), at the end of the PDU, for a SERVICE REQUEST
+/// where the NAS message does not belong there; MissingIe of the S-TMSI, whose id is 96, at the end of the PDU, for a SERVICE REQUEST
 /// without it; UnknownDevice for an INITIAL UE MESSAGE whose identity is that of no row; UnknownPair for any other message
 /// whose pair of base station and eNB UE S1AP ID is bound to no device, or to one whose number is not the message's MME UE
 /// S1AP ID. An admitted INITIAL UE MESSAGE binds its pair to its device and frees the pair that the device had; an admitted

@@ -14,7 +14,7 @@ ghost use Rattle.entry_edge.specs.Down.{cause_of, algorithms_of, accept_of, bear
 use device_types::{Accept, CauseCode, Down, NasOut, Octets, Subscriber, TryCopy};
 use echo_base::OutOfMemory;
 use nas_kinds::write_nas;
-use s1ap_ies::{BitRates, Cause, ErabToSetup, SecCaps, UeIds};
+use s1ap_ies::{BitRates, Cause, ErabToSetup, SecCaps, UeIds, names};
 use s1ap_messages::{ErabsToSetup, Pdu, small_is_right, write_pdu};
 use std::alloc::Global;
 
@@ -81,7 +81,8 @@ fn algorithms_of(octet: u8) -> u16
     (u16::from(octet) * 2 % 256) * 256
 }
 
-/// The bearer of a setup.
+/// The list of a setup's one E-RAB, the device's default bearer (TS 36.413, 9.1.4.1), to the gateway's tunnel. It fails for want of
+/// memory alone.
 fn bearers(
     alloc: Global,
     sgw: u32,
@@ -92,7 +93,7 @@ fn bearers(
 {
     let mut bearers = ErabsToSetup::new(alloc);
     bearers.push(ErabToSetup {
-        id: 5,
+        id: names::DEFAULT_ERAB,
         qci: 9,
         arp: 32,
         address: sgw,
@@ -167,7 +168,7 @@ fn message_of(alloc: Global, row: &Subscriber, down: &Down) -> Result<Pdu, OutOf
 }
 
 /// The octets of a message to the device of a row, in aligned PER: DOWNLINK NAS TRANSPORT (TS 36.413, 9.1.7.2), INITIAL
-/// CONTEXT SETUP REQUEST (9.1.4.1) with one bearer, E-RAB 5 of QCI 9, to the gateway's tunnel, and UE CONTEXT RELEASE COMMAND
+/// CONTEXT SETUP REQUEST (9.1.4.1) with one bearer, the default one of QCI 9, to the gateway's tunnel, and UE CONTEXT RELEASE COMMAND
 /// (9.1.4.6). The MME UE S1AP ID is the row's number, and the access point name of an ATTACH ACCEPT the row's.
 pub fn down_bytes(alloc: Global, row: &Subscriber, down: &Down) -> Result<Octets, OutOfMemory>
     requires row { IsSubscriber row.now }

@@ -3,12 +3,13 @@
 ghost use Rattle.std.specs.Prelude.{◌≡◌, ◌==◌, length, find};
 ghost use Rattle.echo_base.specs.Answer.{IsAnswer};
 ghost use Rattle.nas_kinds.specs.Reading.{nas_of};
+ghost use Rattle.s1ap_ies.specs.Names as named;
 ghost use Rattle.entry_edge.specs.Sent.{request_of, onward_of, context_of, code_of, sent_of};
 
 use device_types::{Body, CauseCode};
 use echo_base::{Bad, Identity, Reason, Refusal, refused};
 use nas_kinds::{NasIn, read_nas};
-use s1ap_ies::{Cause, ErabDone, Stmsi, Tai};
+use s1ap_ies::{Cause, ErabDone, Stmsi, Tai, names};
 use s1ap_messages::Pdu;
 use std::alloc::Global;
 
@@ -32,14 +33,15 @@ pub struct Sent {
     pub body: Body,
 }
 
-/// The NAS message of a NAS-PDU.
+/// Reads the NAS message that a NAS-PDU contains, and is refused as `read_nas` is.
 fn read_nas_pdu(alloc: Global, octets: &[u8]) -> Result<NasIn, Bad>
     ensures { IsAnswer (nas_of octets.now) result }
 {
     read_nas(alloc, octets)
 }
 
-/// The device and the body of a request, in a PDU of so many octets.
+/// The device and the body of the request that an INITIAL UE MESSAGE of `end` octets contains. A SERVICE REQUEST needs the S-TMSI,
+/// which is told as missing at the end of the PDU; a NAS message that begins no procedure is refused as NasKind.
 fn request_of(
     end: u64,
     tai: Tai,
@@ -80,7 +82,7 @@ fn request_of(
         NasIn::ServiceRequest => match stmsi {
             Some(stmsi) => Ok((Identity::Tmsi(stmsi.tmsi), Body::Service)),
             None => Err(Refusal {
-                reason: Reason::MissingIe(96),
+                reason: Reason::MissingIe(names::STMSI),
                 place: end,
             }),
         },
@@ -91,7 +93,8 @@ fn request_of(
     }
 }
 
-/// The body of a message that goes on with a procedure.
+/// The body of the NAS message that an UPLINK NAS TRANSPORT contains; one that only an INITIAL UE MESSAGE contains is refused as
+/// NasKind.
 fn onward_of(tai: Tai, nas: NasIn) -> Result<Body, Refusal>
     ensures { result ≡ onward_of tai nas }
 {
@@ -114,14 +117,17 @@ fn onward_of(tai: Tai, nas: NasIn) -> Result<Body, Refusal>
     }
 }
 
-/// The first E-RAB 5.
+/// The default bearer among the E-RABs that were set up: the first with its E-RAB ID.
 fn default_bearer(done: &[ErabDone]) -> Option<ErabDone>
-    ensures { result ≡ find (λ item. item.id == 5) done.now }
+    ensures { result ≡ find (λ item. item.id == named.default_erab) done.now }
 {
-    done.iter().copied().find(|item| item.id == 5)
+    done.iter()
+        .copied()
+        .find(|item| item.id == names::DEFAULT_ERAB)
 }
 
-/// What a base station says of the E-RABs that it set up.
+/// The body of an INITIAL CONTEXT SETUP RESPONSE (TS 36.413, 9.1.4.3): the default bearer's end at the base station, or that the
+/// context failed where that bearer was not set up.
 fn context_of(done: &[ErabDone]) -> Body
     ensures { result ≡ context_of done.now }
 {

@@ -126,6 +126,10 @@ most_enb_ue_s1ap_id = 16777215
 abbrev pub most_bit_rate : ℕ
 most_bit_rate = 10000000000
 
+-- the E-RAB ID (9.2.1.2) of a device's default bearer: the least EPS bearer identity (TS 24.007, 11.2.3.1.5)
+abbrev pub default_erab : ℕ
+default_erab = 5
+
 -- root values of an RRC Establishment Cause (9.2.1.3a)
 abbrev pub rrc_cause_roots : ℕ
 rrc_cause_roots = 5

@@ -84,6 +84,10 @@ pub const MOST_BIT_RATE: u64 = 10_000_000_000;
 /// How many E-RABs a list has at most: maxnoofE-RABs.
 pub const MOST_ERABS: u64 = 256;
 
+/// The E-RAB ID (9.2.1.2) of a device's default bearer: the least EPS bearer identity that a network gives (3GPP TS 24.007,
+/// 11.2.3.1.5), and the only bearer of a device here.
+pub const DEFAULT_ERAB: u8 = 5;
+
 /// How many root values an RRC Establishment Cause has (9.2.1.3a).
 pub const RRC_CAUSE_ROOTS: u32 = 5;
 
