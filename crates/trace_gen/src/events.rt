@@ -21,7 +21,7 @@ pub fn lane_of(call: Call) -> Lane
     }
 }
 
-/// Puts the line of an event behind a text.
+/// Puts an event's line, and an LF, behind a text.
 fn put_event(text: &mut String, event: Event) -> Result<(), OutOfMemory>
     ensures { OnOk result (string_bytes text.new ≡ string_bytes text.old ++ ended (event_line event)) }
 {
@@ -29,7 +29,7 @@ fn put_event(text: &mut String, event: Event) -> Result<(), OutOfMemory>
     writeln!(text, "{line}")
 }
 
-/// Puts the lines of events behind a text.
+/// Puts a line for each event, as a schedule has it, behind a text.
 pub fn put_events(text: &mut String, events: &[Event]) -> Result<(), OutOfMemory>
     ensures { OnOk result (string_bytes text.new ≡ string_bytes text.old ++ events_text events.now) }
 {

@@ -14,7 +14,7 @@ use crate::subscribers::imsi_of;
 use aper_fields::EnumValue;
 use device_types::Octets;
 use echo_base::OutOfMemory;
-use s1ap_ies::{Cause, Cgi, ErabDone, Stmsi, Tai};
+use s1ap_ies::{Cause, Cgi, ErabDone, Stmsi, Tai, names};
 use s1ap_messages::{ErabsDone, Pdu, small_is_right, write_pdu};
 use std::alloc::Global;
 
@@ -84,7 +84,7 @@ fn uplink(alloc: Global, device: u32, message: &[u8]) -> Result<Pdu, OutOfMemory
     })
 }
 
-/// INITIAL CONTEXT SETUP RESPONSE (9.1.4.3) with E-RAB 5.
+/// INITIAL CONTEXT SETUP RESPONSE (9.1.4.3) with the default bearer.
 #[tactic(auto, unfolding(s1ap_ies::specs::Values::erabs_done, s1ap_ies::specs::Values::erab_done, s1ap_ies::specs::Values::erab_id, s1ap_ies::specs::Values::address))]
 fn context_made(alloc: Global, device: u32) -> Result<Pdu, OutOfMemory>
     requires device { device < 2 ^ 24 }
@@ -93,7 +93,7 @@ fn context_made(alloc: Global, device: u32) -> Result<Pdu, OutOfMemory>
 {
     let mut done = ErabsDone::new(alloc);
     done.push(ErabDone {
-        id: 5,
+        id: names::DEFAULT_ERAB,
         address: 0xc0a80002,
         teid: 2,
     })?;

@@ -55,7 +55,7 @@ fn put_address(alloc: Global, text: &mut String, octets: &[u8]) -> Result<(), Ou
     write!(text, "\"ip\":\"{digits}\"")
 }
 
-/// Puts the columns of the gateway behind a text.
+/// Puts the columns of a row's end of the tunnel at the gateway, its address and its TEID, behind a text.
 #[tactic(auto, unfolding(crate::specs::Subscribers::tunnel_columns))]
 fn put_tunnel(text: &mut String, teid: u32) -> Result<(), OutOfMemory>
     ensures { OnOk result (string_bytes text.new ≡ string_bytes text.old ++ tunnel_columns teid) }
@@ -63,7 +63,7 @@ fn put_tunnel(text: &mut String, teid: u32) -> Result<(), OutOfMemory>
     write!(text, "\"sgw\":\"c0a80001\",\"teid\":{teid}")
 }
 
-/// Puts the line of a device behind a text.
+/// Puts the row of a device in the subscriber table, a JSON object and an LF, behind a text.
 #[tactic(auto, unfolding(crate::specs::Subscribers::subscriber_line))]
 fn put_subscriber(alloc: Global, text: &mut String, device: u32) -> Result<(), OutOfMemory>
     requires device { device ≤ 800 }
