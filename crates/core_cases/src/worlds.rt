@@ -400,7 +400,7 @@ fn tell_answers(alloc: Global, told: &mut String, title: &str, lines: &str) -> R
     let case = read_case(alloc, text.as_bytes())?;
     let mut world = opened(alloc, case.table(), name, count.parse::<u32>()?)?;
     happen_all(&mut world, told, case.schedule())?;
-    if world.events().len() != case.schedule().len() {
+    if world.event_count() != case.schedule().len() as u64 {
         return Err(Fail::from("not all events"));
     }
     Ok(())
@@ -442,7 +442,7 @@ fn tell_ends(text: &mut String, finals: &Finals) -> Result<(), Fail> {
 /// The world settles: how many events it has taken then, and what became of its devices, put behind the text.
 fn settle(alloc: Global, world: &mut World, told: &mut String) -> Result<(), Fail> {
     world.settle_all()?;
-    let count = world.events().len();
+    let count = world.event_count();
     writeln!(told, "{count} events")?;
     let finals = world.finals(alloc)?;
     tell_ends(told, &finals)

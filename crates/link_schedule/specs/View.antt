@@ -9,7 +9,7 @@ use Rattle.link_schedule.specs.World.{WorldState, IsWorld}
 abbrev pub view_of : Inside → WorldState
 view_of w = record {
   setting = setting (arc_value w.law.charter).rows (arc_value w.law.charter).lines w.count;
-  events = w.taken.items;
+  events = w.log;
   parts = record {
     rows = w.store.rows;
     hands = w.replicas.items;

@@ -8,7 +8,7 @@ ghost use Rattle.peer_calls.specs.Calls.{calls_of};
 ghost use Rattle.schedule_laws.specs.Answer.{IsEvent};
 ghost use Rattle.link_schedule.specs.World.{answer_given, accepted_calls, Answers};
 
-use crate::world::{World, noted, row_at};
+use crate::world::{World, row_at};
 use device_types::{Answer, DeviceId, Event, EventAnswer, Input, Lane, Subscriber};
 use peer_gateway::Gateway;
 use peer_subscriber::SubscriberPeer;
@@ -81,16 +81,15 @@ impl World {
         ensures ok { IfOk result (Answers self.old self.new (Event.Answer r d lane k)) }
         ensures err { OnErr result (self.new ≡ self.old) }
     {
-        self.taken.reserve(1)?;
         let event = Event::Answer { r, d, lane, k };
         if r > self.count {
-            return Ok(noted(&mut self.taken, event, EventAnswer::VoidReplica));
+            return Ok(self.log.noted(event, EventAnswer::VoidReplica));
         }
         let row = row_at(&self.law, d);
         let Some(answer) = given(&self.gateway, &self.server, row, lane, k)? else {
-            return Ok(noted(&mut self.taken, event, EventAnswer::VoidLink));
+            return Ok(self.log.noted(event, EventAnswer::VoidLink));
         };
         self.replicas[r as usize - 1].take(d, Input::Answer { lane, k, answer });
-        Ok(noted(&mut self.taken, event, EventAnswer::Taken))
+        Ok(self.log.noted(event, EventAnswer::Taken))
     }
 }

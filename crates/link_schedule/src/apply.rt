@@ -21,13 +21,13 @@ impl World {
             Event::Answer { r, d, lane, k } => self.answer(r, d, lane, k),
             Event::Read { r } => self.read(r),
             Event::Write { r } => self.write(r),
-            Event::Stop { r } => self.stop(r),
+            Event::Stop { r } => Ok(self.stop(r)),
             Event::Reply { d, n } => self.reply(d, n),
             Event::Push { d, lane, k } => self.push(d, lane, k),
             Event::Effect { d, lane, k } => self.effect(d, lane, k),
-            Event::Settle { d, lane, k } => self.settle(d, lane, k),
+            Event::Settle { d, lane, k } => Ok(self.settle(d, lane, k)),
         };
-        let _ = &self.taken;
+        self.recall();
         answer
     }
 }

@@ -10,7 +10,7 @@ ghost use Rattle.schedule_laws.specs.Counts.{effect_pushed};
 ghost use Rattle.link_schedule.specs.Told.{down_answer, offer_answer};
 ghost use Rattle.link_schedule.specs.World.{effect_at, IsOnLane, Answers};
 
-use crate::world::{Agent, World, noted, row_at};
+use crate::world::{Agent, World, row_at};
 use agent_resend::DownTaken;
 use device_types::{
     DeviceId, Down, Effect, Event, EventAnswer, GwCall, Lane, Offer, SubCall, TryCopy,
@@ -139,13 +139,12 @@ impl World {
         ensures ok { IfOk result (Answers self.old self.new (Event.Effect d lanes.Down k)) }
         ensures err { OnErr result (self.new ≡ self.old) }
     {
-        self.taken.reserve(1)?;
         let lane = Lane::Down;
         let index = d.0 as usize - 1;
         let down = down_on_link(&self.agents[index], &self.store, d, k)?;
         let taken = self.agents[index].take_down(k, down)?;
         let answer = down_answer(taken);
-        Ok(noted(&mut self.taken, Event::Effect { d, lane, k }, answer))
+        Ok(self.log.noted(Event::Effect { d, lane, k }, answer))
     }
 
     /// Call `k` for the device arrives at the gateway. For want of memory the world is as before.
@@ -155,13 +154,12 @@ impl World {
         ensures ok { IfOk result (Answers self.old self.new (Event.Effect d lanes.Gateway k)) }
         ensures err { OnErr result (self.new ≡ self.old) }
     {
-        self.taken.reserve(1)?;
         let lane = Lane::Gateway;
         let row = row_at(&self.law, d);
         let call = gateway_call_on_link(&self.gateway, &self.store, d, k)?;
         let offer = self.gateway.offer(row, k, call)?;
         let answer = offer_answer(k, &offer);
-        Ok(noted(&mut self.taken, Event::Effect { d, lane, k }, answer))
+        Ok(self.log.noted(Event::Effect { d, lane, k }, answer))
     }
 
     /// Call `k` for the device arrives at the subscriber server. For want of memory the world is as before.
@@ -171,13 +169,12 @@ impl World {
         ensures ok { IfOk result (Answers self.old self.new (Event.Effect d lanes.Subscriber k)) }
         ensures err { OnErr result (self.new ≡ self.old) }
     {
-        self.taken.reserve(1)?;
         let lane = Lane::Subscriber;
         let row = row_at(&self.law, d);
         let call = server_call_on_link(&self.server, &self.store, d, k)?;
         let offer = self.server.offer(row, k, call)?;
         let answer = offer_answer(k, &offer);
-        Ok(noted(&mut self.taken, Event::Effect { d, lane, k }, answer))
+        Ok(self.log.noted(Event::Effect { d, lane, k }, answer))
     }
 
     /// Effect `k` of a lane of the device arrives at its receiver. For want of memory the world is as before.
@@ -192,9 +189,8 @@ impl World {
         ensures err { OnErr result (self.new ≡ self.old) }
     {
         if !self.pushed[d.0 as usize - 1].has(lane, k) {
-            self.taken.reserve(1)?;
             let event = Event::Effect { d, lane, k };
-            return Ok(noted(&mut self.taken, event, EventAnswer::VoidLink));
+            return Ok(self.log.noted(event, EventAnswer::VoidLink));
         }
         match lane {
             Lane::Down => self.down_arrives(d, k),

@@ -4,6 +4,7 @@
 mod answer;
 mod apply;
 mod effect;
+mod event_log;
 mod finals;
 mod floor;
 mod marks;

@@ -6,6 +6,7 @@ ghost use Rattle.replica_worker.specs.declared.hand.Hand.TheVariants as hands;
 ghost use Rattle.schedule_laws.specs.Promise.{setting};
 ghost use Rattle.link_schedule.specs.World.{fresh_window, IsShort, IsWorld};
 
+use crate::event_log::EventLog;
 use crate::marks::{LaneMarks, Marks};
 use crate::world::{Agent, World};
 use agent_order::Line;
@@ -98,7 +99,7 @@ impl World {
             server,
             sent,
             pushed,
-            taken: Vec::new(alloc),
+            log: EventLog::new(),
         })
     }
 }

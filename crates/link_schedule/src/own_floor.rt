@@ -33,7 +33,7 @@ impl OwnFloor {
         let Some(world) = &self.world else {
             return;
         };
-        world.events();
+        world.recall();
     }
 }
 

@@ -7,7 +7,7 @@ ghost use Rattle.session_store.specs.Rows.{IsDevice, row_of, journal_of};
 ghost use Rattle.schedule_laws.specs.Answer.{IsEvent};
 ghost use Rattle.link_schedule.specs.World.{Answers};
 
-use crate::world::{World, noted};
+use crate::world::World;
 use device_types::{DeviceId, Event, EventAnswer, Lane};
 use session_store::{EchoLaw, Store};
 use std::alloc::AllocError;
@@ -32,12 +32,11 @@ impl World {
         ensures ok { IfOk result (Answers self.old self.new (happens.Push d lane k)) }
         ensures err { OnErr result (self.new ≡ self.old) }
     {
-        self.taken.reserve(1)?;
         let event = Event::Push { d, lane, k };
         if !is_in_row(&self.store, d, lane, k)? {
-            return Ok(noted(&mut self.taken, event, EventAnswer::VoidOutbox));
+            return Ok(self.log.noted(event, EventAnswer::VoidOutbox));
         }
         self.pushed[d.0 as usize - 1].mark(lane, k)?;
-        Ok(noted(&mut self.taken, event, EventAnswer::Pushed))
+        Ok(self.log.noted(event, EventAnswer::Pushed))
     }
 }

@@ -6,7 +6,7 @@ ghost use Rattle.schedule_laws.specs.Answer.{look_answer, IsEvent};
 ghost use Rattle.link_schedule.specs.Told.{version_in, device_held, seen_answer};
 ghost use Rattle.link_schedule.specs.World.{Answers};
 
-use crate::world::{World, noted, row_at};
+use crate::world::{World, row_at};
 use device_types::{DeviceId, Event, EventAnswer, Look, Subscriber};
 use replica_worker::{Hand, Replica};
 use session_store::{EchoLaw, Store};
@@ -70,17 +70,16 @@ impl World {
         ensures ok { IfOk result (Answers self.old self.new (Event.Read r)) }
         ensures err { OnErr result (self.new ≡ self.old) }
     {
-        self.taken.reserve(1)?;
         let event = Event::Read { r };
         if r > self.count {
-            return Ok(noted(&mut self.taken, event, EventAnswer::VoidReplica));
+            return Ok(self.log.noted(event, EventAnswer::VoidReplica));
         }
         let index = r as usize - 1;
         let Some(d) = device_held(self.replicas[index].hand()) else {
-            return Ok(noted(&mut self.taken, event, EventAnswer::VoidHand));
+            return Ok(self.log.noted(event, EventAnswer::VoidHand));
         };
         let row = row_at(&self.law, d);
         let answer = told(&mut self.replicas[index], row, &mut self.store)?;
-        Ok(noted(&mut self.taken, event, answer))
+        Ok(self.log.noted(event, answer))
     }
 }

@@ -5,7 +5,7 @@ ghost use Rattle.schedule_laws.specs.Answer.{IsEvent};
 ghost use Rattle.link_schedule.specs.Told.{reply_answer};
 ghost use Rattle.link_schedule.specs.World.{Answers};
 
-use crate::world::{World, noted};
+use crate::world::World;
 use agent_resend::Taken;
 use device_types::{DeviceId, Event, EventAnswer, Look};
 use session_store::{Asked, Seen};
@@ -30,16 +30,15 @@ impl World {
         ensures ok { IfOk result (Answers self.old self.new (Event.Reply d n)) }
         ensures err { OnErr result (self.new ≡ self.old) }
     {
-        self.taken.reserve(1)?;
         let event = Event::Reply { d, n };
         let Seen { look, reply, .. } = self.store.read(d, Asked::Message(n))?;
         if let Look::Settled(_) = look {
-            return Ok(noted(&mut self.taken, event, EventAnswer::Old(n)));
+            return Ok(self.log.noted(event, EventAnswer::Old(n)));
         }
         let Some(reply) = reply else {
-            return Ok(noted(&mut self.taken, event, EventAnswer::VoidLink));
+            return Ok(self.log.noted(event, EventAnswer::VoidLink));
         };
         let taken = self.agents[d.0 as usize - 1].take_reply(&reply);
-        Ok(noted(&mut self.taken, event, reply_answer(n, taken)))
+        Ok(self.log.noted(event, reply_answer(n, taken)))
     }
 }

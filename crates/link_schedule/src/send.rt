@@ -4,7 +4,7 @@ ghost use Rattle.device_types.specs.declared.event.Event.{Event};
 ghost use Rattle.schedule_laws.specs.Answer.{IsEvent};
 ghost use Rattle.link_schedule.specs.World.{Answers};
 
-use crate::world::{World, noted};
+use crate::world::World;
 use device_types::{DeviceId, Event, EventAnswer};
 use std::alloc::AllocError;
 
@@ -15,14 +15,13 @@ impl World {
         ensures ok { IfOk result (Answers self.old self.new (Event.Send d n)) }
         ensures err { OnErr result (self.new ≡ self.old) }
     {
-        self.taken.reserve(1)?;
         let event = Event::Send { d, n };
         let index = d.0 as usize - 1;
         if !self.agents[index].may_send(n) {
-            return Ok(noted(&mut self.taken, event, EventAnswer::VoidWindow));
+            return Ok(self.log.noted(event, EventAnswer::VoidWindow));
         }
         self.sent[index].mark(n)?;
         self.agents[index].sent(n);
-        Ok(noted(&mut self.taken, event, EventAnswer::Sent))
+        Ok(self.log.noted(event, EventAnswer::Sent))
     }
 }

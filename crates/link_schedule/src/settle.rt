@@ -1,15 +1,14 @@
 //! The acknowledgement of an effect arrives.
-ghost use Rattle.std.specs.Prelude.{◌≡◌, length, IfOk, OnErr};
+ghost use Rattle.std.specs.Prelude.{◌≡◌, length};
 ghost use Rattle.device_types.specs.Numbers.{IsWithin};
 ghost use Rattle.schedule_laws.specs.Answer.{IsEvent, history};
 ghost use Rattle.schedule_laws.specs.Counts.{accepted};
 ghost use Rattle.link_schedule.specs.Told.{settle_answer};
 ghost use Rattle.link_schedule.specs.World.{Answers};
 
-use crate::world::{World, noted};
+use crate::world::World;
 use device_types::{DeviceId, Event, EventAnswer, Lane};
 use effect_outbox::Settled;
-use std::alloc::AllocError;
 
 /// What the row says to the acknowledgement of effect `k`, as the answer to the event.
 fn settle_answer(k: u64, settled: Settled) -> EventAnswer
@@ -34,26 +33,19 @@ impl World {
         }
     }
 
-    /// The acknowledgement of effect `k` of a lane of the device arrives: the effects up to it are settled. For want of memory the
-    /// world is as before.
-    pub(crate) fn settle(
-        &mut self,
-        d: DeviceId,
-        lane: Lane,
-        k: u64,
-    ) -> Result<EventAnswer, AllocError>
+    /// The acknowledgement of effect `k` of a lane of the device arrives: the effects up to it are settled. It takes no
+    /// memory.
+    pub(crate) fn settle(&mut self, d: DeviceId, lane: Lane, k: u64) -> EventAnswer
         requires { IsEvent self.old.setting (Event.Settle d lane k) }
-        ensures ok { IfOk result (Answers self.old self.new (Event.Settle d lane k)) }
-        ensures err { OnErr result (self.new ≡ self.old) }
+        ensures { Answers self.old self.new (Event.Settle d lane k) result }
     {
         let accepted = self.accepted(d, lane);
-        self.taken.reserve(1)?;
         let event = Event::Settle { d, lane, k };
         if accepted < k {
-            return Ok(noted(&mut self.taken, event, EventAnswer::VoidLink));
+            return self.log.noted(event, EventAnswer::VoidLink);
         }
         let settled = self.store.settle(d, lane, k);
         let answer = settle_answer(k, settled);
-        Ok(noted(&mut self.taken, event, answer))
+        self.log.noted(event, answer)
     }
 }

@@ -80,7 +80,7 @@ impl World {
         ensures ok { OnOk result (accepts_in self.new d.0 lane ≡ k) }
         ensures pays { OnOk result (Pays self.old self.new d.0) }
     {
-        self.events();
+        self.recall();
         self.push(d, lane, k)?;
         self.effect(d, lane, k)?;
         Ok(())
@@ -94,7 +94,7 @@ impl World {
         ensures ok { OnOk result (accepts_in self.new d.0 lane ≡ pushed_count lane (journal_in self.new d.0)) }
         ensures pays { OnOk result (Pays self.old self.new d.0) }
     {
-        self.events();
+        self.recall();
         let most = self.pushed_count(d, lane);
         for k in self.accepted(d, lane)..most {
             self.deliver_next(d, lane, k + 1)?;
@@ -114,7 +114,7 @@ impl World {
         if n <= self.acked(d) {
             return Ok(());
         }
-        self.events();
+        self.recall();
         self.reply(d, n)?;
         Ok(())
     }
@@ -130,7 +130,7 @@ impl World {
         ensures ok { OnOk result (commits_in self.new d.0 ≡ commits_in self.old d.0 + 1) }
         ensures few { OnOk result (length self.new.events ≤ length self.old.events + 4) }
     {
-        self.events();
+        self.recall();
         self.send(d, n)?;
         self.take(1, d, n)?;
         self.read(1)?;
@@ -147,7 +147,7 @@ impl World {
         ensures ok { OnOk result (commits_in self.new d.0 ≡ commits_in self.old d.0 + 1) }
         ensures few { OnOk result (length self.new.events ≤ length self.old.events + 3) }
     {
-        self.events();
+        self.recall();
         self.answer(1, d, lane, k)?;
         self.read(1)?;
         self.write(1)?;
@@ -191,7 +191,7 @@ impl World {
     {
         if let Some((lane, k)) = self.awaited_call(d) {
             self.take_answer(d, lane, k)?;
-            self.events();
+            self.recall();
             return Ok(true);
         }
         let taken = self.taken_count(d);
@@ -199,24 +199,23 @@ impl World {
             return Ok(false);
         }
         self.take_message(d, taken + 1)?;
-        self.events();
+        self.recall();
         Ok(true)
     }
 
-    /// The effects of a lane that were accepted leave the row.
-    fn clear(&mut self, d: DeviceId, lane: Lane) -> Result<(), AllocError>
+    /// The effects of a lane that were accepted leave the row. It takes no memory.
+    fn clear(&mut self, d: DeviceId, lane: Lane)
         requires { IsWithin (length self.old.setting.rows) d.0 }
         ensures goes_on { GoesOn self.old self.new }
-        ensures ok { OnOk result (accepts_in self.old d.0 lane ≤ settles_in self.new d.0 lane) }
-        ensures few { OnOk result (length self.new.events ≤ length self.old.events + 1) }
+        ensures clear { accepts_in self.old d.0 lane ≤ settles_in self.new d.0 lane }
+        ensures few { length self.new.events ≤ length self.old.events + 1 }
     {
         let k = self.accepted(d, lane);
         if k == 0 {
-            return Ok(());
+            return;
         }
-        self.events();
-        self.settle(d, lane, k)?;
-        Ok(())
+        self.recall();
+        self.settle(d, lane, k);
     }
 
     /// All effects of the device arrive, as many as it has made.
@@ -232,21 +231,20 @@ impl World {
         self.deliver(d, Lane::Down)?;
         self.deliver(d, Lane::Gateway)?;
         self.deliver(d, Lane::Subscriber)?;
-        self.events();
+        self.recall();
         Ok(())
     }
 
-    /// The effects of the device that were accepted leave the row.
-    fn clear_all(&mut self, d: DeviceId) -> Result<(), AllocError>
+    /// The effects of the device that were accepted leave the row. It takes no memory.
+    fn clear_all(&mut self, d: DeviceId)
         requires { IsWithin (length self.old.setting.rows) d.0 }
         ensures goes_on { GoesOn self.old self.new }
-        ensures ok { OnOk result ((lane : TheLane) → accepts_in self.old d.0 lane ≤ settles_in self.new d.0 lane) }
-        ensures few { OnOk result (length self.new.events ≤ length self.old.events + 3) }
+        ensures clear { (lane : TheLane) → accepts_in self.old d.0 lane ≤ settles_in self.new d.0 lane }
+        ensures few { length self.new.events ≤ length self.old.events + 3 }
     {
-        self.clear(d, Lane::Down)?;
-        self.clear(d, Lane::Gateway)?;
-        self.clear(d, Lane::Subscriber)?;
-        Ok(())
+        self.clear(d, Lane::Down);
+        self.clear(d, Lane::Gateway);
+        self.clear(d, Lane::Subscriber);
     }
 
     /// The device does all that the machine that never fails does, and no effect of it is left in its row.
@@ -259,8 +257,8 @@ impl World {
     {
         while self.advance(d)? {}
         self.deliver_all(d)?;
-        self.clear_all(d)?;
-        self.events();
+        self.clear_all(d);
+        self.recall();
         Ok(())
     }
 
@@ -273,7 +271,7 @@ impl World {
     {
         for index in 0..self.device_count() {
             self.settle_device(DeviceId(index + 1))?;
-            self.events();
+            self.recall();
         }
         Ok(())
     }
@@ -290,7 +288,7 @@ impl World {
         ensures linear { OnOk result (length self.new.events ≤ length self.old.events + cost_to self.old.setting (length self.old.setting.rows)) }
     {
         let settled = self.settle_each();
-        self.events();
+        self.recall();
         settled
     }
 }

@@ -5,7 +5,7 @@ ghost use Rattle.schedule_laws.specs.Answer.{IsEvent};
 ghost use Rattle.schedule_laws.specs.Input.{no_message};
 ghost use Rattle.link_schedule.specs.World.{Answers};
 
-use crate::world::{Agent, World, noted};
+use crate::world::{Agent, World};
 use device_types::{DeviceId, Event, EventAnswer, Input, Message, TryCopy};
 use std::alloc::AllocError;
 
@@ -28,17 +28,16 @@ impl World {
         ensures ok { IfOk result (Answers self.old self.new (Event.Take r d n)) }
         ensures err { OnErr result (self.new ≡ self.old) }
     {
-        self.taken.reserve(1)?;
         let event = Event::Take { r, d, n };
         if r > self.count {
-            return Ok(noted(&mut self.taken, event, EventAnswer::VoidReplica));
+            return Ok(self.log.noted(event, EventAnswer::VoidReplica));
         }
         let index = d.0 as usize - 1;
         if !self.sent[index].has(n) {
-            return Ok(noted(&mut self.taken, event, EventAnswer::VoidLink));
+            return Ok(self.log.noted(event, EventAnswer::VoidLink));
         }
         let message = message_at(&self.agents[index], n)?;
         self.replicas[r as usize - 1].take(d, Input::Message(message));
-        Ok(noted(&mut self.taken, event, EventAnswer::Taken))
+        Ok(self.log.noted(event, EventAnswer::Taken))
     }
 }

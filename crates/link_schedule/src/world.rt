@@ -1,13 +1,14 @@
 //! The world of events.
-ghost use Rattle.std.specs.Prelude.{◌≡◌, ◌≤◌, ◌-◌, ◌+◌, ◌++◌, [], ◌∷◌, length, slice_index_or, vec_len, vec_capacity};
+ghost use Rattle.std.specs.Prelude.{◌≡◌, ◌≤◌, ◌-◌, ◌^◌, length, min, slice_index_or};
 ghost use Rattle.std.specs.Arc.{arc_value};
 ghost use Rattle.device_types.specs.Numbers.{IsWithin};
 ghost use Rattle.schedule_laws.specs.Setting.{no_row};
 ghost use Rattle.link_schedule.specs.World.{IsWorld};
 
+use crate::event_log::EventLog;
 use crate::marks::{LaneMarks, Marks};
 use agent_resend::Window;
-use device_types::{DeviceId, Event, EventAnswer, Subscriber};
+use device_types::{DeviceId, Subscriber};
 use peer_gateway::Gateway;
 use peer_subscriber::SubscriberPeer;
 use replica_worker::Replica;
@@ -21,8 +22,9 @@ pub(crate) type Agent = Window<4>;
 /// event, and what it comes to its answer. Contracts see what the world runs on, the events that it has taken, and its parts.
 ///
 /// No packet on a link is stored. A message is in its device's line, an effect with its receiver once it is accepted and in the row
-/// until then, and replies, acknowledgements and answers follow from how many there are. So an event is meant to take a time that is
-/// logarithmic in devices, messages and events, but for a list that grows; no clause speaks of time.
+/// until then, and replies, acknowledgements and answers follow from how many there are. Nor is an event kept: proofs alone know of
+/// them. So an event is meant to take a time that is logarithmic in devices, messages and events, but for a list that grows; no clause
+/// speaks of time.
 #[derive(Debug, Drop)]
 pub struct World {
     pub(crate) law: EchoLaw,
@@ -34,7 +36,7 @@ pub struct World {
     pub(crate) server: SubscriberPeer,
     pub(crate) sent: Vec<Marks>,
     pub(crate) pushed: Vec<LaneMarks>,
-    pub(crate) taken: Vec<Event>,
+    pub(crate) log: EventLog,
 }
 
 impl Model for World {
@@ -50,12 +52,18 @@ impl Model for World {
 }
 
 impl World {
-    /// The events that the world has taken, in order. It takes no memory.
-    pub fn events(&self) -> &[Event]
-        ensures events { result.now ≡ self.now.events }
-        ensures world { IsWorld self.now }
+    /// How many events the world has taken; the count stands still at 2^64 - 1. It takes no memory.
+    pub fn event_count(&self) -> u64
+        ensures { result ≡ min (length self.now.events) (2 ^ 64 - 1) }
     {
-        &self.taken
+        self.log.count()
+    }
+
+    /// What holds of every world: each part is what its events make of it. It does nothing at run time.
+    pub fn recall(&self)
+        ensures { IsWorld self.now }
+    {
+        self.law.charter().recall();
     }
 }
 
@@ -67,14 +75,4 @@ pub(crate) fn row_at(law: &EchoLaw, d: DeviceId) -> &Subscriber
     ensures tunnel { result.now.teid ≤ 4000000000 }
 {
     &law.charter().rows()[d.0 as usize - 1]
-}
-
-/// The event was taken, for which room was reserved: the list gains it.
-pub(crate) fn noted(events: &mut Vec<Event>, event: Event, answer: EventAnswer) -> EventAnswer
-    requires { vec_len events.old + 1 ≤ vec_capacity events.old }
-    ensures events { events.new.items ≡ events.old.items ++ event ∷ [] }
-    ensures answer { result ≡ answer }
-{
-    events.push_reserved(event);
-    answer
 }

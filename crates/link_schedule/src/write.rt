@@ -6,7 +6,7 @@ ghost use Rattle.schedule_laws.specs.Answer.{IsEvent};
 ghost use Rattle.link_schedule.specs.Told.{commit_answer};
 ghost use Rattle.link_schedule.specs.World.{Answers};
 
-use crate::world::{World, noted};
+use crate::world::World;
 use device_types::{Event, EventAnswer};
 use replica_worker::{Hand, Replica};
 use session_row::Commit;
@@ -43,16 +43,15 @@ impl World {
         ensures ok { IfOk result (Answers self.old self.new (Event.Write r)) }
         ensures err { OnErr result (self.new ≡ self.old) }
     {
-        self.taken.reserve(1)?;
         let event = Event::Write { r };
         if r > self.count {
-            return Ok(noted(&mut self.taken, event, EventAnswer::VoidReplica));
+            return Ok(self.log.noted(event, EventAnswer::VoidReplica));
         }
         let index = r as usize - 1;
         let Hand::Ready { .. } = self.replicas[index].hand() else {
-            return Ok(noted(&mut self.taken, event, EventAnswer::VoidHand));
+            return Ok(self.log.noted(event, EventAnswer::VoidHand));
         };
         let commit = written(&mut self.replicas[index], &mut self.store)?;
-        Ok(noted(&mut self.taken, event, commit_answer(commit)))
+        Ok(self.log.noted(event, commit_answer(commit)))
     }
 }

@@ -64,4 +64,11 @@ impl Charter {
     {
         self.book.items()
     }
+
+    /// What holds of every charter: it is a table, and a line of messages for each of its rows. It does nothing at run time.
+    pub fn recall(&self)
+        ensures { IsCharter self.now }
+    {
+        self.rows();
+    }
 }

@@ -102,7 +102,7 @@ impl<L: RowLaw> Store<L> {
         ensures { IfOk result (λ store. store ≡ record { charter = L.charter law; rows = replicate devices opening_row }) }
     {
         let rows = opening_rows(alloc, devices)?;
-        let _rows = law.charter().rows();
+        law.charter().recall();
         Ok(Store { law, rows })
     }
 

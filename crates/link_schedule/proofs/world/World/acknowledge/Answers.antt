@@ -10,4 +10,4 @@ returns-clause-ok c =
     let s = w.setting in
     let H = turns_in w in
     let g = turned w c.reply.new.self (Reply c.args.d c.taken_count-n.result) _ s H c.in_ok-reply.ensures.ok refl refl in
-    acknowledged_in c.reply.new.self s H c.args.d c.taken_count-n.result g.0 g.1 c.taken_count-n.ensures c.events.ensures.world.lawful (let a = c.acked.ensures in omega arith)
+    acknowledged_in c.reply.new.self s H c.args.d c.taken_count-n.result g.0 g.1 c.taken_count-n.ensures c.recall.ensures.lawful (let a = c.acked.ensures in omega arith)

@@ -7,7 +7,7 @@ use Rattle.schedule_laws.proofs.Steps.{none_next, journal_whole}
 use Rattle.link_schedule.proofs.world.World.advance.Goals as goal
 
 pub returns-in-Some-clause-ok : goal.returns-in-Some-clause-ok
-returns-in-Some-clause-ok c = (c.in_ok-take_answer.ensures.ok, commits_few c.take_answer.new.self c.args.d.0 c.events.ensures.world)
+returns-in-Some-clause-ok c = (c.in_ok-take_answer.ensures.ok, commits_few c.take_answer.new.self c.args.d.0 c.recall.ensures)
 
 pub returns-then-taken-message_count-clause-ok : goal.returns-then-taken-message_count-clause-ok
 returns-then-taken-message_count-clause-ok c =
@@ -19,4 +19,4 @@ returns-then-taken-message_count-clause-ok c =
     journal_whole row messages (commits_in w d) (none_next row messages (journal_in w d) free (omega arith))
 
 pub returns-clause-ok : goal.returns-clause-ok
-returns-clause-ok c = (c.in_ok-take_message.ensures.ok, commits_few c.take_message.new.self c.args.d.0 c.events-2.ensures.world)
+returns-clause-ok c = (c.in_ok-take_message.ensures.ok, commits_few c.take_message.new.self c.args.d.0 c.recall-2.ensures)

@@ -19,14 +19,14 @@ use Rattle.link_schedule.proofs.Noted.{event_in, notes_void, notes_hand}
 use Rattle.link_schedule.proofs.world.World.answer.Goals as goal
 use Rattle.link_schedule.proofs.world.World.answer.Goals.{In_ok-answer}
 
-pub invariant_of-self-then-r-self : goal.invariant_of-self-then-r-self
-invariant_of-self-then-r-self c =
+pub invariant_of-self : goal.invariant_of-self
+invariant_of-self c =
     let w = view_of c.self.inside in
     let e = Answer c.args.r c.args.d c.args.lane c.args.k in
     let i = event_in c.args.self.now w e c.self.view_is c.requires in
     record {
       charter = c.self.invariant.charter;
-      world = notes_void w e told.VoidReplica _ (rw c.in_ok-reserve.ensures.items at c.noted.ensures.events) c.self.invariant.world i (no_replica w.setting c.args.r _ c.if-r-self.true) refl;
+      world = notes_void w e told.VoidReplica _ c.noted.ensures.events c.self.invariant.world i (no_replica w.setting c.args.r _ c.if-r-self.true) refl;
     }
 
 pub given-requires-clause-count : goal.given-requires-clause-count
@@ -60,7 +60,7 @@ invariant_of-self-in_default c =
     let given : told.VoidLink ≡ answer w.setting H e = sym (answer_told w.setting H c.args.r d l c.args.k c.self.invariant.world.lawful c.if-r-self.false i.3 ∙ ap (λ b. cond b told.Taken told.VoidLink) test) in
     record {
       charter = c.self.invariant.charter;
-      world = notes_void w e told.VoidLink _ (rw c.in_ok-reserve.ensures.items at c.noted-in_default.ensures.events) c.self.invariant.world i given refl;
+      world = notes_void w e told.VoidLink _ c.noted-in_default.ensures.events c.self.invariant.world i given refl;
     }
 
 pub invariant_of-self-2 : goal.invariant_of-self-2
@@ -76,6 +76,6 @@ invariant_of-self-2 c =
     let given : told.Taken ≡ answer w.setting H e = sym (answer_told w.setting H c.args.r d l c.args.k c.self.invariant.world.lawful c.if-r-self.false i.3 ∙ ap (λ b. cond b told.Taken told.VoidLink) both.0) in
     record {
       charter = c.self.invariant.charter;
-      world = notes_hand w e told.Taken c.args.r c.take.new.self (hands.Taken d (inputs.Answer l c.args.k c.in-Some.answer)) _ c.take.ensures (rw c.in_ok-reserve.ensures.items at c.noted-2.ensures.events) c.self.invariant.world i given
+      world = notes_hand w e told.Taken c.args.r c.take.new.self (hands.Taken d (inputs.Answer l c.args.k c.in-Some.answer)) _ c.take.ensures c.noted-2.ensures.events c.self.invariant.world i given
           (takes_answer w.setting H w.parts c.args.r d l c.args.k c.in-Some.answer both.1 (le_of c.args.k (accepted d.0 l H) both.0) (i.0.0, c.if-r-self.false) c.self.invariant.world.parts);
     }

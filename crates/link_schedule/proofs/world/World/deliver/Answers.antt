@@ -9,6 +9,6 @@ pub returns-clause-ok : goal.returns-clause-ok
 returns-clause-ok c =
     let old = c.args.self.now in
     let now = c.loop-k.self in
-    let low = accepted_bound old.setting c.args.d.0 c.args.lane (turns_in old) c.events.ensures.world.lawful in
+    let low = accepted_bound old.setting c.args.d.0 c.args.lane (turns_in old) c.recall.ensures.lawful in
     let most = ap (pushed_count c.args.lane) (journal_same old now c.args.d.0 c.loop-k.invariant.goes_on c.loop-k.invariant.journal) in
     omega arith

@@ -14,7 +14,7 @@ returns-clause-ok c =
     let d = c.args.d in
     let g1 = turned w c.push.new.self (Push d c.args.lane c.args.k) _ s H c.in_ok-push.ensures.ok refl refl in
     let g2 = turned c.push.new.self c.effect.new.self (Effect d c.args.lane c.args.k) _ s _ c.in_ok-effect.ensures.ok g1.0 g1.1 in
-    ap (accepted d.0 c.args.lane) g2.1 ∙ effect_delivered s H d c.args.lane c.args.k c.requires.next c.events.ensures.world.lawful c.requires.made
+    ap (accepted d.0 c.args.lane) g2.1 ∙ effect_delivered s H d c.args.lane c.args.k c.requires.next c.recall.ensures.lawful c.requires.made
 
 pub returns-clause-pays : goal.returns-clause-pays
 returns-clause-pays c =

@@ -52,7 +52,7 @@ invariant_of-self-2 c =
     let made = arrived path.In_ok-taken (window_at path.After-index) in
     record {
       charter = c.self.invariant.charter;
-      world = notes w (Effect c.args.d Down c.args.k) _ _ c.noted.new.events.items (rw c.in_ok-reserve.ensures.items at c.noted.ensures.events) c.self.invariant.world made.event made.given made.parts;
+      world = notes w (Effect c.args.d Down c.args.k) _ _ c.noted.new.self c.noted.ensures.events c.self.invariant.world made.event made.given made.parts;
     }
 
 pub returns-clause-ok : goal.returns-clause-ok
@@ -60,4 +60,4 @@ returns-clause-ok c =
     let w = view_of c.self.inside in
     let path = goal.at.returns-clause-ok c in
     let made = arrived path.In_ok-taken (window_at path.After-index) in
-    gives c.args.self.now w (Effect c.args.d Down c.args.k) c.noted.result _ c.noted.new.events.items c.self.view_is (rw c.in_ok-reserve.ensures.items at c.noted.ensures.events) (c.noted.ensures.answer ∙ c.down_answer-answer.ensures ∙ ap down_answer c.in_ok-taken.ensures.value ∙ made.given)
+    gives c.args.self.now w (Effect c.args.d Down c.args.k) c.noted.result _ c.noted.new.self c.self.view_is c.noted.ensures.events (c.noted.ensures.answer ∙ c.down_answer-answer.ensures ∙ ap down_answer c.in_ok-taken.ensures.value ∙ made.given)

@@ -17,12 +17,12 @@ on_link c =
     let i = event_in c.args.self.now w (Effect c.args.d c.args.lane c.args.k) c.self.view_is c.requires in
     sym (marked w.setting (history w.setting w.events) w.parts c.args.d.0 c.args.lane c.args.k c.index.result.now c.index.ensures i.0 i.1 c.self.invariant.world.parts) ∙ sym c.has.ensures
 
-pub invariant_of-self-then-not-has : goal.invariant_of-self-then-not-has
-invariant_of-self-then-not-has c =
+pub invariant_of-self : goal.invariant_of-self
+invariant_of-self c =
     let w = view_of c.self.inside in
     let H = history w.setting w.events in
     let e = Effect c.args.d c.args.lane c.args.k in
     let i = event_in c.args.self.now w e c.self.view_is c.requires in
-    let off : effect_pushed c.args.d.0 c.args.lane c.args.k H ≡ false = on_link (goal.at.invariant_of-self-then-not-has c).After-has ∙ c.if-not-has.true in
+    let off : effect_pushed c.args.d.0 c.args.lane c.args.k H ≡ false = on_link (goal.at.invariant_of-self c).After-has ∙ c.if-not-has.true in
     let void = effect_void w.setting H c.args.d c.args.lane c.args.k off in
-    record { charter = c.self.invariant.charter; world = notes_void w e told.VoidLink c.noted.new.events.items (rw c.in_ok-reserve.ensures.items at c.noted.ensures.events) c.self.invariant.world i void refl }
+    record { charter = c.self.invariant.charter; world = notes_void w e told.VoidLink c.noted.new.self c.noted.ensures.events c.self.invariant.world i void refl }

@@ -61,7 +61,7 @@ invariant_of-self-2 c =
     let a = offer_answer c.args.k (offer_of (gateway_answer_of c.row_at-row.result.now) (calls_of c.self.inside.gateway c.args.d.0) c.args.k c.in_ok-call.call) in
     record {
       charter = c.self.invariant.charter;
-      world = notes w e a _ c.noted.new.events.items (rw c.in_ok-reserve.ensures.items at c.noted.ensures.events) c.self.invariant.world made.event made.given
+      world = notes w e a _ c.noted.new.self c.noted.ensures.events c.self.invariant.world made.event made.given
           (subst (λ (x : List (List GwCall)). ArePartsOf w.setting ((e, a) ∷ history w.setting w.events) (record w.parts { gateway = x })) (sym calls) made.parts);
     }
 
@@ -70,4 +70,4 @@ returns-clause-ok c =
     let w = view_of c.self.inside in
     let made = arrived (goal.at.returns-clause-ok c).In_ok-offer in
     let offer : c.in_ok-offer.offer ≡ offer_of (gateway_answer_of c.row_at-row.result.now) (calls_of c.self.inside.gateway c.args.d.0) c.args.k c.in_ok-call.call = rw c.row_at-row.ensures.number at c.in_ok-offer.ensures.offer in
-    gives c.args.self.now w (Effect c.args.d Gateway c.args.k) c.noted.result _ c.noted.new.events.items c.self.view_is (rw c.in_ok-reserve.ensures.items at c.noted.ensures.events) (c.noted.ensures.answer ∙ c.offer_answer-answer.ensures ∙ ap (offer_answer c.args.k) offer ∙ made.given)
+    gives c.args.self.now w (Effect c.args.d Gateway c.args.k) c.noted.result _ c.noted.new.self c.self.view_is c.noted.ensures.events (c.noted.ensures.answer ∙ c.offer_answer-answer.ensures ∙ ap (offer_answer c.args.k) offer ∙ made.given)

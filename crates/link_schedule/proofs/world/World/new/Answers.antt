@@ -26,7 +26,7 @@ invariant_of-result c =
     let windows = c.in_ok-agents.ensures ∙ ap (map fresh_window) (c.lines.ensures.lines ∙ ap (λ (x : CharterState). x.lines) c.charter-2.ensures) in
     record {
       charter = ap (λ (x : StoreState). x.charter) c.in_ok-store.ensures ∙ c.in_ok-copy.ensures;
-      world = rw c.new-5.ensures.items
+      world = rw c.new-5.ensures
           (opens s devices p (charter_setting charter c.args.replicas is c.requires.replicas) count
           (ap (λ (x : StoreState). x.rows) c.in_ok-store.ensures) c.in_ok-hands.ensures windows c.in_ok-gateway.ensures c.in_ok-server.ensures c.in_ok-sent.ensures c.in_ok-pushed.ensures);
     }

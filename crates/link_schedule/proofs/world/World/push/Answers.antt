@@ -9,8 +9,8 @@ use Rattle.link_schedule.proofs.Lanes.{pushes}
 use Rattle.link_schedule.proofs.Noted.{event_in, notes, notes_void}
 use Rattle.link_schedule.proofs.world.World.push.Goals as goal
 
-pub invariant_of-self-then-not-branch : goal.invariant_of-self-then-not-branch
-invariant_of-self-then-not-branch c =
+pub invariant_of-self : goal.invariant_of-self
+invariant_of-self c =
     let w = view_of c.self.inside in
     let H = history w.setting w.events in
     let is = c.self.invariant.world in
@@ -18,7 +18,7 @@ invariant_of-self-then-not-branch c =
     let i = event_in c.args.self.now w e c.self.view_is c.requires in
     let row = is.parts.rows.at c.args.d.0 opening_row i.0 in
     let void = in_row_void w.setting H c.args.d c.args.lane c.args.k _ row (λ there. let t = c.in_ok-is_in_row.ensures.1 there in cc) in
-    record { charter = c.self.invariant.charter; world = notes_void w e told.VoidOutbox c.noted.new.events.items (rw c.in_ok-reserve.ensures.items at c.noted.ensures.events) is i void refl }
+    record { charter = c.self.invariant.charter; world = notes_void w e told.VoidOutbox c.noted.new.self c.noted.ensures.events is i void refl }
 
 pub invariant_of-self-2 : goal.invariant_of-self-2
 invariant_of-self-2 c =
@@ -31,6 +31,6 @@ invariant_of-self-2 c =
     let pushed = in_row_told w.setting H c.args.d c.args.lane c.args.k _ row (c.in_ok-is_in_row.ensures.0 c.if-not-branch.false) in
     record {
       charter = c.self.invariant.charter;
-      world = notes w e told.Pushed _ c.noted-2.new.events.items (rw c.in_ok-reserve.ensures.items at c.noted-2.ensures.events) is i pushed
+      world = notes w e told.Pushed _ c.noted-2.new.self c.noted-2.ensures.events is i pushed
           (pushes w.setting H w.parts c.args.d c.args.lane c.args.k c.index_mut.result.now c.mark.new.self c.index_mut.ensures.value c.in_ok-mark.ensures.ok i.0 is.parts);
     }

@@ -46,7 +46,7 @@ invariant_of-self-2 c =
     let made = was_read path.In_ok-answer (held_there path.After-index_mut) in
     record {
       charter = ap (λ (x : StoreState). x.charter) c.told.ensures.store ∙ c.self.invariant.charter;
-      world = notes w e c.in_ok-answer.answer _ _ (rw c.in_ok-reserve.ensures.items at c.noted-2.ensures.events) c.self.invariant.world made.event made.given
+      world = notes w e c.in_ok-answer.answer _ _ c.noted-2.ensures.events c.self.invariant.world made.event made.given
           (subst (λ (x : StoreState). ArePartsOf w.setting ((e, c.in_ok-answer.answer) ∷ history w.setting w.events) (record w.parts { rows = x.rows; hands = set w.parts.hands (c.args.r - 1) c.told.new.replica })) (sym c.told.ensures.store) made.parts);
     }
 
@@ -55,4 +55,4 @@ returns-clause-ok c =
     let w = view_of c.self.inside in
     let path = goal.at.returns-clause-ok c in
     let made = was_read path.In_ok-answer (held_there path.After-index_mut) in
-    gives c.args.self.now w (Read c.args.r) c.noted-2.result _ _ c.self.view_is (rw c.in_ok-reserve.ensures.items at c.noted-2.ensures.events) (c.noted-2.ensures.answer ∙ made.given)
+    gives c.args.self.now w (Read c.args.r) c.noted-2.result _ _ c.self.view_is c.noted-2.ensures.events (c.noted-2.ensures.answer ∙ made.given)

@@ -38,14 +38,14 @@ invariant_of-self-in-Settled c =
     rw c.read.ensures.same
     (record {
       charter = c.self.invariant.charter;
-      world = notes_quiet w e (told.Old c.args.n) _ (rw c.in_ok-reserve.ensures.items at c.noted.ensures.events) c.self.invariant.world i given refl (λ r. refl);
+      world = notes_quiet w e (told.Old c.args.n) _ c.noted.ensures.events c.self.invariant.world i given refl (λ r. refl);
     })
 
 pub returns-in-Settled-clause-ok : goal.returns-in-Settled-clause-ok
 returns-in-Settled-clause-ok c =
     let w = view_of c.self.inside in
     let given = given_old (goal.at.returns-in-Settled-clause-ok c).In-Settled in
-    rw c.noted.ensures.answer (gives c.args.self.now w (Reply c.args.d c.args.n) (told.Old c.args.n) _ _ c.self.view_is (rw c.in_ok-reserve.ensures.items at c.noted.ensures.events) given)
+    rw c.noted.ensures.answer (gives c.args.self.now w (Reply c.args.d c.args.n) (told.Old c.args.n) _ _ c.self.view_is c.noted.ensures.events given)
 
 given_void : (c : In_default-reply) → told.VoidLink ≡ answer (view_of c.self.inside).setting (history (view_of c.self.inside).setting (view_of c.self.inside).events) (Reply c.args.d c.args.n)
 given_void c =
@@ -67,7 +67,7 @@ invariant_of-self-in_default-reply c =
     rw c.read.ensures.same
     (record {
       charter = c.self.invariant.charter;
-      world = notes_void w e told.VoidLink _ (rw c.in_ok-reserve.ensures.items at c.noted-in_default-reply.ensures.events) c.self.invariant.world i given refl;
+      world = notes_void w e told.VoidLink _ c.noted-in_default-reply.ensures.events c.self.invariant.world i given refl;
     })
 
 pub returns-in_default-reply : goal.returns-in_default-reply
@@ -75,7 +75,7 @@ returns-in_default-reply c =
     let w = view_of c.self.inside in
     let given = given_void (goal.at.returns-in_default-reply c).In_default-reply in
     record {
-      ok = rw c.noted-in_default-reply.ensures.answer (gives c.args.self.now w (Reply c.args.d c.args.n) told.VoidLink _ _ c.self.view_is (rw c.in_ok-reserve.ensures.items at c.noted-in_default-reply.ensures.events) given);
+      ok = rw c.noted-in_default-reply.ensures.answer (gives c.args.self.now w (Reply c.args.d c.args.n) told.VoidLink _ _ c.self.view_is c.noted-in_default-reply.ensures.events given);
       err = tt;
     }
 
@@ -114,7 +114,7 @@ invariant_of-self-2 c =
     rw c.read.ensures.same
     (record {
       charter = c.self.invariant.charter;
-      world = notes w (Reply c.args.d n) (reply_answer n (reply_taken c.index_mut.result.now n)) _ _ (rw c.in_ok-reserve.ensures.items at c.noted-2.ensures.events) c.self.invariant.world made.event made.given made.parts;
+      world = notes w (Reply c.args.d n) (reply_answer n (reply_taken c.index_mut.result.now n)) _ _ c.noted-2.ensures.events c.self.invariant.world made.event made.given made.parts;
     })
 
 pub returns : goal.returns
@@ -125,6 +125,6 @@ returns c =
     let made = agreed path.After-take_reply-taken (replied path.In-Some) in
     let same : c.noted-2.result ≡ reply_answer n (reply_taken c.index_mut.result.now n) = c.noted-2.ensures.answer ∙ c.reply_answer.ensures ∙ made.0 in
     record {
-      ok = rw same (gives c.args.self.now w (Reply c.args.d n) (reply_answer n (reply_taken c.index_mut.result.now n)) _ _ c.self.view_is (rw c.in_ok-reserve.ensures.items at c.noted-2.ensures.events) made.1.given);
+      ok = rw same (gives c.args.self.now w (Reply c.args.d n) (reply_answer n (reply_taken c.index_mut.result.now n)) _ _ c.self.view_is c.noted-2.ensures.events made.1.given);
       err = tt;
     }

@@ -17,15 +17,15 @@ told_by c =
     let window = window_read w.setting H w.parts d.0 c.index.result.now c.index.ensures i.0 c.self.invariant.world.parts in
     send_told w.setting H d c.args.n c.index.result.now window ∙ ap (λ b. cond b told.Sent told.VoidWindow) (sym c.may_send.ensures)
 
-pub invariant_of-self-then-not-may_send : goal.invariant_of-self-then-not-may_send
-invariant_of-self-then-not-may_send c =
+pub invariant_of-self : goal.invariant_of-self
+invariant_of-self c =
     let w = view_of c.self.inside in
     let e = Send c.args.d c.args.n in
     let i = event_in c.args.self.now w e c.self.view_is c.requires in
-    let given : told.VoidWindow ≡ answer w.setting (history w.setting w.events) e = sym (told_by (goal.at.invariant_of-self-then-not-may_send c).After-may_send ∙ ap (λ b. cond b told.Sent told.VoidWindow) c.if-not-may_send.true) in
+    let given : told.VoidWindow ≡ answer w.setting (history w.setting w.events) e = sym (told_by (goal.at.invariant_of-self c).After-may_send ∙ ap (λ b. cond b told.Sent told.VoidWindow) c.if-not-may_send.true) in
     record {
       charter = c.self.invariant.charter;
-      world = notes_void w e told.VoidWindow _ (rw c.in_ok-reserve.ensures.items at c.noted.ensures.events) c.self.invariant.world i given refl;
+      world = notes_void w e told.VoidWindow _ c.noted.ensures.events c.self.invariant.world i given refl;
     }
 
 pub invariant_of-self-2 : goal.invariant_of-self-2
@@ -38,6 +38,6 @@ invariant_of-self-2 c =
     let given : told.Sent ≡ answer w.setting H e = sym (told_by (goal.at.invariant_of-self-2 c).After-may_send ∙ ap (λ b. cond b told.Sent told.VoidWindow) c.if-not-may_send.false) in
     record {
       charter = c.self.invariant.charter;
-      world = notes w e told.Sent _ _ (rw c.in_ok-reserve.ensures.items at c.noted-2.ensures.events) c.self.invariant.world i given
+      world = notes w e told.Sent _ _ c.noted-2.ensures.events c.self.invariant.world i given
           (sends w.setting H w.parts d c.args.n c.index_mut-2.result.now c.sent.new.self c.index_mut.result.now c.mark.new.self c.index_mut-2.ensures.value c.sent.ensures c.index_mut.ensures.value c.in_ok-mark.ensures.ok i.0 c.self.invariant.world.parts);
     }

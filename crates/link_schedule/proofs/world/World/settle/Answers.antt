@@ -39,19 +39,19 @@ void c less =
     let count : c.accepted-accepted.result ≡ accepted c.args.d.0 c.args.lane (history w.setting w.events) = counted c in
     settle_void w.setting (history w.setting w.events) c.args.d c.args.lane c.args.k c.self.invariant.world.lawful i.1 (omega (arith, count, less))
 
-pub invariant_of-self-then-accepted-k : goal.invariant_of-self-then-accepted-k
-invariant_of-self-then-accepted-k c =
+pub invariant_of-self : goal.invariant_of-self
+invariant_of-self c =
     let w = view_of c.self.inside in
     let e = Settle c.args.d c.args.lane c.args.k in
     let i = event_in c.args.self.now w e c.self.view_is c.requires in
-    let given = void (goal.at.invariant_of-self-then-accepted-k c).After-accepted-accepted c.if-accepted-k.true in
-    record { charter = c.self.invariant.charter; world = notes_void w e told.VoidLink c.noted.new.events.items (rw c.in_ok-reserve.ensures.items at c.noted.ensures.events) c.self.invariant.world i given refl }
+    let given = void (goal.at.invariant_of-self c).After-accepted-accepted c.if-accepted-k.true in
+    record { charter = c.self.invariant.charter; world = notes_void w e told.VoidLink c.noted.new.self c.noted.ensures.events c.self.invariant.world i given refl }
 
-pub returns-then-accepted-k-clause-ok : goal.returns-then-accepted-k-clause-ok
-returns-then-accepted-k-clause-ok c =
+pub returns-then-accepted-k : goal.returns-then-accepted-k
+returns-then-accepted-k c =
     let w = view_of c.self.inside in
-    let given = void (goal.at.returns-then-accepted-k-clause-ok c).After-accepted-accepted c.if-accepted-k.true in
-    gives c.args.self.now w (Settle c.args.d c.args.lane c.args.k) c.noted.result _ c.noted.new.events.items c.self.view_is (rw c.in_ok-reserve.ensures.items at c.noted.ensures.events) (c.noted.ensures.answer ∙ given)
+    let given = void (goal.at.returns-then-accepted-k c).After-accepted-accepted c.if-accepted-k.true in
+    gives c.args.self.now w (Settle c.args.d c.args.lane c.args.k) c.noted.result _ c.noted.new.self c.self.view_is c.noted.ensures.events (c.noted.ensures.answer ∙ given)
 
 is_settled : (c : After-settle-settled) → let w = view_of c.self.inside in let H = history w.setting w.events in
     c.accepted-accepted.result ≡ accepted c.args.d.0 c.args.lane H → ComesTo w (Settle c.args.d c.args.lane c.args.k) (settle_answer c.args.k (settled_by (number_on (row_in w.parts c.args.d.0).settled c.args.lane) c.args.k)) (record w.parts { rows = c.settle-settled.new.self.rows })
@@ -69,12 +69,12 @@ invariant_of-self-2 c =
     let made = is_settled path.After-settle-settled (counted path.After-accepted-accepted) in
     record {
       charter = ap (λ (x : StoreState). x.charter) c.settle-settled.ensures.state ∙ c.self.invariant.charter;
-      world = notes w (Settle c.args.d c.args.lane c.args.k) _ _ c.noted-2.new.events.items (rw c.in_ok-reserve.ensures.items at c.noted-2.ensures.events) c.self.invariant.world made.event made.given made.parts;
+      world = notes w (Settle c.args.d c.args.lane c.args.k) _ _ c.noted-2.new.self c.noted-2.ensures.events c.self.invariant.world made.event made.given made.parts;
     }
 
-pub returns-clause-ok : goal.returns-clause-ok
-returns-clause-ok c =
+pub returns : goal.returns
+returns c =
     let w = view_of c.self.inside in
-    let path = goal.at.returns-clause-ok c in
+    let path = goal.at.returns c in
     let made = is_settled path.After-settle-settled (counted path.After-accepted-accepted) in
-    gives c.args.self.now w (Settle c.args.d c.args.lane c.args.k) c.noted-2.result _ c.noted-2.new.events.items c.self.view_is (rw c.in_ok-reserve.ensures.items at c.noted-2.ensures.events) (c.noted-2.ensures.answer ∙ c.settle_answer-answer.ensures ∙ ap (settle_answer c.args.k) c.settle-settled.ensures.value ∙ made.given)
+    gives c.args.self.now w (Settle c.args.d c.args.lane c.args.k) c.noted-2.result _ c.noted-2.new.self c.self.view_is c.noted-2.ensures.events (c.noted-2.ensures.answer ∙ c.settle_answer-answer.ensures ∙ ap (settle_answer c.args.k) c.settle-settled.ensures.value ∙ made.given)

@@ -9,7 +9,7 @@ loop-index-preserved c =
     let i = c.loop-index.index in
     let g = c.loop-index.invariant.goes_on in
     let h = c.in_ok-settle_device.ensures.goes_on in
-    let is = c.events.ensures.world in
+    let is = c.recall.ensures in
     let done = done_more b e i h is c.loop-index.invariant.done c.in_ok-settle_device.ensures.ok in
     record {
       goes_on = goes_trans a b e g h;

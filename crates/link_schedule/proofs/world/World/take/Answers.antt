@@ -22,14 +22,14 @@ on_link c =
     let i = event_in c.args.self.now w (Take c.args.r c.args.d c.args.n) c.self.view_is c.requires in
     sym (c.has.ensures ∙ ap (has c.args.n) c.index.ensures ∙ c.self.invariant.world.parts.sent.at c.args.d.0 c.index.result.now i.1 c.args.n i.2)
 
-pub invariant_of-self-then-r-self : goal.invariant_of-self-then-r-self
-invariant_of-self-then-r-self c =
+pub invariant_of-self : goal.invariant_of-self
+invariant_of-self c =
     let w = view_of c.self.inside in
     let e = Take c.args.r c.args.d c.args.n in
     let i = event_in c.args.self.now w e c.self.view_is c.requires in
     record {
       charter = c.self.invariant.charter;
-      world = notes_void w e told.VoidReplica _ (rw c.in_ok-reserve.ensures.items at c.noted.ensures.events) c.self.invariant.world i (no_replica w.setting c.args.r _ c.if-r-self.true) refl;
+      world = notes_void w e told.VoidReplica _ c.noted.ensures.events c.self.invariant.world i (no_replica w.setting c.args.r _ c.if-r-self.true) refl;
     }
 
 pub invariant_of-self-then-not-has : goal.invariant_of-self-then-not-has
@@ -42,7 +42,7 @@ invariant_of-self-then-not-has c =
     let given : told.VoidLink ≡ answer w.setting H e = sym (take_told w.setting H c.args.r c.args.d c.args.n c.if-r-self.false ∙ ap (λ b. cond b told.Taken told.VoidLink) none) in
     record {
       charter = c.self.invariant.charter;
-      world = notes_void w e told.VoidLink _ (rw c.in_ok-reserve.ensures.items at c.noted-then-not-has.ensures.events) c.self.invariant.world i given refl;
+      world = notes_void w e told.VoidLink _ c.noted-then-not-has.ensures.events c.self.invariant.world i given refl;
     }
 
 window_at : (c : After-index-2) → IsWindowOf (view_of c.self.inside).setting (history (view_of c.self.inside).setting (view_of c.self.inside).events) c.args.d.0 c.index-2.result.now
@@ -72,6 +72,6 @@ invariant_of-self-2 c =
     let message : c.in_ok-message.message ≡ message_of w.setting c.args.d.0 c.args.n = c.in_ok-message.ensures ∙ ap (λ l. get_or l.messages (c.args.n - 1) no_message) window.line in
     record {
       charter = c.self.invariant.charter;
-      world = notes_hand w e told.Taken c.args.r c.take.new.self (hands.Taken c.args.d (inputs.Message c.in_ok-message.message)) _ c.take.ensures (rw c.in_ok-reserve.ensures.items at c.noted-2.ensures.events) c.self.invariant.world i given
+      world = notes_hand w e told.Taken c.args.r c.take.new.self (hands.Taken c.args.d (inputs.Message c.in_ok-message.message)) _ c.take.ensures c.noted-2.ensures.events c.self.invariant.world i given
           (takes w.setting H w.parts c.args.r c.args.d c.args.n c.in_ok-message.message message (i.0.0, c.if-r-self.false) c.self.invariant.world.parts);
     }

@@ -25,7 +25,7 @@ invariant_of-self-in_default c =
     let void = write_void w.setting H c.args.r (hand c.args.r H) (λ d v entry h. n d v entry (is_hand ∙ h)) refl c.if-r-self.false in
     record {
       charter = c.self.invariant.charter;
-      world = notes_void w e told.VoidHand _ (rw c.in_ok-reserve.ensures.items at c.noted-in_default.ensures.events) is c.requires void refl;
+      world = notes_void w e told.VoidHand _ c.noted-in_default.ensures.events is c.requires void refl;
     }
 
 pub written-requires-clause-may : goal.written-requires-clause-may
@@ -50,7 +50,7 @@ invariant_of-self-2 c =
     let made = was_written (goal.at.invariant_of-self-2 c).In_ok-commit in
     record {
       charter = c.written.ensures.charter ∙ c.self.invariant.charter;
-      world = notes w e a _ _ (rw c.in_ok-reserve.ensures.items at c.noted-2.ensures.events) c.self.invariant.world made.event made.given
+      world = notes w e a _ _ c.noted-2.ensures.events c.self.invariant.world made.event made.given
           (subst (λ (h : Hand). ArePartsOf w.setting ((e, a) ∷ history w.setting w.events) (record w.parts { rows = c.written.new.store.rows; hands = set w.parts.hands (c.args.r - 1) h })) (sym c.in_ok-commit.ensures.empty) made.parts);
     }
 
@@ -58,4 +58,4 @@ pub returns-clause-ok : goal.returns-clause-ok
 returns-clause-ok c =
     let w = view_of c.self.inside in
     let made = was_written (goal.at.returns-clause-ok c).In_ok-commit in
-    gives c.args.self.now w (Write c.args.r) c.noted-2.result _ _ c.self.view_is (rw c.in_ok-reserve.ensures.items at c.noted-2.ensures.events) (c.noted-2.ensures.answer ∙ c.commit_answer.ensures ∙ made.given)
+    gives c.args.self.now w (Write c.args.r) c.noted-2.result _ _ c.self.view_is c.noted-2.ensures.events (c.noted-2.ensures.answer ∙ c.commit_answer.ensures ∙ made.given)
