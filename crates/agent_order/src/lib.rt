@@ -2,38 +2,42 @@
 #![tactic(auto)]
 
 ghost use Rattle.std.specs.Prelude.{◌≡◌, ◌≤◌, ◌↔◌, length, IsSome, IfSome, option_copied};
+ghost use Rattle.std.specs.Arc.{arc_value};
 ghost use Rattle.device_types.specs.Line.{IsNumbered};
 
-use device_types::Message;
+use device_types::{Message, Messages};
+use std::alloc::Global;
 use std::marker::Model;
+use std::sync::Arc;
 
 /// The messages of a device in order, numbered from 1 without gaps, and the number of the last one that is acknowledged, or 0.
-/// Contracts see both.
+/// Contracts see both. The messages are shared with whoever else has them.
 #[derive(Debug, Drop)]
 pub struct Line {
-    items: Vec<Message>,
+    items: Arc<Messages, Global>,
     settled: u64,
 }
 
 impl Model for Line {
     ghost use Rattle.std.specs.Prelude.{◌≤◌, length};
+    ghost use Rattle.std.specs.Arc.{arc_value};
     ghost use Rattle.device_types.specs.Line.{IsNumbered};
     ghost use Rattle.agent_order.specs.Order.{LineState};
 
     ghost Value = { LineState };
 
-    ghost view = { λ line. record { messages = line.items.items; acked = line.settled } };
+    ghost view = { λ line. record { messages = arc_value line.items; acked = line.settled } };
 
-    ghost invariant = { λ line. IsNumbered line.items.items × (line.settled ≤ length line.items.items) };
+    ghost invariant = { λ line. IsNumbered (arc_value line.items) × (line.settled ≤ length (arc_value line.items)) };
 }
 
 impl Line {
     ghost use Rattle.agent_order.specs.Order.{message_at, unsettled_of};
 
     /// The line of these messages, of which none is acknowledged. It takes no memory.
-    pub fn new(messages: Vec<Message>) -> Line
-        requires { IsNumbered messages.items }
-        ensures { result ≡ record { messages = messages.items; acked = 0 } }
+    pub fn new(messages: Arc<Messages, Global>) -> Line
+        requires { IsNumbered (arc_value messages) }
+        ensures { result ≡ record { messages = arc_value messages; acked = 0 } }
     {
         Line {
             items: messages,
@@ -48,7 +52,7 @@ impl Line {
         ensures within { IsSome result ↔ ((1 ≤ n) × (n ≤ length self.now.messages)) }
     {
         let index = n.checked_sub(1)?;
-        self.items.get(index as usize)
+        self.items.items().get(index as usize)
     }
 
     /// The first message that is not acknowledged, or `None` where all are. It takes no memory.
@@ -66,7 +70,7 @@ impl Line {
     pub fn len(&self) -> u64
         ensures { result ≡ length self.now.messages }
     {
-        self.items.len() as u64
+        self.items.items().len() as u64
     }
 
     /// The number of the last message that is acknowledged, or 0. It takes no memory.

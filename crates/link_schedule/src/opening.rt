@@ -1,5 +1,6 @@
 //! A world before any event.
 ghost use Rattle.std.specs.Prelude.{◌≡◌, ◌≤◌, [], length, map, replicate, All, IfOk};
+ghost use Rattle.std.specs.Arc.{arc_value};
 ghost use Rattle.device_types.specs.Line.{IsLine};
 ghost use Rattle.device_types.specs.Numbers.{IsWithin};
 ghost use Rattle.replica_worker.specs.declared.hand.Hand.TheVariants as hands;
@@ -10,12 +11,13 @@ use crate::event_log::EventLog;
 use crate::marks::{LaneMarks, Marks};
 use crate::world::{Agent, World};
 use agent_order::Line;
-use device_types::{Book, Messages, TryCopy};
+use device_types::{Book, Messages};
 use peer_gateway::Gateway;
 use peer_subscriber::SubscriberPeer;
 use replica_worker::Replica;
 use session_store::{EchoLaw, RowLaw, Store};
 use std::alloc::{AllocError, Global};
+use std::sync::Arc;
 use subs_table::SubsTable;
 
 /// So many replicas that hold nothing.
@@ -29,14 +31,14 @@ fn idle_replicas(alloc: Global, count: u32) -> Result<Vec<Replica>, AllocError>
     Ok(replicas)
 }
 
-/// An agent with the messages of each line, that has sent none.
-fn agents_of(alloc: Global, lines: &[Messages]) -> Result<Vec<Agent>, AllocError>
-    requires { All IsLine lines.now }
-    ensures { IfOk result (λ agents. agents.items ≡ map fresh_window lines.now) }
+/// An agent with the messages of each line, which it shares, that has sent none.
+fn agents_of(alloc: Global, lines: &[Arc<Messages, Global>]) -> Result<Vec<Agent>, AllocError>
+    requires { All IsLine (map arc_value lines.now) }
+    ensures { IfOk result (λ agents. agents.items ≡ map fresh_window (map arc_value lines.now)) }
 {
     let mut agents = Vec::new(alloc);
     for line in lines {
-        let line = Line::new(line.copy()?.into_items());
+        let line = Line::new(Arc::try_clone(line)?);
         agents.push(Agent::new(alloc, line))?;
     }
     Ok(agents)

@@ -2,8 +2,9 @@
 ghost use Rattle.std.specs.Prelude.{◌≡◌, IfOk, length};
 
 use agent_order::Line;
-use device_types::{Body, Message};
+use device_types::{Body, Message, Messages};
 use std::alloc::{AllocError, Global};
+use std::sync::Arc;
 use std::test::Fail;
 
 /// What is asked of a line of three messages, a number, and what comes: `message` the number of the message, `acked` the first
@@ -39,7 +40,7 @@ fn line_of_three(alloc: Global) -> Result<Line, Fail>
     ensures { IfOk result (λ line. (line.acked ≡ 0) × (length line.messages ≡ 3)) }
 {
     let messages = Vec::from_array(alloc, [message(1), message(2), message(3)])?;
-    Ok(Line::new(messages))
+    Ok(Line::new(Arc::new(alloc, Messages::from(messages))?))
 }
 
 /// Tells the number of message `n`.

@@ -3,8 +3,9 @@ ghost use Rattle.std.specs.Prelude.{◌≡◌};
 
 use agent_order::Line;
 use agent_resend::Window;
-use device_types::{Body, CauseCode, Down, Effects, Message, Reply};
+use device_types::{Body, CauseCode, Down, Effects, Message, Messages, Reply};
 use std::alloc::{AllocError, Global};
+use std::sync::Arc;
 use std::test::Fail;
 
 /// What happens on a line of three, its number, and what it comes to; at last how many messages to the device were accepted, and
@@ -148,7 +149,8 @@ fn tell_steps(
 fn takes_what_arrives(rt: HostRuntime) -> Result<(), Fail> {
     let alloc = rt.alloc();
     let messages = Vec::from_array(alloc, [message(1), message(2), message(3)])?;
-    let mut window = Window::new(alloc, Line::new(messages));
+    let line = Line::new(Arc::new(alloc, Messages::from(messages))?);
+    let mut window = Window::new(alloc, line);
     let mut told = String::new(alloc);
     tell_steps(alloc, &mut window, OF_THREE, &mut told)?;
     assert_eq!(rt; told.as_str(), OF_THREE);
@@ -159,7 +161,8 @@ fn takes_what_arrives(rt: HostRuntime) -> Result<(), Fail> {
 fn tells_the_number_that_it_means(rt: HostRuntime) -> Result<(), Fail> {
     let alloc = rt.alloc();
     let messages = [message(1), message(2), message(3), message(4), message(5)];
-    let line = Line::new(Vec::from_array(alloc, messages)?);
+    let messages = Vec::from_array(alloc, messages)?;
+    let line = Line::new(Arc::new(alloc, Messages::from(messages))?);
     let mut window = Window::new(alloc, line);
     let mut told = String::new(alloc);
     tell_steps(alloc, &mut window, OF_FIVE, &mut told)?;
