@@ -60,7 +60,7 @@ fn add_message(lines: &mut Vec<Messages>, t: Taken) -> Result<(), OutOfMemory>
     ensures { OnOk result (lines.new.items ≡ slice_set lines.old.items (t.device.0 - 1)
         (and_message (slice_index_or lines.old.items (t.device.0 - 1) []) t)) }
 {
-    let messages = &mut lines[t.device.0 as usize - 1];
+    let messages = &mut lines[t.device.index()];
     push_message(messages, t)
 }
 

@@ -140,7 +140,7 @@ impl World {
         ensures err { OnErr result (self.new ≡ self.old) }
     {
         let lane = Lane::Down;
-        let index = d.0 as usize - 1;
+        let index = d.index();
         let down = down_on_link(&self.agents[index], &self.store, d, k)?;
         let taken = self.agents[index].take_down(k, down)?;
         let answer = down_answer(taken);
@@ -188,7 +188,8 @@ impl World {
         ensures ok { IfOk result (Answers self.old self.new (Event.Effect d lane k)) }
         ensures err { OnErr result (self.new ≡ self.old) }
     {
-        if !self.pushed[d.0 as usize - 1].has(lane, k) {
+        let index = d.index();
+        if !self.pushed[index].has(lane, k) {
             let event = Event::Effect { d, lane, k };
             return Ok(self.log.noted(event, EventAnswer::VoidLink));
         }

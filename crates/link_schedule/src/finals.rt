@@ -28,7 +28,7 @@ impl World {
         Ok(DeviceEnd {
             messages: self.taken_count(d),
             steps: row.version(),
-            downs: copied_downs(alloc, self.agents[d.0 as usize - 1].downs())?,
+            downs: copied_downs(alloc, self.agent(d).downs())?,
             gateway: self.gateway.calls(alloc, d)?,
             subscriber: self.server.calls(alloc, d)?,
             session: row.session()?,

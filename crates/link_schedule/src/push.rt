@@ -36,7 +36,8 @@ impl World {
         if !is_in_row(&self.store, d, lane, k)? {
             return Ok(self.log.noted(event, EventAnswer::VoidOutbox));
         }
-        self.pushed[d.0 as usize - 1].mark(lane, k)?;
+        let index = d.index();
+        self.pushed[index].mark(lane, k)?;
         Ok(self.log.noted(event, EventAnswer::Pushed))
     }
 }

@@ -38,7 +38,8 @@ impl World {
         let Some(reply) = reply else {
             return Ok(self.log.noted(event, EventAnswer::VoidLink));
         };
-        let taken = self.agents[d.0 as usize - 1].take_reply(&reply);
+        let index = d.index();
+        let taken = self.agents[index].take_reply(&reply);
         Ok(self.log.noted(event, reply_answer(n, taken)))
     }
 }

@@ -16,7 +16,7 @@ impl World {
         ensures err { OnErr result (self.new ≡ self.old) }
     {
         let event = Event::Send { d, n };
-        let index = d.0 as usize - 1;
+        let index = d.index();
         if !self.agents[index].may_send(n) {
             return Ok(self.log.noted(event, EventAnswer::VoidWindow));
         }

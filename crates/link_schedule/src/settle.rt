@@ -26,8 +26,9 @@ impl World {
         requires { IsWithin (length self.now.setting.rows) d.0 }
         ensures { result ≡ accepted d.0 lane (history self.now.setting self.now.events) }
     {
+        let index = d.index();
         match lane {
-            Lane::Down => self.agents[d.0 as usize - 1].downs().len() as u64,
+            Lane::Down => self.agents[index].downs().len() as u64,
             Lane::Gateway => self.gateway.accepted(d),
             Lane::Subscriber => self.server.accepted(d),
         }

@@ -59,7 +59,7 @@ impl World {
         requires { IsWithin (length self.now.setting.rows) d.0 }
         ensures { result ≡ message_count self.now.setting d.0 }
     {
-        self.agents[d.0 as usize - 1].line().len()
+        self.agent(d).line().len()
     }
 
     /// How many messages its agent has learnt to be taken. It takes no memory.
@@ -67,7 +67,7 @@ impl World {
         requires { IsWithin (length self.now.setting.rows) d.0 }
         ensures { result ≡ acked_in self.now d.0 }
     {
-        self.agents[d.0 as usize - 1].line().acked()
+        self.agent(d).line().acked()
     }
 
     /// Effect `k`, which is the next one of its lane, is put on the link and arrives.

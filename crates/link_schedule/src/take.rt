@@ -32,7 +32,7 @@ impl World {
         if r > self.count {
             return Ok(self.log.noted(event, EventAnswer::VoidReplica));
         }
-        let index = d.0 as usize - 1;
+        let index = d.index();
         if !self.sent[index].has(n) {
             return Ok(self.log.noted(event, EventAnswer::VoidLink));
         }

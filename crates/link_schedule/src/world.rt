@@ -3,7 +3,8 @@ ghost use Rattle.std.specs.Prelude.{◌≡◌, ◌≤◌, ◌-◌, ◌^◌, leng
 ghost use Rattle.std.specs.Arc.{arc_value};
 ghost use Rattle.device_types.specs.Numbers.{IsWithin};
 ghost use Rattle.schedule_laws.specs.Setting.{no_row};
-ghost use Rattle.link_schedule.specs.World.{IsWorld};
+ghost use Rattle.link_schedule.specs.Settled.{turns_in};
+ghost use Rattle.link_schedule.specs.World.{IsWorld, IsWindowOf};
 
 use crate::event_log::EventLog;
 use crate::marks::{LaneMarks, Marks};
@@ -59,6 +60,14 @@ impl World {
         self.log.count()
     }
 
+    /// The agent of the device. It takes no memory.
+    pub(crate) fn agent(&self, d: DeviceId) -> &Agent
+        requires { IsWithin (length self.now.setting.rows) d.0 }
+        ensures { IsWindowOf self.now.setting (turns_in self.now) d.0 result.now }
+    {
+        &self.agents[d.index()]
+    }
+
     /// What holds of every world: each part is what its events make of it. It does nothing at run time.
     pub fn recall(&self)
         ensures { IsWorld self.now }
@@ -74,5 +83,5 @@ pub(crate) fn row_at(law: &EchoLaw, d: DeviceId) -> &Subscriber
     ensures number { result.now.number ≡ d.0 }
     ensures tunnel { result.now.teid ≤ 4000000000 }
 {
-    &law.charter().rows()[d.0 as usize - 1]
+    &law.charter().rows()[d.index()]
 }

@@ -111,7 +111,7 @@ impl<L: RowLaw> Store<L> {
         requires { IsDevice (length self.now.rows) d.0 }
         ensures { result.now ≡ row_of self.now.rows d.0 }
     {
-        &self.rows[d.0 as usize - 1]
+        &self.rows[d.index()]
     }
 
     /// What is seen of the row of a device, about an input: with the reply exactly where it is a repeat. It changes nothing, and fails for want of memory alone.
@@ -124,7 +124,7 @@ impl<L: RowLaw> Store<L> {
         ensures ok { IfOk result (λ seen. seen ≡ seen_of (journal_of self.old.rows d.0) asked) }
         ensures told { IfOk result (λ seen. IsSome seen.reply ↔ IsRepeat seen.look) }
     {
-        let row = &self.rows[d.0 as usize - 1];
+        let row = self.row(d);
         seen_of(row, asked)
     }
 
@@ -141,7 +141,7 @@ impl<L: RowLaw> Store<L> {
         ensures err { OnErr result (self.new ≡ self.old) }
         ensures back { IfErr result (λ room. room.0 ≡ entry) }
     {
-        let row = &mut self.rows[d.0 as usize - 1];
+        let row = &mut self.rows[d.index()];
         row.commit(read, entry)
     }
 
@@ -152,7 +152,7 @@ impl<L: RowLaw> Store<L> {
         ensures value { IfOk result (λ effect. effect ≡ unsettled_effect (row_of self.now.rows d.0) lane k) }
         ensures told { IfOk result (λ effect. IsSome effect ↔ ((number_on (row_of self.now.rows d.0).settled lane < k) × (k ≤ pushed_count lane (journal_of self.now.rows d.0)))) }
     {
-        match self.rows[d.0 as usize - 1].outbox().at(lane, k) {
+        match self.row(d).outbox().at(lane, k) {
             Some(effect) => Ok(Some(effect.copy()?)),
             None => Ok(None),
         }
@@ -165,7 +165,7 @@ impl<L: RowLaw> Store<L> {
         ensures value { result ≡ settled_by (number_on (row_of self.old.rows d.0).settled lane) k }
         ensures state { self.new ≡ record self.old { rows = slice_set self.old.rows (d.0 - 1) (with_settled (row_of self.old.rows d.0) lane k) } }
     {
-        self.rows[d.0 as usize - 1].settle(lane, k)
+        self.rows[d.index()].settle(lane, k)
     }
 }
 

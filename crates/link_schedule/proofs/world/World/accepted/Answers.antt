@@ -16,7 +16,7 @@ returns-in-Down c =
     let is = c.self.invariant.world in
     let within = device_in c.args.self.now w c.args.d.0 c.self.view_is c.requires in
     let agent = c.index.result.now in
-    let own = window_read w.setting H w.parts c.args.d.0 agent c.index.ensures within is.parts in
+    let own = window_read w.setting H w.parts c.args.d.0 agent (rw (← c.index-index.ensures) c.index.ensures) within is.parts in
     let count = ap length c.downs.ensures ∙ downs_count w.setting H c.args.d.0 agent is.lawful own ∙ ap (λ l. accepted c.args.d.0 l H) (sym c.in-Down.is) in
     subst (λ (x : WorldState). length c.downs.result.now ≡ accepted c.args.d.0 c.args.lane (history x.setting x.events)) c.self.view_is count
 

@@ -22,7 +22,7 @@ window_at : (c : After-index) → IsWindowOf (view_of c.self.inside).setting (hi
 window_at c =
     let w = view_of c.self.inside in
     let i = event_in c.args.self.now w (Effect c.args.d Down c.args.k) c.self.view_is c.requires.event in
-    window_read w.setting (history w.setting w.events) w.parts c.args.d.0 c.index.result.now c.index.ensures i.0 c.self.invariant.world.parts
+    window_read w.setting (history w.setting w.events) w.parts c.args.d.0 c.index.result.now (rw (← c.index-index.ensures) c.index.ensures) i.0 c.self.invariant.world.parts
 
 pub down_on_link-requires-clause-there : goal.down_on_link-requires-clause-there
 down_on_link-requires-clause-there c =
@@ -42,7 +42,7 @@ arrived c own =
     let i = event_in c.args.self.now w (Effect c.args.d Down c.args.k) c.self.view_is c.requires.event in
     let on = on_link_in c.args.self.now w c.args.d.0 Down c.args.k c.self.view_is c.requires.pushed in
     let got : slice_get (effects_of Down (entries_of w.setting c.args.d.0)) (c.args.k - 1) ≡ Some (effects.Down c.in_ok-down.down) = sym (content_is w.setting H c.args.d.0 Down c.args.k _ _ is.lawful on (is.parts.rows.at c.args.d.0 opening_row i.0) own.downs) ∙ c.in_ok-down.ensures in
-    let both = downs w.setting H w.parts c.args.d c.args.k c.in_ok-down.down c.index_mut.result.now c.take_down.new.self is.lawful on c.index_mut.ensures.value (c.in_ok-taken.ensures.state ∙ ap (after_down c.index_mut.result.now c.in_ok-down.down) c.in_ok-taken.ensures.value) got i.0 is.parts in
+    let both = downs w.setting H w.parts c.args.d c.args.k c.in_ok-down.down c.index_mut.result.now c.take_down.new.self is.lawful on (rw (← c.index-index.ensures) c.index_mut.ensures.value) (c.in_ok-taken.ensures.state ∙ ap (after_down c.index_mut.result.now c.in_ok-down.down) c.in_ok-taken.ensures.value) got i.0 is.parts in
     record { event = i; given = both.0; parts = both.1 }
 
 pub invariant_of-self-2 : goal.invariant_of-self-2
@@ -50,14 +50,16 @@ invariant_of-self-2 c =
     let w = view_of c.self.inside in
     let path = goal.at.invariant_of-self-2 c in
     let made = arrived path.In_ok-taken (window_at path.After-index) in
-    record {
+    rw c.index-index.ensures
+    (record {
       charter = c.self.invariant.charter;
       world = notes w (Effect c.args.d Down c.args.k) _ _ c.noted.new.self c.noted.ensures.events c.self.invariant.world made.event made.given made.parts;
-    }
+    })
 
 pub returns-clause-ok : goal.returns-clause-ok
 returns-clause-ok c =
     let w = view_of c.self.inside in
     let path = goal.at.returns-clause-ok c in
     let made = arrived path.In_ok-taken (window_at path.After-index) in
-    gives c.args.self.now w (Effect c.args.d Down c.args.k) c.noted.result _ c.noted.new.self c.self.view_is c.noted.ensures.events (c.noted.ensures.answer ∙ c.down_answer-answer.ensures ∙ ap down_answer c.in_ok-taken.ensures.value ∙ made.given)
+    rw c.index-index.ensures
+    (gives c.args.self.now w (Effect c.args.d Down c.args.k) c.noted.result _ c.noted.new.self c.self.view_is c.noted.ensures.events (c.noted.ensures.answer ∙ c.down_answer-answer.ensures ∙ ap down_answer c.in_ok-taken.ensures.value ∙ made.given))

@@ -15,7 +15,7 @@ on_link : (c : After-has) → effect_pushed c.args.d.0 c.args.lane c.args.k (his
 on_link c =
     let w = view_of c.self.inside in
     let i = event_in c.args.self.now w (Effect c.args.d c.args.lane c.args.k) c.self.view_is c.requires in
-    sym (marked w.setting (history w.setting w.events) w.parts c.args.d.0 c.args.lane c.args.k c.index.result.now c.index.ensures i.0 i.1 c.self.invariant.world.parts) ∙ sym c.has.ensures
+    sym (marked w.setting (history w.setting w.events) w.parts c.args.d.0 c.args.lane c.args.k c.index.result.now (rw (← c.index-index.ensures) c.index.ensures) i.0 i.1 c.self.invariant.world.parts) ∙ sym c.has.ensures
 
 pub invariant_of-self : goal.invariant_of-self
 invariant_of-self c =

@@ -1,4 +1,4 @@
-use Rattle.std.proofs.Common.{List, [], sym, ap, ◌∙◌}
+use Rattle.std.proofs.Common.{List, [], sym, ap, ◌∙◌, subst}
 use Rattle.std.specs.Prelude.{map}
 use Rattle.device_types.specs.declared.down.Down.{Down as DownMessage}
 use Rattle.device_types.specs.declared.effect.Effect.TheVariants as effects
@@ -8,9 +8,8 @@ use Rattle.device_types.specs.Journal.{version_of, session_of, taken_count}
 use Rattle.link_schedule.specs.Finals.{end_in}
 use Rattle.link_schedule.specs.Settled.{turns_in, journal_in}
 use Rattle.link_schedule.specs.View.{view_of}
-use Rattle.link_schedule.specs.World.{WorldState}
+use Rattle.link_schedule.specs.World.{WorldState, IsWindowOf}
 use Rattle.link_schedule.proofs.Ends.{end_made}
-use Rattle.link_schedule.proofs.Events.{window_read}
 use Rattle.link_schedule.proofs.Noted.{device_in}
 use Rattle.link_schedule.proofs.world.World.end_at.Goals as goal
 
@@ -20,9 +19,8 @@ returns c =
     let d = c.args.d.0 in
     let within = device_in c.args.self.now w d c.self.view_is c.requires in
     let parts = c.self.invariant.world.parts in
-    let agent = c.index.result.now in
-    let own = window_read w.setting (turns_in w) w.parts d agent c.index.ensures within parts in
     let back = sym c.self.view_is in
+    let own = subst (λ (x : WorldState). IsWindowOf x.setting (turns_in x) d c.agent.result.now) back c.agent.ensures in
     let messages = c.taken_count.ensures ∙ ap (λ (x : WorldState). taken_count (journal_in x d)) back in
     let steps = c.version.ensures ∙ ap version_of c.row-row.ensures ∙ ap (λ (x : WorldState). version_of (journal_in x d)) back in
     let downs = ap (λ (ds : List DownMessage). map effects.Down ds) (c.in_ok-copied_downs.ensures ∙ c.downs.ensures) ∙ own.downs in

@@ -29,8 +29,9 @@ invariant_of-self-2 c =
     let i = event_in c.args.self.now w e c.self.view_is c.requires in
     let row = is.parts.rows.at c.args.d.0 opening_row i.0 in
     let pushed = in_row_told w.setting H c.args.d c.args.lane c.args.k _ row (c.in_ok-is_in_row.ensures.0 c.if-not-branch.false) in
-    record {
+    rw c.index-index.ensures
+    (record {
       charter = c.self.invariant.charter;
       world = notes w e told.Pushed _ c.noted-2.new.self c.noted-2.ensures.events is i pushed
-          (pushes w.setting H w.parts c.args.d c.args.lane c.args.k c.index_mut.result.now c.mark.new.self c.index_mut.ensures.value c.in_ok-mark.ensures.ok i.0 is.parts);
-    }
+          (pushes w.setting H w.parts c.args.d c.args.lane c.args.k c.index_mut.result.now c.mark.new.self (rw (← c.index-index.ensures) c.index_mut.ensures.value) c.in_ok-mark.ensures.ok i.0 is.parts);
+    })

@@ -102,7 +102,7 @@ agreed c r =
     let now = c.take_reply-taken.new.self in
     let value : c.take_reply-taken.result ≡ reply_taken was n = c.take_reply-taken.ensures.value ∙ ap (reply_taken was) r.0 in
     let state : now ≡ after_reply was (reply_taken was n) = c.take_reply-taken.ensures.state ∙ ap (after_reply was) value in
-    let both = replies w.setting (history w.setting w.events) w.parts c.args.d n was now is.lawful i.1 r.1 c.index_mut.ensures.value state i.0 is.parts in
+    let both = replies w.setting (history w.setting w.events) w.parts c.args.d n was now is.lawful i.1 r.1 (rw (← c.index-index.ensures) c.index_mut.ensures.value) state i.0 is.parts in
     (ap (reply_answer n) value, record { event = i; given = both.0; parts = both.1 })
 
 pub invariant_of-self-2 : goal.invariant_of-self-2
@@ -111,7 +111,7 @@ invariant_of-self-2 c =
     let n = c.args.n in
     let path = goal.at.invariant_of-self-2 c in
     let made = (agreed path.After-take_reply-taken (replied path.In-Some)).1 in
-    rw c.read.ensures.same
+    rw (c.read.ensures.same, c.index-index.ensures)
     (record {
       charter = c.self.invariant.charter;
       world = notes w (Reply c.args.d n) (reply_answer n (reply_taken c.index_mut.result.now n)) _ _ c.noted-2.ensures.events c.self.invariant.world made.event made.given made.parts;
@@ -125,6 +125,6 @@ returns c =
     let made = agreed path.After-take_reply-taken (replied path.In-Some) in
     let same : c.noted-2.result ≡ reply_answer n (reply_taken c.index_mut.result.now n) = c.noted-2.ensures.answer ∙ c.reply_answer.ensures ∙ made.0 in
     record {
-      ok = rw same (gives c.args.self.now w (Reply c.args.d n) (reply_answer n (reply_taken c.index_mut.result.now n)) _ _ c.self.view_is c.noted-2.ensures.events made.1.given);
+      ok = rw (same, c.index-index.ensures) (gives c.args.self.now w (Reply c.args.d n) (reply_answer n (reply_taken c.index_mut.result.now n)) _ _ c.self.view_is c.noted-2.ensures.events made.1.given);
       err = tt;
     }

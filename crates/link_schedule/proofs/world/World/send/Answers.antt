@@ -14,7 +14,7 @@ told_by c =
     let H = history w.setting w.events in
     let d = c.args.d in
     let i = event_in c.args.self.now w (Send d c.args.n) c.self.view_is c.requires in
-    let window = window_read w.setting H w.parts d.0 c.index.result.now c.index.ensures i.0 c.self.invariant.world.parts in
+    let window = window_read w.setting H w.parts d.0 c.index.result.now (rw (← c.index-index.ensures) c.index.ensures) i.0 c.self.invariant.world.parts in
     send_told w.setting H d c.args.n c.index.result.now window ∙ ap (λ b. cond b told.Sent told.VoidWindow) (sym c.may_send.ensures)
 
 pub invariant_of-self : goal.invariant_of-self
@@ -36,8 +36,9 @@ invariant_of-self-2 c =
     let e = Send d c.args.n in
     let i = event_in c.args.self.now w e c.self.view_is c.requires in
     let given : told.Sent ≡ answer w.setting H e = sym (told_by (goal.at.invariant_of-self-2 c).After-may_send ∙ ap (λ b. cond b told.Sent told.VoidWindow) c.if-not-may_send.false) in
-    record {
+    rw c.index-index.ensures
+    (record {
       charter = c.self.invariant.charter;
       world = notes w e told.Sent _ _ c.noted-2.ensures.events c.self.invariant.world i given
-          (sends w.setting H w.parts d c.args.n c.index_mut-2.result.now c.sent.new.self c.index_mut.result.now c.mark.new.self c.index_mut-2.ensures.value c.sent.ensures c.index_mut.ensures.value c.in_ok-mark.ensures.ok i.0 c.self.invariant.world.parts);
-    }
+          (sends w.setting H w.parts d c.args.n c.index_mut-2.result.now c.sent.new.self c.index_mut.result.now c.mark.new.self (rw (← c.index-index.ensures) c.index_mut-2.ensures.value) c.sent.ensures (rw (← c.index-index.ensures) c.index_mut.ensures.value) c.in_ok-mark.ensures.ok i.0 c.self.invariant.world.parts);
+    })

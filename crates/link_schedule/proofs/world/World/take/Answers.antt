@@ -1,4 +1,4 @@
-use Rattle.std.proofs.Common.{◌≡◌, ◌-◌, true, false, cond, get_or, refl, sym, ap, ◌∙◌}
+use Rattle.std.proofs.Common.{◌≡◌, ℕ, ◌-◌, true, false, cond, get_or, refl, sym, ap, ◌∙◌}
 use Rattle.device_types.specs.declared.event.Event.TheVariants.{Take}
 use Rattle.device_types.specs.declared.event.EventAnswer.TheVariants as told
 use Rattle.device_types.specs.declared.input.Input.TheVariants as inputs
@@ -20,7 +20,7 @@ on_link : (c : After-has) → message_sent c.args.d.0 c.args.n (history (view_of
 on_link c =
     let w = view_of c.self.inside in
     let i = event_in c.args.self.now w (Take c.args.r c.args.d c.args.n) c.self.view_is c.requires in
-    sym (c.has.ensures ∙ ap (has c.args.n) c.index.ensures ∙ c.self.invariant.world.parts.sent.at c.args.d.0 c.index.result.now i.1 c.args.n i.2)
+    sym (c.has.ensures ∙ ap (has c.args.n) (c.index.ensures ∙ ap (λ (i : ℕ). get_or (view_of c.self.inside).parts.sent i c.index.result.now) c.index-index.ensures) ∙ c.self.invariant.world.parts.sent.at c.args.d.0 c.index.result.now i.1 c.args.n i.2)
 
 pub invariant_of-self : goal.invariant_of-self
 invariant_of-self c =
@@ -49,7 +49,7 @@ window_at : (c : After-index-2) → IsWindowOf (view_of c.self.inside).setting (
 window_at c =
     let w = view_of c.self.inside in
     let i = event_in c.args.self.now w (Take c.args.r c.args.d c.args.n) c.self.view_is c.requires in
-    window_read w.setting (history w.setting w.events) w.parts c.args.d.0 c.index-2.result.now c.index-2.ensures i.1 c.self.invariant.world.parts
+    window_read w.setting (history w.setting w.events) w.parts c.args.d.0 c.index-2.result.now (rw (← c.index-index.ensures) c.index-2.ensures) i.1 c.self.invariant.world.parts
 
 pub message_at-requires-clause-within : goal.message_at-requires-clause-within
 message_at-requires-clause-within c =

@@ -18,7 +18,7 @@ commit-requires g c =
     let follows = g.L.RowLaw.follows charter d in
     let is = subst (λ (s : StoreState). IsDevice (length s.rows) d) (sym c.self.view_is) c.requires.device in
     let may = subst (λ (s : StoreState). g.L.RowLaw.follows s.charter d (take c.args.read (journal_of s.rows d)) c.args.entry) (sym c.self.view_is) c.requires.law in
-    let row = row_is rows d old is c.index_mut-row.ensures.value in
+    let row = row_is rows d old is (rw (← c.index.ensures) c.index_mut-row.ensures.value) in
     let can = law_can_follow follows (journal_of rows d) c.args.read c.args.entry (λ J. g.met.L.RowLaw.can_follow charter d J c.args.entry c.self.invariant.in_form) (c.self.invariant.lawful d is) may in
     let here = subst (λ (r : RowState). CanFollow (take c.args.read r.journal) c.args.entry) row can in (
       lit< tt,
@@ -42,7 +42,7 @@ invariant_of-self g c =
     record {
       in_form = c.self.invariant.in_form;
       lawful = rows_stay_lawful (g.L.RowLaw.follows charter) rows d c.index_mut-row.result.now c.commit.new.self c.args.read c.args.entry c.commit.result c.self.invariant.lawful is
-          (row_is rows d c.index_mut-row.result.now is c.index_mut-row.ensures.value) c.commit.ensures.ok c.commit.ensures.err may;
+          (row_is rows d c.index_mut-row.result.now is (rw (← c.index.ensures) c.index_mut-row.ensures.value)) c.commit.ensures.ok c.commit.ensures.err may;
     }
 
 pub returns-clause-lawful : goal.returns-clause-lawful
