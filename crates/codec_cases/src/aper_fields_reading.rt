@@ -6,7 +6,7 @@ use aper_fields::{
     read_octets_fixed, read_open,
 };
 use echo_base::{Reason, Refusal};
-use std::alloc::{AllocError, Global};
+use std::alloc::Global;
 use std::fmt::Debug;
 use std::test::Fail;
 
@@ -86,11 +86,12 @@ c0010000 17 bits = 3 NonZeroPadding at 10
 ";
 
 /// Writes what was read, as the tables have it.
-fn tell<T: Debug + Drop>(text: &mut String, read: Result<T, Refusal>) -> Result<(), AllocError> {
+fn tell<T: Debug + Drop>(text: &mut String, read: Result<T, Refusal>) -> Result<(), Fail> {
     match read {
-        Ok(value) => write!(text, "{value:?}"),
-        Err(refusal) => write!(text, "{refusal}"),
+        Ok(value) => write!(text, "{value:?}")?,
+        Err(refusal) => write!(text, "{refusal}")?,
     }
+    Ok(())
 }
 
 /// The end of an open type round a value of no bits.
@@ -101,8 +102,8 @@ fn read_no_bits(r: &mut BitReader) -> Result<(), Refusal> {
     close(&content, &inside)
 }
 
-/// Writes what is read of a piece that a table names.
-fn tell_piece(text: &mut String, r: &mut BitReader, piece: &str) -> Result<(), AllocError> {
+/// Writes what is read of a piece that a table names. It fails where the table names no piece.
+fn tell_piece(text: &mut String, r: &mut BitReader, piece: &str) -> Result<(), Fail> {
     match piece {
         "length" => tell(text, read_len(r)),
         "3 roots" => tell(text, read_enum(r, 3, false)),
@@ -119,7 +120,7 @@ fn tell_piece(text: &mut String, r: &mut BitReader, piece: &str) -> Result<(), A
 }
 
 /// Writes what is read of a number of a range that a table names.
-fn tell_number(text: &mut String, r: &mut BitReader, range: &str) -> Result<(), AllocError> {
+fn tell_number(text: &mut String, r: &mut BitReader, range: &str) -> Result<(), Fail> {
     match range {
         "7..7" => tell(text, Ranged::<7, 7>::read(r)),
         "0..2" => tell(text, Ranged::<0, 2>::read(r)),
@@ -129,7 +130,7 @@ fn tell_number(text: &mut String, r: &mut BitReader, range: &str) -> Result<(), 
         "0..65535" => tell(text, Ranged::<0, 65535>::read(r)),
         "0..65536" => tell(text, Ranged::<0, 65536>::read(r)),
         "0..16777215" => tell(text, Ranged::<0, 16777215>::read(r)),
-        _ => text.push_str("no piece"),
+        _ => Err(Fail::new("no piece")),
     }
 }
 
@@ -149,7 +150,7 @@ fn tell_case(alloc: Global, text: &mut String, line: &str, behind_a_bit: bool) -
     Ok(())
 }
 
-/// The table, with what is read.
+/// The table, with what is read of the octets of each case, or of those behind their first bit.
 fn told(alloc: Global, table: &str, behind_a_bit: bool) -> Result<String, Fail> {
     let mut text = String::new(alloc);
     for line in table.lines() {

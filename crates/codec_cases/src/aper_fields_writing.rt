@@ -48,7 +48,7 @@ fn root(index: u64) -> EnumValue
     }
 }
 
-/// Writes a number of the range.
+/// Writes a whole number from LOW to HIGH. It fails where the table has another value for the range.
 fn write_ranged<const LOW: u64, const HIGH: u64>(w: &mut BitWriter, value: u64) -> Result<(), Fail>
     requires small { HIGH < 2 ^ 63 }
 {

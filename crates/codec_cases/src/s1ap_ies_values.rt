@@ -4,7 +4,7 @@ use crate::s1ap_ies_tables::{
     BIT_RATES, CAUSES, CGIS, ERABS_DONE, ERABS_TO_SETUP, ITEMS, SEC_CAPS, STMSIS, TAIS, UE_IDS,
 };
 use crate::s1ap_ies_written::Written;
-use crate::tables::digits_of;
+use crate::tables::told;
 use aper_fields::{BitReader, BitWriter, end};
 use device_types::Octets;
 use echo_base::{Bad, OutOfMemory};
@@ -35,7 +35,7 @@ fn tell_octets<T: Written>(
     text.push_str(&digits)
 }
 
-/// Writes what stands behind a value.
+/// Writes what stands behind a value, where that is not the end of its container: the UE S1AP IDs that are read there.
 fn tell_rest(text: &mut String, r: &mut BitReader) -> Result<(), OutOfMemory> {
     if end(r).is_ok() {
         return Ok(());
@@ -68,17 +68,11 @@ fn tell_each<T: Written + Debug>(
     text: &mut String,
     table: &str,
 ) -> Result<(), Fail> {
-    for line in table.lines() {
-        match digits_of(line) {
-            Some(digits) => {
-                text.push_str(digits)?;
-                text.push(' ')?;
-                tell::<T>(alloc, text, &hex::decode(alloc, digits)?)?;
-            }
-            None => text.push_str(line)?,
-        }
-        text.push('\n')?;
-    }
+    let told = told(alloc, table, |alloc, text, octets| {
+        tell::<T>(alloc, text, octets)?;
+        Ok(())
+    })?;
+    text.push_str(&told)?;
     Ok(())
 }
 
@@ -137,15 +131,10 @@ fn tell_item(alloc: Global, text: &mut String, octets: &[u8]) -> Result<(), OutO
 
 #[test]
 fn items(rt: HostRuntime) -> Result<(), Fail> {
-    let mut text = String::new(rt.alloc());
-    for line in ITEMS.lines() {
-        if let Some(digits) = digits_of(line) {
-            text.push_str(digits)?;
-            text.push(' ')?;
-            tell_item(rt.alloc(), &mut text, &hex::decode(rt.alloc(), digits)?)?;
-        }
-        text.push('\n')?;
-    }
+    let text = told(rt.alloc(), ITEMS, |alloc, text, octets| {
+        tell_item(alloc, text, octets)?;
+        Ok(())
+    })?;
     assert_eq!(rt; text.as_str(), ITEMS);
     Ok(())
 }

@@ -2,7 +2,7 @@
 //! `2017 00` the header, `0f` the length, `00 0002` the extension bit and the count of IEs, and from octet 7 on the IEs
 //! `0000 40 02 0001` and `0008 40 02 0001`, each an id, a criticality, a length and the content.
 
-use crate::tables::digits_of;
+use crate::tables;
 use echo_base::{Bad, OutOfMemory};
 use s1ap_messages::read_pdu;
 use std::alloc::Global;
@@ -23,19 +23,10 @@ pub(crate) fn tell_refusal(
 
 /// The table, with why the octets of each case are refused.
 pub(crate) fn told(alloc: Global, table: &str) -> Result<String, Fail> {
-    let mut text = String::new(alloc);
-    for line in table.lines() {
-        match digits_of(line) {
-            Some(digits) => {
-                text.push_str(digits)?;
-                text.push(' ')?;
-                tell_refusal(alloc, &mut text, &hex::decode(alloc, digits)?)?;
-            }
-            None => text.push_str(line)?,
-        }
-        text.push('\n')?;
-    }
-    Ok(text)
+    tables::told(alloc, table, |alloc, text, octets| {
+        tell_refusal(alloc, text, octets)?;
+        Ok(())
+    })
 }
 
 #[test]

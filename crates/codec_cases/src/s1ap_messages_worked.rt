@@ -2,7 +2,7 @@
 //! same ones; and what is read, as it is printed. In the comments e is an extension bit and o the bit of the iE-Extensions, both 0
 //! unless shown; p is padding.
 
-use crate::tables::digits_of;
+use crate::tables::told;
 use s1ap_messages::{read_pdu, write_pdu};
 use std::alloc::Global;
 use std::test::Fail;
@@ -21,35 +21,27 @@ pub(crate) fn tell(alloc: Global, text: &mut String, octets: &[u8]) -> Result<()
     Ok(())
 }
 
-/// The table, with what is told of each case.
-fn told(alloc: Global, table: &str) -> Result<String, Fail> {
-    let mut text = String::new(alloc);
-    for line in table.lines() {
-        match digits_of(line) {
-            Some(digits) => {
-                text.push_str(digits)?;
-                text.push(' ')?;
-                tell(alloc, &mut text, &hex::decode(alloc, digits)?)?;
-            }
-            None => text.push_str(line)?,
-        }
-        text.push('\n')?;
-    }
-    Ok(text)
-}
-
 #[test]
 fn worked_messages(rt: HostRuntime) -> Result<(), Fail> {
-    assert_eq!(rt; told(rt.alloc(), NAS_TRANSPORTS)?.as_str(), NAS_TRANSPORTS);
-    assert_eq!(rt; told(rt.alloc(), CONTEXTS)?.as_str(), CONTEXTS);
-    assert_eq!(rt; told(rt.alloc(), OTHER_IES)?.as_str(), OTHER_IES);
-    assert_eq!(rt; told(rt.alloc(), EXTENDED_ITEMS)?.as_str(), EXTENDED_ITEMS);
+    assert_eq!(rt;
+        told(rt.alloc(), NAS_TRANSPORTS, tell)?.as_str(),
+        NAS_TRANSPORTS
+    );
+    assert_eq!(rt; told(rt.alloc(), CONTEXTS, tell)?.as_str(), CONTEXTS);
+    assert_eq!(rt; told(rt.alloc(), OTHER_IES, tell)?.as_str(), OTHER_IES);
+    assert_eq!(rt;
+        told(rt.alloc(), EXTENDED_ITEMS, tell)?.as_str(),
+        EXTENDED_ITEMS
+    );
     Ok(())
 }
 
 #[test]
 fn unlike_fields(rt: HostRuntime) -> Result<(), Fail> {
-    assert_eq!(rt; told(rt.alloc(), UNLIKE_FIELDS)?.as_str(), UNLIKE_FIELDS);
+    assert_eq!(rt;
+        told(rt.alloc(), UNLIKE_FIELDS, tell)?.as_str(),
+        UNLIKE_FIELDS
+    );
     Ok(())
 }
 

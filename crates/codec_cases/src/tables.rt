@@ -1,10 +1,36 @@
 //! Tables of cases, a line each: octets in hexadecimal digits, and behind the first space what is told of them. An empty line, and one
 //! that begins with `#`, is a comment. A test tells each case again, and compares the whole text with the table.
 
+use std::alloc::Global;
+use std::test::Fail;
+
 /// The digits of a case, unless the line is a comment.
 pub(crate) fn digits_of(line: &str) -> Option<&str> {
     if line.is_empty() || line.starts_with('#') {
         return None;
     }
     line.split(' ').next()
+}
+
+/// The table again, with what `tell` writes of the octets of each case. It fails where a case has no octets in hexadecimal digits.
+pub(crate) fn told<F: Fn(Global, &mut String, &[u8]) -> Result<(), Fail>>(
+    alloc: Global,
+    table: &str,
+    tell: F,
+) -> Result<String, Fail>
+    requires { F.IsAlwaysCallable tell }
+{
+    let mut text = String::new(alloc);
+    for line in table.lines() {
+        match digits_of(line) {
+            Some(digits) => {
+                text.push_str(digits)?;
+                text.push(' ')?;
+                tell(alloc, &mut text, &hex::decode(alloc, digits)?)?;
+            }
+            None => text.push_str(line)?,
+        }
+        text.push('\n')?;
+    }
+    Ok(text)
 }
