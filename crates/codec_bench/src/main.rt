@@ -27,7 +27,7 @@ fn counts(rt: &HostRuntime) -> Result<(u32, u32)> {
     Ok((reads, writes))
 }
 
-/// Adds the sample of a line.
+/// Reads a line as a sample and puts it behind the others. It fails where the line is none, as `read_sample` says.
 fn add(alloc: Global, samples: &mut Vec<Sample>, line: &str) -> Result<()>
     requires { All IsSample samples.old.items }
     ensures more { OnOk result (IsMore line.now samples.old.items samples.new.items) }
@@ -38,7 +38,7 @@ fn add(alloc: Global, samples: &mut Vec<Sample>, line: &str) -> Result<()>
     Ok(())
 }
 
-/// The messages on standard input.
+/// Reads a sample from each line of standard input. It fails at the first line that is none, and tells how many were before it.
 fn samples(rt: &HostRuntime) -> Result<Vec<Sample>>
     ensures { IfOk result (λ samples. All IsSample samples.items) }
 {

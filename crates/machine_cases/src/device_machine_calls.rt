@@ -59,50 +59,36 @@ fn pair(text: &str) -> Result<(u16, u32), Fail> {
     Ok((station.parse::<u16>()?, enb.parse::<u32>()?))
 }
 
-/// The octet of the text; no octets where it is no number.
-fn response(alloc: Global, text: &str) -> Result<Octets, AllocError> {
-    match text.parse::<u8>() {
-        Ok(octet) => octets(alloc, octet),
-        Err(_) => Ok(Octets::new(alloc)),
+/// A response of one octet, or of none where the text is empty.
+fn response(alloc: Global, text: &str) -> Result<Octets, Fail> {
+    if text.is_empty() {
+        return Ok(Octets::new(alloc));
+    }
+    Ok(octets(alloc, text.parse::<u8>()?)?)
+}
+
+/// Whether a request comes first on its S1 connection.
+fn is_first(word: &str) -> Result<bool, Fail> {
+    match word {
+        "first" => Ok(true),
+        "later" => Ok(false),
+        _ => Err(Fail::new("neither first nor later")),
     }
 }
 
-/// The tracking area at the end of the words, or area 7.
-fn area(rest: &str) -> u16 {
-    if rest.ends_with("8") {
-        return 8;
+/// Whether a detach is told because the device is switched off.
+fn is_off(word: &str) -> Result<bool, Fail> {
+    match word {
+        "off" => Ok(true),
+        "" => Ok(false),
+        _ => Err(Fail::new("no switch-off")),
     }
-    if rest.ends_with("9") {
-        return 9;
-    }
-    7
 }
 
-/// A message by its name; a tracking area stands for itself, and so does the octet of a response.
-fn body(alloc: Global, word: &str, rest: &str) -> Result<Body, Fail> {
-    let tac = area(rest);
-    let first = rest.starts_with("first");
-    Ok(match word {
-        "Attach" => Body::Attach {
-            plmn: 31,
-            tac,
-            eea: 32,
-            eia: 33,
-            pti: 34,
-        },
+/// A message that is told by its name alone.
+fn bare_body(alloc: Global, name: &str) -> Result<Body, Fail> {
+    Ok(match name {
         "Service" => Body::Service,
-        "Area" => Body::Area {
-            first,
-            plmn: 35,
-            tac,
-        },
-        "Detach" => Body::Detach {
-            first,
-            off: rest.ends_with("off"),
-        },
-        "Response" => Body::Response {
-            res: response(alloc, rest)?,
-        },
         "Secured" => Body::Secured,
         "SecurityRefused" => Body::SecurityRefused,
         "AttachDone" => Body::AttachDone,
@@ -110,10 +96,44 @@ fn body(alloc: Global, word: &str, rest: &str) -> Result<Body, Fail> {
         "ContextFailed" => Body::ContextFailed,
         "ReleaseAsked" => Body::ReleaseAsked { cause: ASKED },
         "Released" => Body::Released,
-        _ => Body::Capability {
+        "Capability" => Body::Capability {
             octets: Octets::from(Vec::from_array(alloc, [61, 62, 63])?),
         },
+        _ => return Err(Fail::new("no such message")),
     })
+}
+
+/// A message by its name, behind which some have words: a tracking area stands for itself, and so does the octet of a response.
+fn body(alloc: Global, text: &str) -> Result<Body, Fail> {
+    let (name, rest) = text.split_once(" ").unwrap_or((text, ""));
+    match name {
+        "Attach" => Ok(Body::Attach {
+            plmn: 31,
+            tac: rest.parse::<u16>()?,
+            eea: 32,
+            eia: 33,
+            pti: 34,
+        }),
+        "Area" => {
+            let (turn, tac) = rest.split_once(" ").ok_or("no area")?;
+            Ok(Body::Area {
+                first: is_first(turn)?,
+                plmn: 35,
+                tac: tac.parse::<u16>()?,
+            })
+        }
+        "Detach" => {
+            let (turn, off) = rest.split_once(" ").unwrap_or((rest, ""));
+            Ok(Body::Detach {
+                first: is_first(turn)?,
+                off: is_off(off)?,
+            })
+        }
+        "Response" => Ok(Body::Response {
+            res: response(alloc, rest)?,
+        }),
+        _ => bare_body(alloc, text),
+    }
 }
 
 /// The cause for which a base station asks for a release.
@@ -126,12 +146,11 @@ const ASKED: CauseCode = CauseCode {
 fn message(alloc: Global, text: &str) -> Result<Message, Fail> {
     let (from, what) = text.split_once(" ").ok_or("no message")?;
     let (station, enb) = pair(from)?;
-    let (word, rest) = what.split_once(" ").unwrap_or((what, ""));
     Ok(Message {
         number: 1,
         station,
         enb,
-        body: body(alloc, word, rest)?,
+        body: body(alloc, what)?,
     })
 }
 

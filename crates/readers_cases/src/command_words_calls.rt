@@ -157,10 +157,18 @@ fn tell(alloc: Global, text: &mut String, line: &str) -> Result<(), AllocError> 
     }
 }
 
-/// Tells the lines of a table again, each with the command that its words are.
-fn tell_each(alloc: Global, text: &mut String, table: &str) -> Result<(), AllocError> {
-    for line in table.lines() {
-        let words = line.split_once(": ").map_or(line, |(words, _)| words);
+/// Tells the commands again, each with what its words are.
+fn tell_commands(alloc: Global, text: &mut String) -> Result<(), Fail> {
+    for line in COMMANDS.lines() {
+        let (words, _) = line.split_once(": ").ok_or("no command")?;
+        tell(alloc, text, words)?;
+    }
+    Ok(())
+}
+
+/// Tells again the words that are no command, each line with what they are.
+fn tell_usages(alloc: Global, text: &mut String) -> Result<(), AllocError> {
+    for words in USAGES.lines() {
         tell(alloc, text, words)?;
     }
     Ok(())
@@ -169,7 +177,7 @@ fn tell_each(alloc: Global, text: &mut String, table: &str) -> Result<(), AllocE
 #[test]
 fn words_are_commands(rt: HostRuntime) -> Result<(), Fail> {
     let mut text = String::new(rt.alloc());
-    tell_each(rt.alloc(), &mut text, COMMANDS)?;
+    tell_commands(rt.alloc(), &mut text)?;
     assert_eq!(rt; text.as_str(), COMMANDS);
     Ok(())
 }
@@ -177,7 +185,7 @@ fn words_are_commands(rt: HostRuntime) -> Result<(), Fail> {
 #[test]
 fn other_words_are_none(rt: HostRuntime) -> Result<(), Fail> {
     let mut text = String::new(rt.alloc());
-    tell_each(rt.alloc(), &mut text, USAGES)?;
+    tell_usages(rt.alloc(), &mut text)?;
     assert_eq!(rt; text.as_str(), USAGES);
     Ok(())
 }

@@ -139,17 +139,23 @@ fn push_column(line: &mut String, key: &str, value: &str) -> Result<(), AllocErr
     line.push_str(",")
 }
 
-/// The good line with another value of a column. A column of no meaning ends it.
+/// The good line, with that value of the column with that key, where a key is given. A column of no meaning ends it. It fails where no
+/// column has the key.
 pub(crate) fn line_with(alloc: Global, key: &str, value: &str) -> Result<String, Fail> {
     let mut line = String::from_str(alloc, "{")?;
+    let mut found = key.is_empty();
     for column in GOOD.lines() {
         let (name, rest) = column.split_once(' ').ok_or("no key")?;
         let (_, good) = rest.split_once(' ').ok_or("no value")?;
         if name == key {
             push_column(&mut line, name, value)?;
+            found = true;
         } else {
             push_column(&mut line, name, good)?;
         }
+    }
+    if !found {
+        return Err(Fail::new("no such column"));
     }
     line.push_str("\"apn2\":null}")?;
     Ok(line)
@@ -164,7 +170,7 @@ fn tell(alloc: Global, text: &mut String, line: &[u8]) -> Result<(), AllocError>
     }
 }
 
-/// Writes a reason.
+/// Writes a reason as it is printed by `{:?}`, and ends the line.
 fn tell_reason(alloc: Global, text: &mut String, reason: &Reason) -> Result<(), AllocError> {
     let told = format!(in alloc; "{reason:?}\n")?;
     text.push_str(told.as_str())
@@ -199,7 +205,7 @@ fn tell_kinds(alloc: Global, text: &mut String, key: &str) -> Result<(), Fail> {
     Ok(())
 }
 
-/// Writes what is wanted there.
+/// Writes, for a column and each value that no column takes, that it is BadColumn with that name.
 fn tell_wanted(text: &mut String, key: &str, name: &str) -> Result<(), AllocError> {
     for value in OTHER_KINDS.split(' ') {
         text.push_str(key)?;

@@ -53,7 +53,7 @@ fn tell_rows(alloc: Global, table: &mut SubsTable, text: &mut String) -> Result<
     Ok(())
 }
 
-/// Writes what look-ups give.
+/// Writes how many rows there are, twice, the third row's IMSI, and what look-ups by IMSIs and M-TMSIs give.
 fn tell_found(alloc: Global, table: &SubsTable, text: &mut String) -> Result<(), Fail> {
     if table.len() < 3 {
         return Err("fewer rows".into());

@@ -173,7 +173,7 @@ fn put_downs(
     Ok(())
 }
 
-/// Puts the line of a call behind a text.
+/// Puts the line of a call to the gateway behind a text: its number on the lane, its name and its values.
 fn put_gateway_line(text: &mut String, number: u64, call: GwCall) -> Result<(), OutOfMemory>
     ensures { OnOk result (string_bytes text.new ≡ string_bytes text.old ++ ended (gateway_line number call)) }
 {
@@ -181,7 +181,7 @@ fn put_gateway_line(text: &mut String, number: u64, call: GwCall) -> Result<(), 
     writeln!(text, "{line}")
 }
 
-/// Puts the line of a call behind a text.
+/// Puts the line of a call to the subscriber server behind a text: its number on the lane, and its name.
 fn put_subscriber_line(text: &mut String, number: u64, call: SubCall) -> Result<(), OutOfMemory>
     ensures { OnOk result (string_bytes text.new ≡ string_bytes text.old ++ ended (subscriber_line number call)) }
 {
@@ -189,7 +189,7 @@ fn put_subscriber_line(text: &mut String, number: u64, call: SubCall) -> Result<
     writeln!(text, "{line}")
 }
 
-/// Puts the calls of a lane behind a text.
+/// Puts a line for each call to the gateway behind a text, numbered from 1.
 fn put_gateway(text: &mut String, calls: &[GwCall]) -> Result<(), OutOfMemory>
     ensures { OnOk result (string_bytes text.new ≡ string_bytes text.old ++ numbered gateway_line calls.now) }
 {
@@ -201,7 +201,7 @@ fn put_gateway(text: &mut String, calls: &[GwCall]) -> Result<(), OutOfMemory>
     Ok(())
 }
 
-/// Puts the calls of a lane behind a text.
+/// Puts a line for each call to the subscriber server behind a text, numbered from 1.
 fn put_subscriber(text: &mut String, calls: &[SubCall]) -> Result<(), OutOfMemory>
     ensures { OnOk result (string_bytes text.new ≡ string_bytes text.old ++ numbered subscriber_line calls.now) }
 {

@@ -13,7 +13,7 @@ use entry_edge::decode;
 use s1ap_messages::{Pdu, message_name, read_pdu, write_pdu};
 use std::alloc::Global;
 
-/// The message of a line.
+/// Reads the message whose octets a line of a trace has in hexadecimal digits: BadHex, and the refusals of `read_pdu`.
 #[tactic(auto, unfolding(crate::specs::Show::pdu_of))]
 fn read_text(alloc: Global, text: &[u8]) -> Result<Pdu, Bad>
     ensures message { IsAnswer (pdu_of text.now) result }
@@ -44,7 +44,8 @@ fn put_refusal(text: &mut String, line: u32, refusal: Refusal) -> Result<(), Out
     writeln!(text, "line {line} refused {refusal}")
 }
 
-/// Puts what a line is behind a text.
+/// Puts the line that tells a line of a trace behind a text: the message's name and the octets with which it is written, or why it is
+/// refused.
 fn put_line(alloc: Global, text: &mut String, line: &TraceLine) -> Result<(), OutOfMemory>
     ensures { OnOk result (string_bytes text.new ≡ string_bytes text.old ++ line_text line.now) }
 {

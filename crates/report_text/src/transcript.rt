@@ -48,7 +48,7 @@ impl fmt::Display for AnswerText {
     }
 }
 
-/// Puts the line of an event behind a text.
+/// Puts `event INDEX: `, what the event came to, and an LF behind a text.
 fn put_line(text: &mut String, index: u64, answer: AnswerText) -> Result<(), OutOfMemory>
     ensures { OnOk result (string_bytes text.new ≡ string_bytes text.old ++ transcript_line index answer.0) }
 {

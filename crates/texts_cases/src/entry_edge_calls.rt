@@ -16,7 +16,7 @@ const ROWS: &str = "\
 \"ip\":\"0a2d0002\",\"sgw\":\"c0a80001\",\"teid\":2,\"ambr_dl\":1000000000,\"ambr_ul\":1000000000,\"forbidden\":[]}
 ";
 
-/// Messages by their names, on eNB UE S1AP ID 7, but for `moved` and `two`, which are on 9, and those of a number on MME UE S1AP ID 1. They
+/// Messages by their names, and at the end texts of other forms. They are on eNB UE S1AP ID 7, but for `moved` and `two`, which are on 9, and those of a number on MME UE S1AP ID 1. They
 /// come from tracking area 258 of PLMN 208 93, two of them from area 9, and from a cell of PLMN 001 01.
 const PDUS: &str = "\
 attach 000c403e000005000800020007001a00161507417108298039000000001002e06000040205d011004300060002f8390102006440080000f110000000100086400130
@@ -57,6 +57,10 @@ reject 000b4017000003000000020001000800020007001a000403074e0a
 command 0017001000000200630004000100070002400122
 setup 0009005f0000060000000200010008000200070042000800058002540be40000180013000034000e050009200f80c0a8000200000102006b000518000e0000004900200000000000000000000000000000000000000000000000000000000000000000
 reject-behind 000b4017000003000000020001000800020007001a000403074e0a00
+released-in-capitals 2017000F000002000040020001000840020007
+three-digits 000
+no-digit 0g
+one-octet 00
 ";
 
 /// A trace, and behind ` = ` what it gives. A message is told by its device, its number, its base station and its eNB UE S1AP
@@ -80,35 +84,33 @@ const CASES: &str = "\
 3 service, 3 detach-on, 3 later-detach-off, 3 request-extended = 1.1 3/7 Service; 1.2 3/7 Detach { first: true, off: false }; 1.3 3/7 Detach { first: false, off: true }; 1.4 3/7 ReleaseAsked { cause: CauseCode { group: 0, extended: true, index: 5 } };
 3 service, 3 secured, 3 complete, 3 done-six, 3 capability, 3 failure, 3 request = 1.1 3/7 Service; 1.2 3/7 Secured; 1.3 3/7 AttachDone; 1.4 3/7 ContextFailed; 1.5 3/7 Capability { octets: ListOf { items: [1, 2] } }; 1.6 3/7 ContextFailed; 1.7 3/7 ReleaseAsked { cause: CauseCode { group: 0, extended: false, index: 20 } };
 3 service, 3 command, 3 setup = 1.1 3/7 Service; 6: 14 WrongDirection at 1; 7: 14 WrongDirection at 1;
-3 reject, 3 reject-behind, 3 000, 3 0g, 3 00 = 5: 14 WrongDirection at 1; 6: 13 TrailingBytes at 27; 7: 29 BadHex; 8: 29 BadHex; 9: 1 Truncated at 1;
-3 2017000F000002000040020001000840020007 = 5: 31 UnknownPair 3 7;
+3 reject, 3 reject-behind, 3 three-digits, 3 no-digit, 3 one-octet = 5: 14 WrongDirection at 1; 6: 13 TrailingBytes at 27; 7: 29 BadHex; 8: 29 BadHex; 9: 1 Truncated at 1;
+3 released-in-capitals = 5: 31 UnknownPair 3 7;
 ";
 
-/// The octets of the message of that name, or the text itself.
-fn named(name: &str) -> &str {
+/// The hexadecimal text of that name.
+fn named(name: &str) -> Result<&str, Fail> {
     for line in PDUS.lines() {
-        if let Some((other, octets)) = line.split_once(' ') {
-            if other == name {
-                return octets;
-            }
+        let (other, text) = line.split_once(' ').ok_or("no octets")?;
+        if other == name {
+            return Ok(text);
         }
     }
-    name
+    Err(Fail::new("no such message"))
 }
 
-/// The case text of a trace.
+/// The case text of a trace: a line for each of its items, which are a base station and the name of a message.
 fn case_text(alloc: Global, trace: &str) -> Result<String, Fail> {
     let mut text = format!(in alloc; "[subscribers]\n{ROWS}[trace]\n")?;
     for item in trace.split(", ") {
-        if let Some((station, name)) = item.split_once(' ') {
-            let octets = named(name);
-            writeln!(text, "{station} {octets}")?;
-        }
+        let (station, name) = item.split_once(' ').ok_or("no base station")?;
+        let octets = named(name)?;
+        writeln!(text, "{station} {octets}")?;
     }
     Ok(text)
 }
 
-/// Tells a message of a device.
+/// Writes a message: the device, its number, its base station and its eNB UE S1AP ID, and the body.
 fn put_message(text: &mut String, device: usize, message: &Message) -> Result<(), Fail> {
     let Message {
         number,
@@ -121,14 +123,14 @@ fn put_message(text: &mut String, device: usize, message: &Message) -> Result<()
     Ok(())
 }
 
-/// Tells a refused line.
+/// Writes the number of a refused line, and why it is refused.
 fn put_refused(text: &mut String, refused: RefusedLine) -> Result<(), Fail> {
     let RefusedLine { line, refusal } = refused;
     write!(text, "{line}: {refusal}; ")?;
     Ok(())
 }
 
-/// What a trace gives.
+/// Writes what `admit` gives for a trace: the messages of each device in turn, then the refused lines.
 fn told(alloc: Global, trace: &str) -> Result<String, Fail> {
     let case = read_case(alloc, case_text(alloc, trace)?.as_bytes())?;
     let admitted = admit(alloc, case.table(), case.trace())?;

@@ -197,8 +197,8 @@ Releasing 1/3 None | answer Vectors, answer Located, answer Created, answer Modi
 Idle none Made registered | answer Vectors, answer Located, answer Created, answer Modified, answer Freed, answer Deleted, answer Purged | |
 ";
 
-fn stage(word: &str) -> Stage {
-    match word {
+fn stage(word: &str) -> Result<Stage, Fail> {
+    Ok(match word {
         "Detached" => Stage::Detached,
         "AwaitVectors" => Stage::AwaitVectors,
         "Authenticating" => Stage::Authenticating,
@@ -214,8 +214,9 @@ fn stage(word: &str) -> Stage {
         "AwaitRelease" => Stage::AwaitRelease,
         "Releasing" => Stage::Releasing,
         "Idle" => Stage::Idle,
-        _ => Stage::AwaitDelete,
-    }
+        "AwaitDelete" => Stage::AwaitDelete,
+        _ => return Err(Fail::new("no such stage")),
+    })
 }
 
 fn link(word: &str) -> Result<Link, Fail> {
@@ -226,22 +227,34 @@ fn link(word: &str) -> Result<Link, Fail> {
     Ok(Link::On { station, enb })
 }
 
-fn bearer(rest: &str) -> Bearer {
-    if rest.starts_with("Made") {
-        return Bearer::Made;
+fn bearer(word: &str) -> Result<Bearer, Fail> {
+    match word {
+        "None" => Ok(Bearer::None),
+        "Made" => Ok(Bearer::Made),
+        "Active" => Ok(Bearer::Active),
+        _ => Err(Fail::new("no such bearer")),
     }
-    if rest.starts_with("Active") {
-        return Bearer::Active;
+}
+
+/// Whether the device is registered, and whether it detaches since it is switched off.
+fn holds(words: &str) -> Result<(bool, bool), Fail> {
+    match words {
+        "" => Ok((false, false)),
+        "registered" => Ok((true, false)),
+        "off" => Ok((false, true)),
+        "registered off" => Ok((true, true)),
+        _ => Err(Fail::new("no such words of a session")),
     }
-    Bearer::None
 }
 
 /// The session of the words. Its other fields are numbers that differ.
 fn session(alloc: Global, words: &str) -> Result<Session, Fail> {
     let (stage_word, rest) = words.split_once(" ").ok_or("no connection")?;
     let (link_word, rest) = rest.split_once(" ").ok_or("no bearer")?;
+    let (bearer_word, words) = rest.split_once(" ").unwrap_or((rest, ""));
+    let (registered, off) = holds(words)?;
     Ok(Session {
-        stage: stage(stage_word),
+        stage: stage(stage_word)?,
         link: link(link_word)?,
         plmn: 11,
         tac: 12,
@@ -257,9 +270,9 @@ fn session(alloc: Global, words: &str) -> Result<Session, Fail> {
         ip: 22,
         side_addr: 23,
         side_teid: 24,
-        bearer: bearer(rest),
-        registered: rest.contains("registered"),
-        off: rest.ends_with("off"),
+        bearer: bearer(bearer_word)?,
+        registered,
+        off,
         cause: CauseCode {
             group: 3,
             extended: false,
@@ -269,7 +282,7 @@ fn session(alloc: Global, words: &str) -> Result<Session, Fail> {
     })
 }
 
-fn answer(alloc: Global, word: &str) -> Result<Answer, AllocError> {
+fn answer(alloc: Global, word: &str) -> Result<Answer, Fail> {
     Ok(match word {
         "Vectors" => Answer::Vectors(
             octets(alloc, 51)?,
@@ -282,13 +295,14 @@ fn answer(alloc: Global, word: &str) -> Result<Answer, AllocError> {
         "Modified" => Answer::Modified,
         "Freed" => Answer::Freed,
         "Deleted" => Answer::Deleted,
-        _ => Answer::Purged,
+        "Purged" => Answer::Purged,
+        _ => return Err(Fail::new("no such answer")),
     })
 }
 
 fn input(alloc: Global, words: &str) -> Result<Input, Fail> {
-    match words.split_once("answer ") {
-        Some((_, word)) => Ok(Input::Answer {
+    match words.strip_prefix("answer ") {
+        Some(word) => Ok(Input::Answer {
             lane: Lane::Gateway,
             k: 1,
             answer: answer(alloc, word)?,
