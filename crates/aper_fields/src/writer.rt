@@ -45,13 +45,10 @@ impl Model for Mark {
     ghost invariant = { λ m. (m.free < 8) × (m.free ≤ 8 * m.octets) };
 }
 
-/// Octets as they are: each is the number that its eight bits spell.
-fn as_octets(octets: &[u8]) -> &[u8]
-    ensures same { result.now ≡ octets.now }
-    ensures octets { result.now ≡ octets_of (length octets.now) (bits_of octets.now) }
-{
-    octets
-}
+/// Does nothing: it tells a proof that each octet is the number that its eight bits spell.
+fn recall(octets: &[u8])
+    ensures { octets.now ≡ octets_of (length octets.now) (bits_of octets.now) }
+{}
 
 /// Cuts octets off, and makes zeros of the bits that are free then.
 fn cut_octets(bytes: &mut Vec<u8>, octets: usize, free: u32)
@@ -241,14 +238,15 @@ impl BitWriter {
         ensures octets { result.now ≡ packed self.now }
         ensures bits { bits_of result.now ≡ filled self.now }
     {
-        as_octets(&self.bytes)
+        recall(&self.bytes);
+        &self.bytes
     }
 
     /// The octets that were written, in the memory that they were written to: the last one is filled up with zeros.
     pub fn into_bytes(self) -> Vec<u8>
         ensures { result.items ≡ packed self }
     {
-        as_octets(&self.bytes);
+        recall(&self.bytes);
         self.bytes
     }
 

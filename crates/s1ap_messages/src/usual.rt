@@ -1,6 +1,6 @@
 //! Messages as they are written, with one E-RAB in a list: read and written octet by octet. Any other goes piece by piece.
 
-ghost use Rattle.std.specs.Prelude.{◌≡◌, ◌<◌, ◌∷◌, IfOk, IfSome, Ok, length};
+ghost use Rattle.std.specs.Prelude.{◌≡◌, ◌<◌, ◌∷◌, All, IfOk, IfSome, Ok, length};
 ghost use Rattle.s1ap_messages.specs.Built.{message_at};
 ghost use Rattle.s1ap_messages.specs.Run.{written, IsRight};
 ghost use Rattle.s1ap_messages.specs.Usual.{counted, usual_octets, IsUsual};
@@ -55,6 +55,13 @@ pub fn read_usual(alloc: Global, octets: &[u8]) -> Option<Pdu>
     find_usual(alloc, octets)
 }
 
+/// Does nothing: it tells a proof that each octet is below 256.
+fn recall(octets: &Octets)
+    ensures { All (λ octet. octet < 256) octets.now }
+{
+    octets.octets();
+}
+
 /// Writes a message the short way, octet by octet: what `write_pdu` writes, where its lists have one E-RAB and its radio capability has at most
 /// 16,000 octets. None comes for any other. It fails for want of memory alone.
 #[tactic(auto, using(crate::proofs::UsualForm::finished_is_written))]
@@ -68,7 +75,6 @@ pub fn write_usual(alloc: Global, p: &Pdu) -> Result<Option<Octets>, AllocError>
     let Some(octets) = finish(out)? else {
         return Ok(None);
     };
-    // Its clause says that each is below 256.
-    octets.octets();
+    recall(&octets);
     Ok(Some(octets))
 }

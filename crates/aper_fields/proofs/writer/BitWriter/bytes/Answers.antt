@@ -10,11 +10,11 @@ pub returns-clause-octets : goal.returns-clause-octets
 returns-clause-octets c =
     let w = c.self.inside in
     let run = before_free w.bytes.items w.free in
-    rw (c.as_octets.ensures.octets, c.deref.ensures.value, ← c.self.view_is) (packed-of w.bytes.items run (filled-is run w.bytes.items w.free c.self.invariant.0 c.self.invariant.2))
+    rw (c.deref-2.ensures.value, ← c.self.view_is) (rw c.deref.ensures.value at c.recall.ensures ∙ packed-of w.bytes.items run (filled-is run w.bytes.items w.free c.self.invariant.0 c.self.invariant.2))
 
 pub returns-clause-bits : goal.returns-clause-bits
 returns-clause-bits c =
     let w = c.self.inside in
     let run = before_free w.bytes.items w.free in
     let full = filled-is run w.bytes.items w.free c.self.invariant.0 c.self.invariant.2 in
-    rw (c.as_octets.ensures.octets, c.deref.ensures.value, ← c.self.view_is) (ap bits_of (packed-of w.bytes.items run full) ∙ bits_of-packed run)
+    rw (c.deref-2.ensures.value, ← c.self.view_is) (ap bits_of (rw c.deref.ensures.value at c.recall.ensures ∙ packed-of w.bytes.items run full) ∙ bits_of-packed run)

@@ -1,6 +1,6 @@
 -- The octets of a writer that is used up are those that hold the bits that were written, the last one filled up with zeros.
 use Rattle.aper_fields.specs.Buffer.{before_free}
-use Rattle.std.proofs.Common.{sym, ◌∙◌}
+use Rattle.std.proofs.Common.{◌∙◌}
 use Rattle.aper_fields.proofs.Fill.{filled-is}
 use Rattle.aper_fields.proofs.Packed.{packed-of}
 use Rattle.aper_fields.proofs.writer.BitWriter.into_bytes.Goals as goal
@@ -10,5 +10,4 @@ returns c =
     let w = c.self.inside in
     let run = before_free w.bytes.items w.free in
     let full = filled-is run w.bytes.items w.free c.self.invariant.0 c.self.invariant.2 in
-    let whole = sym c.as_octets.ensures.same ∙ c.as_octets.ensures.octets in
-    rw (← c.self.view_is) (rw c.deref.ensures.value at whole ∙ packed-of w.bytes.items run full)
+    rw (← c.self.view_is) (rw c.deref.ensures.value at c.recall.ensures ∙ packed-of w.bytes.items run full)
