@@ -124,7 +124,7 @@ impl<L: RowLaw> Store<L> {
         ensures ok { IfOk result (λ seen. seen ≡ seen_of (journal_of self.old.rows d.0) asked) }
         ensures told { IfOk result (λ seen. IsSome seen.reply ↔ IsRepeat seen.look) }
     {
-        let row = self.row(d);
+        let row = &self.rows[d.index()];
         seen_of(row, asked)
     }
 

@@ -39,11 +39,12 @@ invariant_of-self g c =
     let charter = g.L.RowLaw.charter c.self.inside.law in
     let is = subst (λ (s : StoreState). IsDevice (length s.rows) d) (sym c.self.view_is) c.requires.device in
     let may = subst (λ (s : StoreState). g.L.RowLaw.follows s.charter d (take c.args.read (journal_of s.rows d)) c.args.entry) (sym c.self.view_is) c.requires.law in
-    record {
+    rw c.index.ensures
+    (record {
       in_form = c.self.invariant.in_form;
       lawful = rows_stay_lawful (g.L.RowLaw.follows charter) rows d c.index_mut-row.result.now c.commit.new.self c.args.read c.args.entry c.commit.result c.self.invariant.lawful is
           (row_is rows d c.index_mut-row.result.now is (rw (← c.index.ensures) c.index_mut-row.ensures.value)) c.commit.ensures.ok c.commit.ensures.err may;
-    }
+    })
 
 pub returns-clause-lawful : goal.returns-clause-lawful
 returns-clause-lawful g c = (invariant_of-self g c).lawful
