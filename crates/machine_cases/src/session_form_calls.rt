@@ -74,7 +74,8 @@ end 98 0 00 98\n\
 
 /// The first so many octets of that session, and what comes of them, where it is another thing than of one octet less: each field
 /// that is not whole is BadSession at its first octet.
-const CUTS: &str = "0 0,1 1,2 2,3 3,5 5,9 9,12 12,14 14,15 15,16 16,17 17,18 18,20 20,52 52,60 60,68 68,72 72,76 76,80 80,\
+const CUTS: &str =
+    "0 0,1 1,2 2,3 3,5 5,9 9,12 12,14 14,15 15,16 16,17 17,18 18,20 20,52 52,60 60,68 68,72 72,76 76,80 80,\
 84 84,88 88,89 89,90 90,91 91,92 92,93 93,94 94,98 kept,";
 
 /// Writes what comes of the octets: `kept`, or the place where they are BadSession.
@@ -82,7 +83,11 @@ fn tell(alloc: Global, text: &mut String, octets: &[u8]) -> Result<(), AllocErro
     match read_session(alloc, octets) {
         Ok(session) => {
             let written = write_session(alloc, &session)?;
-            text.push_str(if written.octets() == octets { "kept" } else { "other" })
+            text.push_str(if written.octets() == octets {
+                "kept"
+            } else {
+                "other"
+            })
         }
         Err(Bad::Refused(refusal)) if refusal.reason == Reason::BadSession => {
             let place = refusal.place;

@@ -194,7 +194,7 @@ fn counts_the_octets_of_a_line(rt: HostRuntime) -> Result<(), Fail> {
 fn counts_the_rows(rt: HostRuntime) -> Result<(), Fail> {
     let alloc = rt.alloc();
     let most = many_rows(alloc, 4096)?;
-    let rows = read_case(alloc, most.as_bytes())?.table.len();
+    let rows = read_case(alloc, most.as_bytes())?.table().len();
     let more = many_rows(alloc, 4097)?;
     let bad = answer(alloc, more.as_bytes())?;
     let text = format!(in alloc; "{rows} rows, {bad}")?;
