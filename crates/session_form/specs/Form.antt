@@ -9,6 +9,7 @@ use Rattle.device_types.specs.declared.session.Bearer.TheVariants as bearer
 use Rattle.device_types.specs.declared.session.Stage.{Stage}
 use Rattle.device_types.specs.declared.session.Stage.TheVariants as stage
 use Rattle.device_types.specs.declared.session.Session.{Session}
+use Rattle.device_types.specs.Rule.{number as stage_number}
 use Rattle.echo_base.specs.declared.refusal.Refusal.{Refusal}
 use Rattle.echo_base.specs.Reading.{value_of}
 use Rattle.session_form.specs.Fields.{Input, Reader, plain, only, listed, is_most, Field, number, octets, counted, either, also, named, Row, Rows, last, ◌▸◌, section, taken, Table, whole, format_alone, reading_alone, run, InRange}
@@ -18,24 +19,6 @@ use Rattle.session_form.specs.Fields.{Input, Reader, plain, only, listed, is_mos
 -- the stages in the order of their numbers, from 0
 abbrev pub stages : List Stage
 stages = stage.Detached ∷ stage.AwaitVectors ∷ stage.Authenticating ∷ stage.Securing ∷ stage.AwaitLocation ∷ stage.AwaitCreate ∷ stage.Accepting ∷ stage.AcceptingContext ∷ stage.AcceptingDone ∷ stage.AwaitModify ∷ stage.Connecting ∷ stage.Connected ∷ stage.AwaitRelease ∷ stage.Releasing ∷ stage.Idle ∷ stage.AwaitDelete ∷ []
-
-abbrev pub stage_number : Stage → ℕ
-stage_number stage.Detached = 0
-stage_number stage.AwaitVectors = 1
-stage_number stage.Authenticating = 2
-stage_number stage.Securing = 3
-stage_number stage.AwaitLocation = 4
-stage_number stage.AwaitCreate = 5
-stage_number stage.Accepting = 6
-stage_number stage.AcceptingContext = 7
-stage_number stage.AcceptingDone = 8
-stage_number stage.AwaitModify = 9
-stage_number stage.Connecting = 10
-stage_number stage.Connected = 11
-stage_number stage.AwaitRelease = 12
-stage_number stage.Releasing = 13
-stage_number stage.Idle = 14
-stage_number stage.AwaitDelete = 15
 
 -- the states of the default bearer
 abbrev pub bearers : List Bearer

@@ -1,7 +1,7 @@
 //! Writing the fields of a session behind one another.
 ghost use Rattle.std.specs.Prelude.{◌≡◌, ◌≤◌, ◌<◌, ◌+◌, ◌++◌, [], length};
 ghost use Rattle.session_form.specs.Fields.{number_run, written_onto};
-ghost use Rattle.session_form.specs.Form.{stage_number, bearer_number, stage_field, bearer_field, truth_field, link_field};
+ghost use Rattle.session_form.specs.Form.{bearer_number, stage_field, bearer_field, truth_field, link_field};
 
 use device_types::{Bearer, Link, Stage};
 use std::marker::Model;
@@ -78,7 +78,7 @@ impl FormWriter {
         ensures octets { self.new ≡ written_onto stage_field stage self.old }
         ensures count { length self.new ≡ length self.old + 1 }
     {
-        self.number(1, stage_number(stage));
+        self.number(1, u64::from(stage.number()));
     }
 
     /// Puts the state of the default bearer.
@@ -100,7 +100,7 @@ impl FormWriter {
         ensures octets { self.new ≡ written_onto truth_field truth self.old }
         ensures count { length self.new ≡ length self.old + 1 }
     {
-        self.number(1, if truth { 1 } else { 0 });
+        self.number(1, u64::from(truth));
     }
 
     /// Puts a link: whether it is on, its station and its eNB id, which are zeros where it is off.
@@ -134,30 +134,6 @@ impl FormWriter {
     {
         self.number(1, octets.len() as u64);
         self.put(octets);
-    }
-}
-
-/// The number of a stage.
-fn stage_number(stage: Stage) -> u64
-    ensures { result ≡ stage_number stage }
-{
-    match stage {
-        Stage::Detached => 0,
-        Stage::AwaitVectors => 1,
-        Stage::Authenticating => 2,
-        Stage::Securing => 3,
-        Stage::AwaitLocation => 4,
-        Stage::AwaitCreate => 5,
-        Stage::Accepting => 6,
-        Stage::AcceptingContext => 7,
-        Stage::AcceptingDone => 8,
-        Stage::AwaitModify => 9,
-        Stage::Connecting => 10,
-        Stage::Connected => 11,
-        Stage::AwaitRelease => 12,
-        Stage::Releasing => 13,
-        Stage::Idle => 14,
-        Stage::AwaitDelete => 15,
     }
 }
 
