@@ -78,6 +78,19 @@ const CUTS: &str =
     "0 0,1 1,2 2,3 3,5 5,9 9,12 12,14 14,15 15,16 16,17 17,18 18,20 20,52 52,60 60,68 68,72 72,76 76,80 80,\
 84 84,88 88,89 89,90 90,91 91,92 92,93 93,94 94,98 kept,";
 
+/// The opening session: `01` and 95 octets 00, with spaces between its fields.
+const OPENING: &str = "01 00 00 0000 00000000 000000 0000 00 00 00 00 \
+0000000000000000000000000000000000000000000000000000000000000000 \
+0000000000000000 0000000000000000 00000000 00000000 00000000 00000000 00000000 00 00 00 00 00 00 00000000";
+
+/// Changes of the opening session, as above. With an octet less, its last field is not whole.
+const OPENING_CHANGES: &str = "\
+form 0 1 01 kept\n\
+stage 1 1 10 1\n\
+radio 92 4 000000 92\n\
+end 96 0 00 96\n\
+";
+
 /// Writes what comes of the octets: `kept`, or the place where they are BadSession.
 fn tell(alloc: Global, text: &mut String, octets: &[u8]) -> Result<(), AllocError> {
     match read_session(alloc, octets) {
@@ -116,11 +129,8 @@ fn changed(
 
 /// The octets that are written in hexadecimal digits, with spaces between them.
 fn octets_of(alloc: Global, text: &str) -> Result<Vec<u8>, Fail> {
-    let mut octets = Vec::new(alloc);
-    for digits in text.split(' ') {
-        octets.extend_from_slice(&hex::decode(alloc, digits)?)?;
-    }
-    Ok(octets)
+    let digits = text.replace(alloc, " ", "")?;
+    Ok(hex::decode(alloc, &digits)?)
 }
 
 /// A line of the table of changes, with what comes of it.
@@ -150,6 +160,12 @@ fn tell_cuts(alloc: Global, text: &mut String, octets: &[u8]) -> Result<(), Fail
     Ok(())
 }
 
+/// The session that the octets are, as the program has it.
+fn fields_of(alloc: Global, octets: &[u8]) -> Result<String, Fail> {
+    let session = read_session(alloc, octets).map_err(|_| "refused")?;
+    Ok(format!(in alloc; "{session:?}")?)
+}
+
 #[test]
 fn each_field_has_its_range_and_place(rt: HostRuntime) -> Result<(), Fail> {
     let alloc = rt.alloc();
@@ -167,32 +183,22 @@ fn each_field_has_its_range_and_place(rt: HostRuntime) -> Result<(), Fail> {
 #[test]
 fn session_with_everything_set_is_read(rt: HostRuntime) -> Result<(), Fail> {
     let alloc = rt.alloc();
-    let session = read_session(alloc, &octets_of(alloc, SET)?).map_err(|_| "refused")?;
-    let text = format!(in alloc; "{session:?}")?;
-    assert_eq!(rt; text.as_str(), SET_FIELDS);
+    let octets = octets_of(alloc, SET)?;
+    assert_eq!(rt; fields_of(alloc, &octets)?.as_str(), SET_FIELDS);
     Ok(())
 }
 
-/// The opening session is `01` and 95 octets 00. With the stage `10` it is wrong at 1; 95 octets of it are wrong at 92, where the
-/// radio capability's count begins; with an octet more it is wrong at 96.
 #[test]
 fn opening_session_is_one_and_zeros(rt: HostRuntime) -> Result<(), Fail> {
     let alloc = rt.alloc();
-    let mut octets = Vec::new(alloc);
-    octets.push(1)?;
-    octets.extend_from_slice(&[0; 95])?;
-    let read = read_session(alloc, &octets).map_err(|_| "refused")?;
+    let octets = octets_of(alloc, OPENING)?;
+    let mut text = String::new(alloc);
+    for line in OPENING_CHANGES.lines() {
+        tell_change(alloc, &mut text, &octets, line)?;
+    }
+    assert_eq!(rt; text.as_str(), OPENING_CHANGES);
     let opening = Session::opening(alloc);
-    let mut text = format!(in alloc; "{read:?}\n")?;
-    let mut wanted = format!(in alloc; "{opening:?}\n")?;
-    tell(alloc, &mut text, &octets)?;
-    text.push(' ')?;
-    tell(alloc, &mut text, &changed(alloc, &octets, 1, 1, &[16])?)?;
-    text.push(' ')?;
-    tell(alloc, &mut text, &octets[..95])?;
-    text.push(' ')?;
-    tell(alloc, &mut text, &changed(alloc, &octets, 96, 0, &[0])?)?;
-    wanted.push_str("kept 1 92 96")?;
-    assert_eq!(rt; text.as_str(), wanted.as_str());
+    let wanted = format!(in alloc; "{opening:?}")?;
+    assert_eq!(rt; fields_of(alloc, &octets)?.as_str(), wanted.as_str());
     Ok(())
 }
