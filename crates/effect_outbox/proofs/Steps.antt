@@ -1,15 +1,14 @@
 -- What the calls make of the unsettled rest of a lane.
-use Rattle.std.proofs.Common.{◌≡◌, ℕ, ◌+◌, ◌-◌, ◌≤◌, max, List, [], ◌∷◌, ◌++◌, length, drop, sym, ap, ◌∙◌, arith, append_assoc, append-nil, length-append, length-drop}
+use Rattle.std.proofs.Common.{◌≡◌, ℕ, ◌+◌, ◌-◌, ◌≤◌, max, List, ◌++◌, length, drop, sym, ap, ◌∙◌, arith, length-append, length-drop}
 use Rattle.std.proofs.lemmas.List.{drop-append-le, drop-drop}
-use Rattle.std.proofs.lemmas.List.Elements.{filter-append}
 use Rattle.device_types.specs.declared.event.Lane.{Lane}
 use Rattle.device_types.specs.declared.event.Lane.TheVariants.{Down, Gateway, Subscriber}
 use Rattle.device_types.specs.declared.effect.Effect.{Effect}
-use Rattle.device_types.specs.Journal.{is_on, effects_on}
+use Rattle.device_types.specs.Journal.{effects_on}
 use Rattle.effect_outbox.specs.Outbox.{Unsettled, OutboxState, LaneNumbers, number_on, with_number, IsRest, Holds, with_effects, part_on, pushed_on}
-use Rattle.effect_outbox.specs.Queue.{rest_from, longer, state_with, HasRoom, HasRooms}
+use Rattle.effect_outbox.specs.Queue.{rest_from, longer, HasRoom}
+use Rattle.effect_outbox.specs.Queues.{state_with, state_from}
 use Rattle.effect_outbox.specs.declared.queue.LaneQueue.{LaneQueue}
-use Rattle.effect_outbox.specs.declared.queues.Queues.{Queues}
 
 -- ---- one lane
 
@@ -44,71 +43,42 @@ state_longer outbox lanes settled effects h = record { on = longer_on }
     longer_on Gateway = rest_longer _ _ _ _ (h.on Gateway)
     longer_on Subscriber = rest_longer _ _ _ _ (h.on Subscriber)
 
-longer_more : (part : Unsettled) (xs ys zs : List Effect) → zs ≡ xs ++ ys → longer (longer part xs) ys ≡ longer part zs
-longer_more part xs ys zs e = ap (λ (rest : List Effect). record part { rest = rest }) (append_assoc part.rest xs ys ∙ ap (λ es. part.rest ++ es) (sym e))
-
--- an effect, and those behind it
-pub state_more : (outbox : OutboxState) (effect : Effect) (effects : List Effect) → state_with (state_with outbox (effect ∷ [])) effects ≡ state_with outbox (effect ∷ effects)
-state_more outbox effect effects =
-    let down = longer_more outbox.down (effects_on Down (effect ∷ [])) (effects_on Down effects) (effects_on Down (effect ∷ effects)) (filter-append (is_on Down) (effect ∷ []) effects) in
-    let gateway = longer_more outbox.gateway (effects_on Gateway (effect ∷ [])) (effects_on Gateway effects) (effects_on Gateway (effect ∷ effects)) (filter-append (is_on Gateway) (effect ∷ []) effects) in
-    let subscriber = longer_more outbox.subscriber (effects_on Subscriber (effect ∷ [])) (effects_on Subscriber effects) (effects_on Subscriber (effect ∷ effects)) (filter-append (is_on Subscriber) (effect ∷ []) effects) in
-    cc
-
-longer_none : (part : Unsettled) → longer part [] ≡ part
-longer_none part = ap (λ (rest : List Effect). record part { rest = rest }) (append-nil part.rest)
-
-pub state_none : (outbox : OutboxState) → state_with outbox [] ≡ outbox
-state_none outbox =
-    ap (λ part. record { down = part; gateway = longer outbox.gateway []; subscriber = longer outbox.subscriber [] }) (longer_none outbox.down)
-    ∙ ap (λ part. record { down = outbox.down; gateway = part; subscriber = longer outbox.subscriber [] }) (longer_none outbox.gateway)
-    ∙ ap (λ part. record { down = outbox.down; gateway = outbox.gateway; subscriber = part }) (longer_none outbox.subscriber)
-
 -- ---- room
 
-pub fewer : (queue : LaneQueue) (more : ℕ) → HasRoom queue (more + 1) → HasRoom queue more
-fewer queue more h = let room = h.room in let counted = h.counted in record { room = omega arith; counted = omega arith }
+pub less_room : (queue : LaneQueue) (more less : ℕ) → HasRoom queue more → less ≤ more → HasRoom queue less
+less_room queue more less h fewer = let room = h.room in let counted = h.counted in record { room = omega arith; counted = omega arith }
 
--- for one, where there is for several
-pub room_for_one : (queues : Queues) (more : ℕ) → 1 ≤ more → HasRooms queues more → HasRooms queues 1
-room_for_one queues more low h = record { down = one queues.down h.down; gateway = one queues.gateway h.gateway; subscriber = one queues.subscriber h.subscriber }
-  where
-    one : (queue : LaneQueue) → HasRoom queue more → HasRoom queue 1
-    one queue h = let room = h.room in let counted = h.counted in record { room = omega arith; counted = omega arith }
+-- and so where there is room for one, and one is put
+pub room_left : (queue after : LaneQueue) (more : ℕ) → ((left : ℕ) → HasRoom queue (left + 1) → HasRoom after left) → 1 ≤ more → HasRoom queue more → HasRoom after (more - 1)
+room_left queue after more put low h = put (more - 1) (less_room queue more (more - 1 + 1) h (omega arith))
 
 -- ---- what is settled on a lane
 
-settled_down : (d g s : Unsettled) (lanes : Lane → List Effect) (settled : LaneNumbers) (k : ℕ) → k ≤ d.settled + length d.rest → Holds (record { down = d; gateway = g; subscriber = s }) lanes settled → Holds (record { down = rest_from d k; gateway = g; subscriber = s }) lanes (with_number settled Down k)
-settled_down d g s lanes settled k high h = record { on = on_lane }
+settled_down : (was : OutboxState) (lanes : Lane → List Effect) (settled : LaneNumbers) (k : ℕ) → k ≤ pushed_on was Down → Holds was lanes settled → Holds (state_from was Down k) lanes (with_number settled Down k)
+settled_down was lanes settled k high h = record { on = on_lane }
   where
-    on_lane : (l : Lane) → IsRest (part_on (record { down = rest_from d k; gateway = g; subscriber = s }) l) (lanes l) (number_on (with_number settled Down k) l)
-    on_lane Down = rest_settled d (lanes Down) settled.down k high (h.on Down)
+    on_lane : (l : Lane) → IsRest (part_on (state_from was Down k) l) (lanes l) (number_on (with_number settled Down k) l)
+    on_lane Down = rest_settled was.down (lanes Down) settled.down k high (h.on Down)
     on_lane Gateway = h.on Gateway
     on_lane Subscriber = h.on Subscriber
 
-settled_gateway : (d g s : Unsettled) (lanes : Lane → List Effect) (settled : LaneNumbers) (k : ℕ) → k ≤ g.settled + length g.rest → Holds (record { down = d; gateway = g; subscriber = s }) lanes settled → Holds (record { down = d; gateway = rest_from g k; subscriber = s }) lanes (with_number settled Gateway k)
-settled_gateway d g s lanes settled k high h = record { on = on_lane }
+settled_gateway : (was : OutboxState) (lanes : Lane → List Effect) (settled : LaneNumbers) (k : ℕ) → k ≤ pushed_on was Gateway → Holds was lanes settled → Holds (state_from was Gateway k) lanes (with_number settled Gateway k)
+settled_gateway was lanes settled k high h = record { on = on_lane }
   where
-    on_lane : (l : Lane) → IsRest (part_on (record { down = d; gateway = rest_from g k; subscriber = s }) l) (lanes l) (number_on (with_number settled Gateway k) l)
+    on_lane : (l : Lane) → IsRest (part_on (state_from was Gateway k) l) (lanes l) (number_on (with_number settled Gateway k) l)
     on_lane Down = h.on Down
-    on_lane Gateway = rest_settled g (lanes Gateway) settled.gateway k high (h.on Gateway)
+    on_lane Gateway = rest_settled was.gateway (lanes Gateway) settled.gateway k high (h.on Gateway)
     on_lane Subscriber = h.on Subscriber
 
-settled_subscriber : (d g s : Unsettled) (lanes : Lane → List Effect) (settled : LaneNumbers) (k : ℕ) → k ≤ s.settled + length s.rest → Holds (record { down = d; gateway = g; subscriber = s }) lanes settled → Holds (record { down = d; gateway = g; subscriber = rest_from s k }) lanes (with_number settled Subscriber k)
-settled_subscriber d g s lanes settled k high h = record { on = on_lane }
+settled_subscriber : (was : OutboxState) (lanes : Lane → List Effect) (settled : LaneNumbers) (k : ℕ) → k ≤ pushed_on was Subscriber → Holds was lanes settled → Holds (state_from was Subscriber k) lanes (with_number settled Subscriber k)
+settled_subscriber was lanes settled k high h = record { on = on_lane }
   where
-    on_lane : (l : Lane) → IsRest (part_on (record { down = d; gateway = g; subscriber = rest_from s k }) l) (lanes l) (number_on (with_number settled Subscriber k) l)
+    on_lane : (l : Lane) → IsRest (part_on (state_from was Subscriber k) l) (lanes l) (number_on (with_number settled Subscriber k) l)
     on_lane Down = h.on Down
     on_lane Gateway = h.on Gateway
-    on_lane Subscriber = rest_settled s (lanes Subscriber) settled.subscriber k high (h.on Subscriber)
-
--- the state where the effects of a lane up to k are settled
-abbrev pub state_from : OutboxState → Lane → ℕ → OutboxState
-state_from outbox Down k = record outbox { down = rest_from outbox.down k }
-state_from outbox Gateway k = record outbox { gateway = rest_from outbox.gateway k }
-state_from outbox Subscriber k = record outbox { subscriber = rest_from outbox.subscriber k }
+    on_lane Subscriber = rest_settled was.subscriber (lanes Subscriber) settled.subscriber k high (h.on Subscriber)
 
 pub state_settled : (was now : OutboxState) (lanes : Lane → List Effect) (settled : LaneNumbers) (l : Lane) (k : ℕ) → now ≡ state_from was l k → k ≤ pushed_on was l → Holds was lanes settled → Holds now lanes (with_number settled l k)
-state_settled was now lanes settled Down k e high h = rw e (settled_down was.down was.gateway was.subscriber lanes settled k high h)
-state_settled was now lanes settled Gateway k e high h = rw e (settled_gateway was.down was.gateway was.subscriber lanes settled k high h)
-state_settled was now lanes settled Subscriber k e high h = rw e (settled_subscriber was.down was.gateway was.subscriber lanes settled k high h)
+state_settled was now lanes settled Down k e high h = rw e (settled_down was lanes settled k high h)
+state_settled was now lanes settled Gateway k e high h = rw e (settled_gateway was lanes settled k high h)
+state_settled was now lanes settled Subscriber k e high h = rw e (settled_subscriber was lanes settled k high h)

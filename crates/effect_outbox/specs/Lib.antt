@@ -1,2 +1,3 @@
 pub mod Outbox
 pub mod Queue
+pub mod Queues

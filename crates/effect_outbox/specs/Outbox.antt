@@ -29,10 +29,12 @@ pub record Unsettled : Type 0 where
   pub settled : ℕ
   pub rest : List Effect
 
+-- the lanes, and for how many more effects there is room, whatever their lanes
 pub record OutboxState : Type 0 where
   pub down : Unsettled
   pub gateway : Unsettled
   pub subscriber : Unsettled
+  pub room : ℕ
 
 abbrev pub part_on : OutboxState → Lane → Unsettled
 part_on outbox lane.Down = outbox.down

@@ -1,12 +1,13 @@
--- The queues of an outbox, one for each lane.
-use Rattle.std.specs.Prelude.{ℕ, ◌+◌, ◌-◌, ◌^◌, ◌<◌, ◌≤◌, max, nat_lt, List, ◌++◌, length, drop, slice_get, Option, None, if◌then◌else◌}
+-- The queue of a lane.
+use Rattle.std.specs.Prelude.{ℕ, ◌+◌, ◌-◌, ◌^◌, ◌<◌, ◌≤◌, max, nat_lt, List, [], ◌++◌, length, drop, slice_get, Option, None, if◌then◌else◌}
 use Rattle.std.proofs.Common.{deque_len, deque_capacity}
-use Rattle.device_types.specs.declared.event.Lane.TheVariants.{Down, Gateway, Subscriber}
 use Rattle.device_types.specs.declared.effect.Effect.{Effect}
-use Rattle.device_types.specs.Journal.{effects_on}
 use Rattle.effect_outbox.specs.declared.queue.LaneQueue.{LaneQueue}
-use Rattle.effect_outbox.specs.declared.queues.Queues.{Queues}
-use Rattle.effect_outbox.specs.Outbox.{Unsettled, OutboxState}
+use Rattle.effect_outbox.specs.Outbox.{Unsettled}
+
+-- a lane without effects
+abbrev pub none : Unsettled
+none = record { settled = 0; rest = [] }
 
 abbrev pub part_of : LaneQueue → Unsettled
 part_of queue = record { settled = queue.settled; rest = queue.effects.items }
@@ -15,14 +16,6 @@ part_of queue = record { settled = queue.settled; rest = queue.effects.items }
 pub record HasRoom (queue : LaneQueue) (more : ℕ) : Type 0 where
   pub room : deque_len queue.effects + more ≤ deque_capacity queue.effects
   pub counted : queue.settled + length queue.effects.items + more < 2 ^ 64
-
-abbrev pub state_of : Queues → OutboxState
-state_of queues = record { down = part_of queues.down; gateway = part_of queues.gateway; subscriber = part_of queues.subscriber }
-
-pub record HasRooms (queues : Queues) (more : ℕ) : Type 0 where
-  pub down : HasRoom queues.down more
-  pub gateway : HasRoom queues.gateway more
-  pub subscriber : HasRoom queues.subscriber more
 
 -- effect k, while it is not settled
 abbrev pub rest_at : Unsettled → ℕ → Option Effect
@@ -34,11 +27,3 @@ rest_from part k = record { settled = max k part.settled; rest = drop (k - part.
 
 abbrev pub longer : Unsettled → List Effect → Unsettled
 longer part effects = record part { rest = part.rest ++ effects }
-
--- with the effects of one more step
-abbrev pub state_with : OutboxState → List Effect → OutboxState
-state_with outbox effects = record {
-  down = longer outbox.down (effects_on Down effects);
-  gateway = longer outbox.gateway (effects_on Gateway effects);
-  subscriber = longer outbox.subscriber (effects_on Subscriber effects);
-}

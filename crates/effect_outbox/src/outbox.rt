@@ -1,11 +1,10 @@
 //! The outbox of a device.
-ghost use Rattle.std.specs.Prelude.{◌≡◌, ◌<◌, ◌≤◌, ◌^◌, [], List, length, OnOk, IfErr, OnErr, option_copied};
+ghost use Rattle.std.specs.Prelude.{◌≡◌, ◌<◌, ◌≤◌, ◌-◌, ◌^◌, [], List, length, OnOk, IfErr, OnErr, option_copied};
 
-use crate::queue::LaneQueue;
 use crate::queues::Queues;
 use crate::settled::Settled;
 use device_types::{Effect, Effects, Lane, NoRoom};
-use std::alloc::Global;
+use std::alloc::{AllocError, Global};
 use std::marker::Model;
 
 /// The effects of a device by lane, until they are settled. Contracts speak of the lanes of which it holds the unsettled rest.
@@ -19,7 +18,7 @@ impl Model for Outbox {
 
     ghost Value = { OutboxState };
 
-    ghost use Rattle.effect_outbox.specs.Queue.{state_of};
+    ghost use Rattle.effect_outbox.specs.Queues.{state_of};
 
     ghost view = { λ outbox. state_of outbox.queues };
 }
@@ -31,31 +30,47 @@ impl Outbox {
 
     /// The outbox of three lanes without effects. It takes no memory.
     pub fn new(alloc: Global) -> Outbox
-        ensures { Holds result (λ _. []) (record { down = 0; gateway = 0; subscriber = 0 }) }
+        ensures lanes { Holds result (λ _. []) (record { down = 0; gateway = 0; subscriber = 0 }) }
+        ensures room { result.room ≡ 0 }
     {
         Outbox {
-            queues: Queues {
-                down: LaneQueue::new(alloc),
-                gateway: LaneQueue::new(alloc),
-                subscriber: LaneQueue::new(alloc),
-            },
+            queues: Queues::new(alloc),
         }
+    }
+
+    /// Makes room for so many more effects, whatever their lanes. It fails for want of memory, or of numbers below 2^64, and the
+    /// outbox stays as it was.
+    pub fn reserve(&mut self, more: usize) -> Result<(), AllocError>
+        ensures ok { OnOk result (self.new ≡ record self.old { room = more }) }
+        ensures err { OnErr result (self.new ≡ self.old) }
+    {
+        self.queues.reserve(more)
+    }
+
+    /// Adds the effects of a step for which there is room, each at the end of its lane. It takes no memory.
+    #[tactic(auto, using(crate::proofs::Steps::state_longer))]
+    pub fn push_reserved(&mut self, effects: Effects)
+        requires { length effects ≤ self.old.room }
+        ensures lanes { (lanes : Lane → List Effect) (settled : LaneNumbers) → Holds self.old lanes settled → Holds self.new (with_effects lanes effects) settled }
+        ensures counted { (l : Lane) → pushed_on self.new l < 2 ^ 64 }
+        ensures room { self.new.room ≡ self.old.room - length effects }
+    {
+        self.queues.put_all(effects.into_items());
     }
 
     /// Adds the effects of a step, each at the end of its lane. For want of memory, or of numbers below 2^64, the outbox stays as
     /// it was, and the effects are given back.
-    #[tactic(auto, using(crate::proofs::Steps::state_longer))]
     pub fn push(&mut self, effects: Effects) -> Result<(), NoRoom<Effects>>
         ensures ok { OnOk result ((lanes : Lane → List Effect) (settled : LaneNumbers) → Holds self.old lanes settled → Holds self.new (with_effects lanes effects) settled) }
         ensures counted { OnOk result ((l : Lane) → pushed_on self.new l < 2 ^ 64) }
+        ensures room { OnOk result (self.new.room ≡ 0) }
         ensures err { OnErr result (self.new ≡ self.old) }
         ensures back { IfErr result (λ room. room.0 ≡ effects) }
     {
-        let items = effects.into_items();
-        if self.queues.reserve(items.len()).is_err() {
-            return Err(NoRoom(Effects::from(items)));
+        if self.reserve(effects.items().len()).is_err() {
+            return Err(NoRoom(effects));
         }
-        self.queues.put_all(items);
+        self.push_reserved(effects);
         Ok(())
     }
 
@@ -70,17 +85,14 @@ impl Outbox {
         }
     }
 
-    /// The effects of the lane up to `k` are settled. It takes no memory.
+    /// The effects of the lane up to `k` are settled: their memory is given back, and no room is kept. It never fails.
     pub fn settle(&mut self, lane: Lane, k: u64) -> Settled
         requires { k ≤ pushed_on self.old lane }
         ensures value { result ≡ settled_by (number_on (settled_of self.old) lane) k }
         ensures rest { (lanes : Lane → List Effect) (settled : LaneNumbers) → Holds self.old lanes settled → Holds self.new lanes (with_number settled lane k) }
+        ensures room { self.new.room ≡ 0 }
     {
-        match lane {
-            Lane::Down => self.queues.down.settle(k),
-            Lane::Gateway => self.queues.gateway.settle(k),
-            Lane::Subscriber => self.queues.subscriber.settle(k),
-        }
+        self.queues.settle(lane, k)
     }
 
     /// How many effects of the lane were made. It takes no memory.

@@ -1,4 +1,5 @@
 //! One lane.
+ghost use Rattle.std.proofs.Common.{deque_len, deque_capacity};
 ghost use Rattle.std.specs.Prelude.{◌≡◌, ◌+◌, ◌^◌, ◌<◌, ◌≤◌, ◌++◌, ◌∷◌, [], ℕ, length, drop, OnOk, option_copied};
 
 use crate::settled::Settled;
@@ -6,7 +7,10 @@ use device_types::Effect;
 use std::alloc::{AllocError, Global};
 use std::collections::VecDeque;
 
-/// The effects of a lane that are not settled, in order, and how many are.
+/// How many places a lane may keep, however few effects are left.
+const FEW: usize = 4;
+
+/// The effects of a lane that are not settled, in order, and how many are settled.
 #[derive(Debug, Drop)]
 pub(crate) struct LaneQueue {
     pub(crate) settled: u64,
@@ -17,11 +21,12 @@ pub(crate) struct LaneQueue {
 
 impl LaneQueue {
     ghost use Rattle.effect_outbox.specs.Outbox.{settled_by};
-    ghost use Rattle.effect_outbox.specs.Queue.{part_of, HasRoom, rest_at, rest_from, longer};
+    ghost use Rattle.effect_outbox.specs.Queue.{none, part_of, HasRoom, rest_at, rest_from, longer};
 
     /// A lane without effects. It takes no memory.
     pub(crate) fn new(alloc: Global) -> LaneQueue
-        ensures { part_of result ≡ record { settled = 0; rest = [] } }
+        ensures part { part_of result ≡ none }
+        ensures room { HasRoom result 0 }
     {
         LaneQueue {
             settled: 0,
@@ -50,6 +55,7 @@ impl LaneQueue {
     pub(crate) fn reserve(&mut self, more: usize) -> Result<(), AllocError>
         ensures same { part_of self.new ≡ part_of self.old }
         ensures room { OnOk result (HasRoom self.new more) }
+        ensures kept { (before : ℕ) → HasRoom self.old before → HasRoom self.new before }
     {
         if self.pushed().checked_add(more as u64).is_none() {
             return Err(AllocError);
@@ -71,11 +77,13 @@ impl LaneQueue {
         requires { k ≤ self.old.settled + length self.old.effects.items }
         ensures value { result ≡ settled_by self.old.settled k }
         ensures part { part_of self.new ≡ rest_from (part_of self.old) k }
+        ensures room { (before : ℕ) → HasRoom self.old before → HasRoom self.new 0 }
     {
         if k <= self.settled {
             return Settled::Old(self.settled);
         }
         drop_front(&mut self.effects, (k - self.settled) as usize);
+        give_places_back(&mut self.effects);
         self.settled = k;
         Settled::Upto(k)
     }
@@ -83,9 +91,22 @@ impl LaneQueue {
 
 /// Drops the first `count` effects.
 fn drop_front(effects: &mut VecDeque<Effect>, count: usize)
-    ensures { effects.new.items ≡ drop count effects.old.items }
+    ensures items { effects.new.items ≡ drop count effects.old.items }
+    ensures room { deque_len effects.old ≤ deque_capacity effects.old → deque_len effects.new ≤ deque_capacity effects.new }
 {
     for _i in 0..count {
         let _ = effects.pop_front();
+    }
+}
+
+/// Gives places back, where fewer than a quarter are taken: twice as many as effects are left stay, so that no more effects are
+/// moved than have gone.
+fn give_places_back(effects: &mut VecDeque<Effect>)
+    ensures items { effects.new.items ≡ effects.old.items }
+    ensures room { deque_len effects.old ≤ deque_capacity effects.old → deque_len effects.new ≤ deque_capacity effects.new }
+{
+    let left = effects.len();
+    if left < effects.capacity() / 4 {
+        effects.shrink_to(FEW.max(2 * left));
     }
 }

@@ -1,11 +1,12 @@
-use Rattle.effect_outbox.proofs.Steps.{fewer}
+use Rattle.std.proofs.Common.{◌-◌, arith}
+use Rattle.effect_outbox.proofs.Steps.{less_room, room_left}
 use Rattle.effect_outbox.proofs.queues.Queues.put.Goals as goal
 
-pub returns-in-Down-clause-room : goal.returns-in-Down-clause-room
-returns-in-Down-clause-room c more h = record { down = c.put.ensures.room more h.down; gateway = fewer _ more h.gateway; subscriber = fewer _ more h.subscriber }
+pub invariant_of-self : goal.invariant_of-self
+invariant_of-self c = record { down_room = room_left _ _ c.args.self.now.room c.put.ensures.room c.requires c.args.self.now.down_room; gateway_room = less_room _ c.args.self.now.room (c.args.self.now.room - 1) c.args.self.now.gateway_room (omega arith); subscriber_room = less_room _ c.args.self.now.room (c.args.self.now.room - 1) c.args.self.now.subscriber_room (omega arith) }
 
-pub returns-in-Gateway-clause-room : goal.returns-in-Gateway-clause-room
-returns-in-Gateway-clause-room c more h = record { down = fewer _ more h.down; gateway = c.put-in-Gateway.ensures.room more h.gateway; subscriber = fewer _ more h.subscriber }
+pub invariant_of-self-in-Gateway : goal.invariant_of-self-in-Gateway
+invariant_of-self-in-Gateway c = record { down_room = less_room _ c.args.self.now.room (c.args.self.now.room - 1) c.args.self.now.down_room (omega arith); gateway_room = room_left _ _ c.args.self.now.room c.put-in-Gateway.ensures.room c.requires c.args.self.now.gateway_room; subscriber_room = less_room _ c.args.self.now.room (c.args.self.now.room - 1) c.args.self.now.subscriber_room (omega arith) }
 
-pub returns-in-Subscriber-clause-room : goal.returns-in-Subscriber-clause-room
-returns-in-Subscriber-clause-room c more h = record { down = fewer _ more h.down; gateway = fewer _ more h.gateway; subscriber = c.put-in-Subscriber.ensures.room more h.subscriber }
+pub invariant_of-self-in-Subscriber : goal.invariant_of-self-in-Subscriber
+invariant_of-self-in-Subscriber c = record { down_room = less_room _ c.args.self.now.room (c.args.self.now.room - 1) c.args.self.now.down_room (omega arith); gateway_room = less_room _ c.args.self.now.room (c.args.self.now.room - 1) c.args.self.now.gateway_room (omega arith); subscriber_room = room_left _ _ c.args.self.now.room c.put-in-Subscriber.ensures.room c.requires c.args.self.now.subscriber_room }
