@@ -1,18 +1,23 @@
 -- What one more entry makes of the parts of a row.
-use Rattle.std.proofs.Common.{◌≡◌, ℕ, ◌+◌, ◌^◌, ◌<◌, Bool, true, false, cond, List, [], ◌∷◌, ◌++◌, length, replicate, Option, None, lit<, refl, sym, ap, ◌∙◌, subst, arith, rules, length-append}
+use Rattle.std.proofs.Common.{◌≡◌, ℕ, ◌+◌, ◌^◌, ◌≤◌, ◌<◌, Bool, true, false, cond, List, [], ◌∷◌, ◌++◌, length, replicate, Option, None, lit<, refl, sym, ap, ◌∙◌, subst, arith, rules, length-append}
 use Rattle.device_types.specs.declared.event.Lane.{Lane}
 use Rattle.device_types.specs.declared.event.Lane.TheVariants as lane
 use Rattle.device_types.specs.declared.effect.Effect.{Effect}
 use Rattle.device_types.specs.declared.step.Entry.{Entry}
 use Rattle.device_types.specs.declared.step.Reply.{Reply}
-use Rattle.device_types.specs.Journal.{effects_on, pushed_count, taken_count, is_message, reply_to, replies_of, awaited_on, awaited_behind, first_call}
+use Rattle.device_types.specs.Journal.{effects_on, pushed_count, taken_count, is_message, reply_to, replies_of, reply_of, awaited_on, awaited_behind, first_call}
+use Rattle.std.specs.Prelude.{nat_lt, ◌&&◌}
 use Rattle.std.proofs.lemmas.List.Elements.{All-replicate}
+use Rattle.std.proofs.lemmas.List.Sums.{count_by-le-length}
 use Rattle.device_types.specs.Octets.{AreOctets}
 use Rattle.device_types.specs.Session.{IsSession, opening}
 use Rattle.device_types.proofs.Journals.{effects_more, replies_more, reply_for, length-replies, awaited_more, session_more}
 use Rattle.effect_outbox.specs.Outbox.{OutboxState, LaneNumbers, Holds, IsRest, with_effects, settled_of, pushed_on, part_on, number_on}
 use Rattle.effect_outbox.proofs.Rests.{held_pushed, held_settled}
-use Rattle.session_row.specs.Row.{RowState, lanes_of, IsRow}
+use Rattle.session_form.specs.Form.{form_of}
+use Rattle.session_row.specs.Replies.{KeepsLast, kept_in}
+use Rattle.session_row.specs.declared.replies.Replies.{Replies}
+use Rattle.session_row.specs.Row.{RowState, lanes_of, kept_reply, IsRow}
 
 -- ---- lanes
 
@@ -50,17 +55,29 @@ call_is journal gateway subscriber items effects call g s e is =
 
 -- ---- replies
 
-pub answered_more : (replies added : List Reply) (journal : List Entry) (entry : Entry) → replies ≡ replies_of journal → added ≡ cond (is_message entry.input) (reply_to (length replies + 1) (length journal + 1) entry ∷ []) [] → replies ++ added ≡ replies_of (journal ++ entry ∷ [])
-answered_more replies added journal entry was more =
-    let n : length replies ≡ taken_count journal = ap length was ∙ length-replies journal in
-    rw (was, more, n) (ap (λ rs. replies_of journal ++ rs) (one_reply (is_message entry.input)) ∙ sym (replies_more journal entry))
+pub taken_is : (window : ℕ) (journal : List Entry) (replies : Replies) → KeepsLast window (replies_of journal) replies → replies.taken ≡ taken_count journal
+taken_is window journal replies kept = kept.taken ∙ length-replies journal
+
+-- each message has an entry
+pub taken_within : (window : ℕ) (journal : List Entry) (replies : Replies) → KeepsLast window (replies_of journal) replies → replies.taken ≤ length journal
+taken_within window journal replies kept =
+    let count = taken_is window journal replies kept in
+    let within = count_by-le-length (λ (entry : Entry). is_message entry.input) journal in
+    omega arith
+
+answered_more : (window taken : ℕ) (journal : List Entry) (entry : Entry) (added : List Reply) (now : Replies) → taken ≡ taken_count journal → added ≡ cond (is_message entry.input) (reply_to (taken + 1) (length journal + 1) entry ∷ []) [] → KeepsLast window (replies_of journal ++ added) now → KeepsLast window (replies_of (journal ++ entry ∷ [])) now
+answered_more window taken journal entry added now count more kept =
+    subst (λ (all : List Reply). KeepsLast window all now)
+    (rw (more, count) (ap (λ (rs : List Reply). replies_of journal ++ rs) (one_reply (is_message entry.input)) ∙ sym (replies_more journal entry)))
+    kept
   where
     one_reply : (b : Bool) → cond b (reply_to (taken_count journal + 1) (length journal + 1) entry ∷ []) [] ≡ reply_for b (taken_count journal + 1) (length journal + 1) entry
     one_reply true = refl
     one_reply false = refl
 
-pub taken_is : (replies : List Reply) (journal : List Entry) → replies ≡ replies_of journal → length replies ≡ taken_count journal
-taken_is replies journal same = ap length same ∙ length-replies journal
+-- what is kept of the replies of a journal
+pub kept_is : (window : ℕ) (journal : List Entry) (n : ℕ) → kept_in window (replies_of journal) n ≡ kept_reply window journal n
+kept_is window journal n = ap (λ count. cond (nat_lt 0 n && nat_lt count (n + window)) (reply_of journal n) None) (length-replies journal)
 
 -- ---- the whole row
 
@@ -69,16 +86,17 @@ opening_is_session =
     let octets : AreOctets (replicate 32 0) = All-replicate (λ octet. octet < 256) 32 0 (lit< tt) in
     search rules
 
-pub row_none : (outbox : OutboxState) → Holds outbox (λ _. []) (record { down = 0; gateway = 0; subscriber = 0 }) → IsRow [] [] None outbox
-row_none outbox h = record { lanes = lanes_none outbox h; answered = refl; waits = refl; session = opening_is_session }
+pub row_none : (window : ℕ) (session : List ℕ) (replies : Replies) (outbox : OutboxState) → session ≡ form_of opening → KeepsLast window [] replies → Holds outbox (λ _. []) (record { down = 0; gateway = 0; subscriber = 0 }) → IsRow window [] session replies None outbox
+row_none window session replies outbox octets kept h = record { range = opening_is_session; octets = octets; answered = kept; waits = refl; lanes = lanes_none outbox h }
 
 -- the row with one more entry
-pub row_more : (journal later : List Entry) (replies answered added : List Reply) (call awaited : Option (Lane × ℕ)) (was now : OutboxState) (entry : Entry) → IsRow journal replies call was → IsSession entry.step.session → later ≡ journal ++ entry ∷ [] → answered ≡ replies ++ added → added ≡ cond (is_message entry.input) (reply_to (length replies + 1) (length journal + 1) entry ∷ []) [] → Holds now (with_effects (lanes_of journal) entry.step.effects) (settled_of was) → awaited ≡ awaited_behind journal entry.step.effects → IsRow later answered awaited now
-row_more journal later replies answered added call awaited was now entry row session longer more reply held waits = rw (longer, more) (record {
-  lanes = lanes_more now journal entry (settled_of was) held;
-  answered = answered_more replies added journal entry row.answered reply;
+pub row_more : (window : ℕ) (journal later : List Entry) (octets session : List ℕ) (before replies : Replies) (added : List Reply) (call awaited : Option (Lane × ℕ)) (was now : OutboxState) (entry : Entry) → IsRow window journal octets before call was → IsSession entry.step.session → later ≡ journal ++ entry ∷ [] → session ≡ form_of entry.step.session → added ≡ cond (is_message entry.input) (reply_to (before.taken + 1) (length journal + 1) entry ∷ []) [] → KeepsLast window (replies_of journal ++ added) replies → awaited ≡ awaited_behind journal entry.step.effects → Holds now (with_effects (lanes_of journal) entry.step.effects) (settled_of was) → IsRow window later session replies awaited now
+row_more window journal later octets session before replies added call awaited was now entry row range longer written reply kept waits held = rw longer (record {
+  range = subst IsSession (sym (session_more journal entry)) range;
+  octets = written ∙ ap form_of (sym (session_more journal entry));
+  answered = answered_more window before.taken journal entry added replies (taken_is window journal before row.answered) reply kept;
   waits = waits ∙ sym (awaited_more journal entry);
-  session = subst IsSession (sym (session_more journal entry)) session;
+  lanes = lanes_more now journal entry (settled_of was) held;
 })
 
 abbrev pub seen : List Entry → LaneNumbers → RowState

@@ -11,6 +11,9 @@ use Rattle.device_types.specs.Journal.{version_of, session_of, effects_of, taken
 use Rattle.device_types.specs.Look.{look_of, answer_look_of}
 use Rattle.effect_outbox.specs.Outbox.{LaneNumbers, OutboxState, Holds, settled_of}
 use Rattle.device_types.specs.Session.{IsSession}
+use Rattle.session_form.specs.Form.{form_of}
+use Rattle.session_row.specs.Replies.{KeepsLast}
+use Rattle.session_row.specs.declared.replies.Replies.{Replies}
 use Rattle.session_row.specs.declared.commit.Commit.{Commit}
 use Rattle.session_row.specs.declared.commit.Commit.TheVariants.{Committed, Stale}
 
@@ -22,13 +25,14 @@ pub record RowState : Type 0 where
 abbrev pub lanes_of : List Entry → Lane → List Effect
 lanes_of journal l = effects_of l journal
 
--- what stands beside a journal follows from it: an outbox, the reply to each message, and the awaited call; and its session is in
--- range
-pub record IsRow (journal : List Entry) (replies : List Reply) (awaited : Option (Lane × ℕ)) (outbox : OutboxState) : Type 0 where
-  pub lanes : Holds outbox (lanes_of journal) (settled_of outbox)
-  pub answered : replies ≡ replies_of journal
+-- what stands beside a journal follows from it: the octets of its session, which is in range, the last replies, the awaited call,
+-- and an outbox
+pub record IsRow (window : ℕ) (journal : List Entry) (session : List ℕ) (replies : Replies) (awaited : Option (Lane × ℕ)) (outbox : OutboxState) : Type 0 where
+  pub range : IsSession (session_of journal)
+  pub octets : session ≡ form_of (session_of journal)
+  pub answered : KeepsLast window (replies_of journal) replies
   pub waits : awaited ≡ awaited_call journal
-  pub session : IsSession (session_of journal)
+  pub lanes : Holds outbox (lanes_of journal) (settled_of outbox)
 
 -- the reply to message n, from 1, while it is among the last that are kept
 abbrev pub kept_reply : ℕ → List Entry → ℕ → Option Reply

@@ -4,6 +4,7 @@
 mod awaited;
 mod commit;
 mod prepared;
+mod replies;
 mod row;
 
 pub use commit::Commit;

@@ -1,14 +1,20 @@
 //! What a write needs memory for.
-ghost use Rattle.std.specs.Prelude.{◌≡◌, ◌+◌, ◌<◌, ◌∷◌, [], ◌++◌, length, vec_len, vec_capacity, IfOk, OnOk, option_to_list, if◌then◌else◌};
+ghost use Rattle.std.specs.Prelude.{◌≡◌, ◌+◌, ◌≤◌, ◌<◌, ◌^◌, ◌∷◌, [], length, vec_len, vec_capacity, IfOk, OnOk, option_to_list, if◌then◌else◌};
 ghost use Rattle.device_types.specs.declared.event.Lane.TheVariants as lane;
 ghost use Rattle.device_types.specs.Journal.{effects_on, is_message, reply_to};
+ghost use Rattle.device_types.specs.Session.{IsSession};
+ghost use Rattle.session_form.specs.Form.{form_of};
 
-use device_types::{Effect, Effects, Entry, Input, Reply, TryCopy};
+use device_types::{Effect, Effects, Entry, Input, Octets, Reply, TryCopy};
+use effect_outbox::Outbox;
+use session_form::write_session;
 use std::alloc::{AllocError, Global};
 
 /// What a write moves into the row, besides the entry.
 #[derive(Debug, Drop)]
 pub(crate) struct Prepared {
+    /// The octets of the step's session.
+    pub(crate) session: Octets,
     /// The effects of the step.
     pub(crate) effects: Effects,
     /// The reply to the message of the entry, if it is one of a message.
@@ -47,37 +53,34 @@ fn reply_for(
     }
 }
 
-/// Makes room for an entry and for its reply, and copies what goes elsewhere in the row.
+/// Makes room for an entry behind so many messages and for its effects, writes its session, and copies what goes elsewhere in the
+/// row.
+#[tactic(auto, using(crate::proofs::Octets::in_range))]
 pub(crate) fn prepare(
     journal: &mut Vec<Entry>,
-    replies: &mut Vec<Reply>,
+    outbox: &mut Outbox,
+    taken: u64,
     entry: &Entry,
 ) -> Result<Prepared, AllocError>
+    requires session { IsSession entry.now.step.session }
+    requires taken { taken ≤ length journal.old.items }
     ensures journal { journal.new.items ≡ journal.old.items }
-    ensures replies { replies.new.items ≡ replies.old.items }
     ensures journal_room { OnOk result (vec_len journal.new < vec_capacity journal.new) }
-    ensures replies_room { OnOk result (vec_len replies.new < vec_capacity replies.new) }
+    ensures outbox { outbox.new ≡ record outbox.old { room = outbox.new.room } }
+    ensures outbox_room { OnOk result (length entry.now.step.effects ≤ outbox.new.room) }
+    ensures counted { OnOk result (taken + 1 < 2 ^ 64) }
+    ensures session { IfOk result (λ prepared. prepared.session ≡ form_of entry.now.step.session) }
     ensures effects { IfOk result (λ prepared. prepared.effects ≡ entry.now.step.effects) }
     ensures reply { IfOk result (λ prepared. option_to_list prepared.reply
-        ≡ (if is_message entry.now.input then reply_to (length replies.old.items + 1) (length journal.old.items + 1) entry.now ∷ [] else [])) }
+        ≡ (if is_message entry.now.input then reply_to (taken + 1) (length journal.old.items + 1) entry.now ∷ [] else [])) }
 {
     journal.reserve(1)?;
-    replies.reserve(1)?;
+    outbox.reserve(entry.step.effects.items().len())?;
     let alloc = *journal.allocator();
-    let number = replies.len() as u64 + 1;
     let version = journal.len() as u64 + 1;
     Ok(Prepared {
+        session: write_session(alloc, &entry.step.session)?,
         effects: entry.step.effects.copy()?,
-        reply: reply_for(alloc, number, version, entry)?,
+        reply: reply_for(alloc, taken + 1, version, entry)?,
     })
-}
-
-/// The reply, if there is one, at the end. There is room.
-pub(crate) fn keep_reply(replies: &mut Vec<Reply>, reply: Option<Reply>)
-    requires { vec_len replies.old < vec_capacity replies.old }
-    ensures { replies.new.items ≡ replies.old.items ++ option_to_list reply }
-{
-    if let Some(reply) = reply {
-        replies.push_reserved(reply);
-    }
 }

@@ -4,21 +4,26 @@ ghost use Rattle.device_types.specs.Journal.{version_of, session_of, pushed_coun
 ghost use Rattle.device_types.specs.Look.{look_of, answer_look_of, look_behind, unless_awaited};
 ghost use Rattle.device_types.specs.Session.{IsSession};
 ghost use Rattle.effect_outbox.specs.Outbox.{number_on, with_number, settled_by, Holds};
+ghost use Rattle.session_form.specs.Form.{form_of};
 
 use crate::awaited::{awaited_behind, is_call};
 use crate::commit::Commit;
-use crate::prepared::{Prepared, keep_reply, prepare};
-use device_types::{Entry, Lane, Look, NoRoom, Reply, Session, TryCopy};
+use crate::prepared::{Prepared, prepare};
+use crate::replies::Replies;
+use device_types::{Entry, Lane, Look, NoRoom, Octets, Reply, Session};
+use echo_base::Bad;
 use effect_outbox::{Outbox, Settled};
+use session_form::{read_session, write_session};
 use std::alloc::{AllocError, Global};
 use std::marker::Model;
 
 /// What the core keeps of a device: the journal of its steps, and how many effects of each lane are settled. Contracts see these
-/// two. The replies to the last `W` messages are kept.
+/// two. Beside them stand the octets of its session, the replies to the last `W` messages, and the unsettled effects.
 #[derive(Debug, Drop)]
 pub struct Row<const W: u64> {
     entries: Vec<Entry>,
-    replies: Vec<Reply>,
+    session: Octets,
+    replies: Replies,
     awaited: Option<(Lane, u64)>,
     outbox: Outbox,
 }
@@ -31,7 +36,7 @@ impl<const W: u64> Model for Row<W> {
 
     ghost view = { λ row. record { journal = row.entries.items; settled = settled_of row.outbox } };
 
-    ghost invariant = { λ row. IsRow row.entries.items row.replies.items row.awaited row.outbox };
+    ghost invariant = { λ row. IsRow W row.entries.items row.session row.replies row.awaited row.outbox };
 }
 
 impl<const W: u64> Row<W> {
@@ -44,7 +49,8 @@ impl<const W: u64> Row<W> {
     {
         Ok(Row {
             entries: Vec::new(alloc),
-            replies: Vec::new(alloc),
+            session: write_session(alloc, &Session::opening(alloc))?,
+            replies: Replies::new(alloc, W)?,
             awaited: None,
             outbox: Outbox::new(alloc),
         })
@@ -62,7 +68,7 @@ impl<const W: u64> Row<W> {
     pub fn taken(&self) -> u64
         ensures { result ≡ taken_count self.now.journal }
     {
-        self.replies.len() as u64
+        self.replies.taken
     }
 
     /// The call whose answer is awaited, by its lane and its number there, or `None`. It takes no memory.
@@ -72,14 +78,22 @@ impl<const W: u64> Row<W> {
         self.awaited
     }
 
+    /// The octets of the session of the last step, or of the opening one: those of `write_session`. It takes no memory.
+    pub fn octets(&self) -> &[u8]
+        ensures { result.now ≡ form_of (session_of self.now.journal) }
+    {
+        self.session.octets()
+    }
+
     /// The session of the last step, or the opening one. It fails for want of memory alone.
     pub fn session(&self) -> Result<Session, AllocError>
         ensures value { IfOk result (λ session. session ≡ session_of self.now.journal) }
         ensures range { IsSession (session_of self.now.journal) }
     {
-        match self.entries.last() {
-            Some(entry) => entry.step.session.copy(),
-            None => Ok(Session::opening(*self.entries.allocator())),
+        match read_session(*self.entries.allocator(), self.session.octets()) {
+            Ok(session) => Ok(session),
+            Err(Bad::OutOfMemory) => Err(AllocError),
+            Err(Bad::Refused(_)) => unreachable!(),
         }
     }
 
@@ -124,16 +138,7 @@ impl<const W: u64> Row<W> {
         ensures value { option_copied result ≡ kept_reply W self.now.journal n }
         ensures kept { IsSome result ↔ ((1 ≤ n) × (n ≤ taken_count self.now.journal) × (taken_count self.now.journal < n + W)) }
     {
-        let index = n.checked_sub(1)?;
-        let taken = self.taken();
-        if n > taken {
-            return None;
-        }
-        let behind = taken - n;
-        if behind >= W {
-            return None;
-        }
-        self.replies.get(index as usize)
+        self.replies.get(n)
     }
 
     /// The effects of the lane up to `k` are settled. It takes no memory.
@@ -162,21 +167,25 @@ impl<const W: u64> Row<W> {
         ensures err { OnErr result (self.new ≡ self.old) }
         ensures back { IfErr result (λ room. room.0 ≡ entry) }
     {
-        let Ok(prepared) = prepare(&mut self.entries, &mut self.replies, &entry) else {
+        let (entries, outbox) = (&mut self.entries, &mut self.outbox);
+        let Ok(prepared) = prepare(entries, outbox, self.replies.taken, &entry) else {
             return Err(NoRoom(entry));
         };
         let current = self.entries.len() as u64;
         if read != current {
             return Ok(Commit::Stale { read, current });
         }
-        let Prepared { effects, reply } = prepared;
+        let Prepared {
+            session,
+            effects,
+            reply,
+        } = prepared;
         let gateway = self.outbox.pushed(Lane::Gateway);
         let subscriber = self.outbox.pushed(Lane::Subscriber);
-        let Ok(()) = self.outbox.push(effects) else {
-            return Err(NoRoom(entry));
-        };
+        self.outbox.push_reserved(effects);
         self.awaited = awaited_behind(gateway, subscriber, entry.step.effects.items());
-        keep_reply(&mut self.replies, reply);
+        self.session = session;
+        self.replies.keep(reply);
         self.entries.push_reserved(entry);
         Ok(Commit::Committed(read + 1))
     }
