@@ -3,3 +3,4 @@ pub mod Charter
 pub mod Law
 pub mod Rows
 pub mod Seen
+pub mod Shards

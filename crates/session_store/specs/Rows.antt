@@ -1,5 +1,5 @@
 -- The rows of all devices.
-use Rattle.std.specs.Prelude.{◌≡◌, ◌≢◌, ◌≤◌, ℕ, ◌+◌, ◌-◌, List, [], ◌++◌, length, Option, Some, slice_get, slice_index_or, slice_set}
+use Rattle.std.specs.Prelude.{◌≡◌, ◌≢◌, ◌≤◌, ℕ, ◌+◌, ◌-◌, ◌^◌, List, [], ◌++◌, length, min, Option, Some, slice_get, slice_index_or, slice_set}
 use Rattle.device_types.specs.declared.effect.Effect.{Effect}
 use Rattle.device_types.specs.declared.event.Lane.{Lane}
 use Rattle.device_types.specs.declared.step.Entry.{Entry}
@@ -11,10 +11,15 @@ use Rattle.session_row.specs.Row.{RowState, Commits}
 use Rattle.session_store.specs.Charter.{CharterState}
 use Rattle.session_store.specs.Law.{IsLawful}
 
--- a charter, and the row of each device in the order of their numbers
+-- a charter, the row of each device in the order of their numbers, and how often the store was read
 pub record StoreState : Type 0 where
   pub charter : CharterState
   pub rows : List RowState
+  pub reads : ℕ
+
+-- one read more: the count stands still at the last value of a u64
+abbrev pub one_more : ℕ → ℕ
+one_more reads = min (reads + 1) (2 ^ 64 - 1)
 
 -- one of so many devices, which are numbered from 1
 abbrev pub IsDevice : ℕ → ℕ → Type 0

@@ -11,6 +11,7 @@ use Rattle.device_types.specs.Journal.{version_of, session_of, reply_of}
 use Rattle.device_types.specs.Look.{look_of, answer_look_of}
 use Rattle.session_store.specs.declared.asked.Asked.{Asked}
 use Rattle.session_store.specs.declared.asked.Asked.TheVariants.{Message, Answer}
+use Rattle.session_store.specs.declared.asked.Peeked.{Peeked}
 use Rattle.session_store.specs.declared.asked.Seen.{Seen}
 use Rattle.session_store.specs.Law.{window}
 
@@ -42,6 +43,14 @@ abbrev pub seen_of : List Entry → Asked → Seen
 seen_of journal asked = record {
   version = version_of journal;
   session = session_of journal;
+  look = look_to journal asked;
+  reply = repeated_reply journal (look_to journal asked);
+}
+
+-- the same without the session
+abbrev pub peeked_of : List Entry → Asked → Peeked
+peeked_of journal asked = record {
+  version = version_of journal;
   look = look_to journal asked;
   reply = repeated_reply journal (look_to journal asked);
 }

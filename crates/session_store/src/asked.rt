@@ -1,6 +1,6 @@
 //! What a store is asked about a row, and what it tells.
 
-use device_types::{Lane, Look, Reply, Session};
+use device_types::{Lane, Look, Reply, Session, TryCopy};
 
 /// An input, by its number, about which a row is asked.
 #[derive(Clone, Copy, Debug, PartialEq, Eq)]
@@ -12,7 +12,7 @@ pub enum Asked {
 }
 
 /// What is seen of a row.
-#[derive(Debug, Drop)]
+#[derive(Clone, Debug, Drop)]
 pub struct Seen {
     /// How many steps were committed.
     pub version: u64,
@@ -22,4 +22,27 @@ pub struct Seen {
     pub look: Look,
     /// The kept reply to the message, where the look says that it is a repeat.
     pub reply: Option<Reply>,
+}
+
+impl TryCopy for Seen {
+    ghost use Rattle.std.proofs.Common.{rules};
+
+    ghost same = { Prim.search rules };
+}
+
+/// What is seen of a row without its session.
+#[derive(Clone, Debug, Drop)]
+pub struct Peeked {
+    /// How many steps were committed.
+    pub version: u64,
+    /// What the row says to the input.
+    pub look: Look,
+    /// The kept reply to the message, where the look says that it is a repeat.
+    pub reply: Option<Reply>,
+}
+
+impl TryCopy for Peeked {
+    ghost use Rattle.std.proofs.Common.{rules};
+
+    ghost same = { Prim.search rules };
 }

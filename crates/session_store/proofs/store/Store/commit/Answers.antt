@@ -1,54 +1,123 @@
-use Rattle.std.proofs.Common.{◌≡◌, List, length, take, sym, subst, lit<, arith}
-use Rattle.std.proofs.lemmas.Grind.{common_steps}
-use Rattle.std.proofs.lemmas.List.{take_all}
-use Rattle.device_types.specs.declared.look.Look.TheVariants.{Ready}
-use Rattle.device_types.specs.declared.step.Entry.{Entry}
-use Rattle.session_row.specs.Row.{RowState, look_at}
-use Rattle.session_store.specs.Law.{window, CanFollow}
-use Rattle.session_store.specs.Rows.{StoreState, IsDevice, journal_of}
-use Rattle.session_store.proofs.Rows.{row_is, rows_stay_lawful, law_can_follow}
+use Rattle.std.proofs.Common.{◌≡◌, ◌≤◌, ◌-◌, List, set, take, refl, sym, ap, ◌∙◌, subst}
+use Rattle.std.specs.Prelude.{IfOk}
+use Rattle.device_types.specs.Journal.{version_of, pushed_count}
+use Rattle.session_row.specs.Row.{RowState, Commits}
+use Rattle.session_store.specs.Charter.{CharterState}
+use Rattle.session_store.specs.Law.{IsLawful}
+use Rattle.session_store.specs.Rows.{StoreState, row_of, journal_of, with_settled}
+use Rattle.session_store.specs.Shards.{shard_of, shard_at, stored_rows, ShardState, IsHere, row_in, journal_in}
+use Rattle.session_store.proofs.Shards.{shard_is, shard_placed, device_in, is_here, row_placed, row_set, same_set, stays_store, on_err}
 use Rattle.session_store.proofs.store.Store.commit.Goals as goal
 
-pub commit-requires : goal.commit-requires
-commit-requires g c =
-    let rows = c.self.inside.rows.items in
+pub commit-requires-clause-here : goal.commit-requires-clause-here
+commit-requires-clause-here g c =
+    let shards = c.self.inside.shards.items in
+    let n = c.self.inside.devices in
     let d = c.args.d.0 in
-    let old = c.index_mut-row.result.now in
     let charter = g.L.RowLaw.charter c.self.inside.law in
-    let follows = g.L.RowLaw.follows charter d in
-    let is = subst (λ (s : StoreState). IsDevice (length s.rows) d) (sym c.self.view_is) c.requires.device in
-    let may = subst (λ (s : StoreState). g.L.RowLaw.follows s.charter d (take c.args.read (journal_of s.rows d)) c.args.entry) (sym c.self.view_is) c.requires.law in
-    let row = row_is rows d old is (rw (← c.index.ensures) c.index_mut-row.ensures.value) in
-    let can = law_can_follow follows (journal_of rows d) c.args.read c.args.entry (λ J. g.met.L.RowLaw.can_follow charter d J c.args.entry c.self.invariant.in_form) (c.self.invariant.lawful d is) may in
-    let here = subst (λ (r : RowState). CanFollow (take c.args.read r.journal) c.args.entry) row can in (
-      lit< tt,
-      (
-        here.session,
-        (
-          here.calls,
-          λ e.
-              subst (λ (J : List Entry). look_at window J c.args.entry.input ≡ Ready) (take_all c.args.read old.journal (omega (arith, e))) here.ready,
-        ),
-      ),
-    )
+    let placed = c.self.invariant.placed in
+    let shard = c.index_mut-shard.result.now in
+    let at : shard_at shards (shard_of d) ≡ shard = shard_is charter n d c.shard_of.result shards shard placed c.shard_of.ensures c.index_mut-shard.ensures.value in
+    let device = device_in shards n d c.args.self.now.rows (ap (λ (s : StoreState). s.rows) c.self.view_is) c.requires.device in
+    is_here charter shards n d shard placed device at
+
+pub commit-requires-clause-version : goal.commit-requires-clause-version
+commit-requires-clause-version g c =
+    let shards = c.self.inside.shards.items in
+    let n = c.self.inside.devices in
+    let d = c.args.d.0 in
+    let charter = g.L.RowLaw.charter c.self.inside.law in
+    let placed = c.self.invariant.placed in
+    let shard = c.index_mut-shard.result.now in
+    let at : shard_at shards (shard_of d) ≡ shard = shard_is charter n d c.shard_of.result shards shard placed c.shard_of.ensures c.index_mut-shard.ensures.value in
+    let device = device_in shards n d c.args.self.now.rows (ap (λ (s : StoreState). s.rows) c.self.view_is) c.requires.device in
+    let row : row_in shard.rows d ≡ row_of c.args.self.now.rows d = row_placed shards n d shard device at ∙ ap (λ (s : StoreState). row_of s.rows d) c.self.view_is in
+    subst (λ (r : RowState). c.args.read ≤ version_of r.journal) (sym row) c.requires.version
+
+pub commit-requires-clause-law : goal.commit-requires-clause-law
+commit-requires-clause-law g c =
+    let shards = c.self.inside.shards.items in
+    let n = c.self.inside.devices in
+    let d = c.args.d.0 in
+    let charter = g.L.RowLaw.charter c.self.inside.law in
+    let placed = c.self.invariant.placed in
+    let shard = c.index_mut-shard.result.now in
+    let at : shard_at shards (shard_of d) ≡ shard = shard_is charter n d c.shard_of.result shards shard placed c.shard_of.ensures c.index_mut-shard.ensures.value in
+    let device = device_in shards n d c.args.self.now.rows (ap (λ (s : StoreState). s.rows) c.self.view_is) c.requires.device in
+    let row : row_in shard.rows d ≡ row_of c.args.self.now.rows d = row_placed shards n d shard device at ∙ ap (λ (s : StoreState). row_of s.rows d) c.self.view_is in
+    let under : shard.charter ≡ c.args.self.now.charter = (shard_placed charter n d shards shard placed at).under ∙ ap (λ (s : StoreState). s.charter) c.self.view_is in
+    subst (λ (r : RowState). g.L.RowLaw.follows shard.charter d (take c.args.read r.journal) c.args.entry) (sym row)
+    (subst (λ (x : CharterState). g.L.RowLaw.follows x d (take c.args.read (journal_of c.args.self.now.rows d)) c.args.entry) (sym under) c.requires.law)
 
 pub invariant_of-self : goal.invariant_of-self
 invariant_of-self g c =
-    let rows = c.self.inside.rows.items in
+    let shards = c.self.inside.shards.items in
+    let n = c.self.inside.devices in
     let d = c.args.d.0 in
     let charter = g.L.RowLaw.charter c.self.inside.law in
-    let is = subst (λ (s : StoreState). IsDevice (length s.rows) d) (sym c.self.view_is) c.requires.device in
-    let may = subst (λ (s : StoreState). g.L.RowLaw.follows s.charter d (take c.args.read (journal_of s.rows d)) c.args.entry) (sym c.self.view_is) c.requires.law in
-    rw c.index.ensures
-    (record {
-      in_form = c.self.invariant.in_form;
-      lawful = rows_stay_lawful (g.L.RowLaw.follows charter) rows d c.index_mut-row.result.now c.commit.new.self c.args.read c.args.entry c.commit.result c.self.invariant.lawful is
-          (row_is rows d c.index_mut-row.result.now is (rw (← c.index.ensures) c.index_mut-row.ensures.value)) c.commit.ensures.ok c.commit.ensures.err may;
-    })
+    let placed = c.self.invariant.placed in
+    let shard = c.index_mut-shard.result.now in
+    let at : shard_at shards (shard_of d) ≡ shard = shard_is charter n d c.shard_of.result shards shard placed c.shard_of.ensures c.index_mut-shard.ensures.value in
+    let device = device_in shards n d c.args.self.now.rows (ap (λ (s : StoreState). s.rows) c.self.view_is) c.requires.device in
+    let now = c.commit.new.self in
+    let own = shard_placed charter n d shards shard placed at in
+    let same : now.charter ≡ charter = ap (λ (s : ShardState). s.charter) c.commit.ensures.others ∙ own.under in
+    let here = is_here charter shards n d shard placed device at in
+    let lies = subst (λ (s : ShardState). IsHere s d) (sym c.commit.ensures.others) here in
+    let lawful = subst (λ (x : CharterState). IsLawful (g.L.RowLaw.follows x d) (journal_in now.rows d)) same (c.commit.ensures.lawful d lies) in
+    rw c.shard_of.ensures (stays_store (g.L.RowLaw.follows charter) charter n d shards shard now (row_in now.rows d) c.self.invariant device at refl c.commit.ensures.others lawful).0
+
+pub returns-clause-ok : goal.returns-clause-ok
+returns-clause-ok g c =
+    let shards = c.self.inside.shards.items in
+    let n = c.self.inside.devices in
+    let d = c.args.d.0 in
+    let charter = g.L.RowLaw.charter c.self.inside.law in
+    let placed = c.self.invariant.placed in
+    let shard = c.index_mut-shard.result.now in
+    let at : shard_at shards (shard_of d) ≡ shard = shard_is charter n d c.shard_of.result shards shard placed c.shard_of.ensures c.index_mut-shard.ensures.value in
+    let device = device_in shards n d c.args.self.now.rows (ap (λ (s : StoreState). s.rows) c.self.view_is) c.requires.device in
+    let row : row_in shard.rows d ≡ row_of c.args.self.now.rows d = row_placed shards n d shard device at ∙ ap (λ (s : StoreState). row_of s.rows d) c.self.view_is in
+    let now = c.commit.new.self in
+    let set_row : row_of (stored_rows (set shards c.shard_of.result now) n) d ≡ row_in now.rows d = rw c.shard_of.ensures (row_set charter n d shards now placed device) in
+    subst (λ (r : RowState). IfOk c.commit.result (Commits (row_of c.args.self.now.rows d) r c.args.read c.args.entry)) (sym set_row)
+    (subst (λ (r : RowState). IfOk c.commit.result (Commits r (row_in now.rows d) c.args.read c.args.entry)) row c.commit.ensures.ok)
+
+pub returns-clause-others : goal.returns-clause-others
+returns-clause-others g c =
+    let shards = c.self.inside.shards.items in
+    let n = c.self.inside.devices in
+    let d = c.args.d.0 in
+    let charter = g.L.RowLaw.charter c.self.inside.law in
+    let placed = c.self.invariant.placed in
+    let shard = c.index_mut-shard.result.now in
+    let at : shard_at shards (shard_of d) ≡ shard = shard_is charter n d c.shard_of.result shards shard placed c.shard_of.ensures c.index_mut-shard.ensures.value in
+    let device = device_in shards n d c.args.self.now.rows (ap (λ (s : StoreState). s.rows) c.self.view_is) c.requires.device in
+    let now = c.commit.new.self in
+    let own = shard_placed charter n d shards shard placed at in
+    let same : now.charter ≡ charter = ap (λ (s : ShardState). s.charter) c.commit.ensures.others ∙ own.under in
+    let here = is_here charter shards n d shard placed device at in
+    let lies = subst (λ (s : ShardState). IsHere s d) (sym c.commit.ensures.others) here in
+    let lawful = subst (λ (x : CharterState). IsLawful (g.L.RowLaw.follows x d) (journal_in now.rows d)) same (c.commit.ensures.lawful d lies) in
+    let rows = (stays_store (g.L.RowLaw.follows charter) charter n d shards shard now (row_in now.rows d) c.self.invariant device at refl c.commit.ensures.others lawful).1 in
+    rw c.shard_of.ensures
+    (ap (λ (xs : List RowState). record { charter = charter; rows = xs; reads = c.self.inside.reads }) (rows ∙ ap (set (stored_rows shards n) (d - 1)) (sym (row_set charter n d shards now placed device)))
+    ∙ ap (λ (s : StoreState). record s { rows = set s.rows (d - 1) (row_of (stored_rows (set shards (shard_of d) now) n) d) }) c.self.view_is)
 
 pub returns-clause-lawful : goal.returns-clause-lawful
 returns-clause-lawful g c = (invariant_of-self g c).lawful
 
--- the goal that an edit turns: what has an answer is tried by that alone
-pub returns-clause-ok : goal.returns-clause-ok
-returns-clause-ok g c = grind (arith, common_steps)
+pub returns-clause-err : goal.returns-clause-err
+returns-clause-err g c =
+    let shards = c.self.inside.shards.items in
+    let n = c.self.inside.devices in
+    let d = c.args.d.0 in
+    let charter = g.L.RowLaw.charter c.self.inside.law in
+    let placed = c.self.invariant.placed in
+    let shard = c.index_mut-shard.result.now in
+    let at : shard_at shards (shard_of d) ≡ shard = shard_is charter n d c.shard_of.result shards shard placed c.shard_of.ensures c.index_mut-shard.ensures.value in
+    let device = device_in shards n d c.args.self.now.rows (ap (λ (s : StoreState). s.rows) c.self.view_is) c.requires.device in
+    let now = c.commit.new.self in
+    rw c.shard_of.ensures
+    (on_err (now ≡ shard) (record { charter = charter; rows = stored_rows (set shards (shard_of d) now) n; reads = c.self.inside.reads } ≡ c.args.self.now) c.commit.result
+    (λ e. ap (λ (ss : List ShardState). record { charter = charter; rows = stored_rows ss n; reads = c.self.inside.reads }) (same_set charter n d shards shard now placed at e) ∙ c.self.view_is) c.commit.ensures.err)
