@@ -21,7 +21,7 @@ use Rattle.session_store.specs.Law.{window, IsLawful}
 use Rattle.session_store.specs.Rows.{IsKnownAfter}
 use Rattle.session_store.proofs.Journals.{lawful_front}
 
-last_apart : (xs : List Entry) (n : ℕ) (x : Entry) → length xs ≡ n + 1 → slice_get xs n ≡ Some x → xs ≡ take n xs ++ x ∷ []
+pub last_apart : (xs : List Entry) (n : ℕ) (x : Entry) → length xs ≡ n + 1 → slice_get xs n ≡ Some x → xs ≡ take n xs ++ x ∷ []
 last_apart [] n x count g = absurd (omega arith)
 last_apart (y ∷ []) zero x count g = let e : y ≡ x = cc in ap (λ z. z ∷ []) e
 last_apart (y ∷ z ∷ zs) zero x count g = absurd (omega arith)

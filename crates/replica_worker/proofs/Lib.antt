@@ -1,3 +1,4 @@
 pub mod Answered
+pub mod Cached
 pub mod May
 pub mod Worked

@@ -1,3 +1,5 @@
+pub mod Cache
 pub mod Hands
+pub mod Replica
 pub mod Replies
 pub mod Writes

@@ -1,10 +1,12 @@
 //! What a replica holds.
-ghost use Rattle.std.specs.Prelude.{◌≡◌, Some};
+ghost use Rattle.std.specs.Prelude.{◌≡◌, IfOk};
+ghost use Rattle.replica_worker.specs.Cache.{written_session};
 ghost use Rattle.replica_worker.specs.Hands.{held_in, lent_held, hand_of};
 ghost use Rattle.session_store.specs.Seen.{asked_of};
 
-use device_types::{DeviceId, Entry, Input, Step};
+use device_types::{DeviceId, Entry, Input, Session, Step, TryCopy};
 use session_store::Asked;
+use std::alloc::AllocError;
 
 /// What a replica holds.
 #[derive(Debug, Drop)]
@@ -74,5 +76,15 @@ pub(crate) fn asked_of(input: &Input) -> Asked
     match input {
         Input::Message(message) => Asked::Message(message.number),
         Input::Answer { lane, k, .. } => Asked::Answer(*lane, *k),
+    }
+}
+
+/// The session of the step that a hand is to write.
+pub(crate) fn written_session(hand: &Hand) -> Result<Option<Session>, AllocError>
+    ensures { IfOk result (λ session. session ≡ written_session hand.now) }
+{
+    match hand {
+        Hand::Ready { entry, .. } => Ok(Some(entry.step.session.copy()?)),
+        _ => Ok(None),
     }
 }
