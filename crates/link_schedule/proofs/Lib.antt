@@ -9,6 +9,7 @@ pub mod Lanes
 pub mod Links
 pub mod Noted
 pub mod Offers
+pub mod Remembered
 pub mod Replicas
 pub mod Replied
 pub mod Whole

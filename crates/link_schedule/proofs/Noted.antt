@@ -1,16 +1,18 @@
 -- A world that has noted an event.
-use Rattle.std.proofs.Common.{◌≡◌, ℕ, ◌-◌, List, [], ◌∷◌, ◌++◌, length, set, true, sym, subst}
+use Rattle.std.proofs.Common.{◌≡◌, ℕ, ◌-◌, List, [], ◌∷◌, ◌++◌, length, set, true, sym, ap, ◌∙◌, subst}
 use Rattle.device_types.specs.declared.event.Event.{Event}
 use Rattle.device_types.specs.declared.event.EventAnswer.{EventAnswer}
 use Rattle.device_types.specs.declared.event.Lane.{Lane}
 use Rattle.device_types.specs.Numbers.{IsWithin}
 use Rattle.replica_worker.specs.declared.hand.Hand.{Hand}
+use Rattle.replica_worker.specs.Replica.{ReplicaState}
 use Rattle.schedule_laws.specs.Answer.{answer, history, IsEvent}
 use Rattle.schedule_laws.specs.Counts.{hand, effect_pushed}
 use Rattle.schedule_laws.specs.Promise.{is_void}
 use Rattle.link_schedule.specs.World.{Parts, WorldState, ArePartsOf, IsWorld, Answers}
 use Rattle.link_schedule.proofs.Events.{stays}
 use Rattle.schedule_laws.proofs.Promises.{is_quiet, quiet_stays, void_stays}
+use Rattle.link_schedule.proofs.Remembered.{hands_of, hands_set}
 use Rattle.link_schedule.proofs.Worlds.{goes_on, answered}
 
 -- the event is one of the setting, and comes to this answer, with these parts after it
@@ -48,10 +50,12 @@ gives old w e a p es same more given =
     (subst (λ (xs : List Event). Answers w (record { setting = w.setting; events = xs; parts = p }) e a) (sym more) (answered w e a p given))
 
 -- the hand of a replica is another
-pub notes_hand : (w : WorldState) (e : Event) (a : EventAnswer) (r : ℕ) (now held : Hand) (es : List Event) → now ≡ held → es ≡ w.events ++ e ∷ [] → IsWorld w → IsEvent w.setting e → a ≡ answer w.setting (history w.setting w.events) e → ArePartsOf w.setting ((e, a) ∷ history w.setting w.events) (record w.parts { hands = set w.parts.hands (r - 1) held }) → IsWorld (record { setting = w.setting; events = es; parts = record w.parts { hands = set w.parts.hands (r - 1) now } })
-notes_hand w e a r now held es same more is i given parts =
-    notes w e a (record w.parts { hands = set w.parts.hands (r - 1) now }) es more is i given
-    (subst (λ (h : Hand). ArePartsOf w.setting ((e, a) ∷ history w.setting w.events) (record w.parts { hands = set w.parts.hands (r - 1) h })) (sym same) parts)
+pub notes_hand : (w : WorldState) (e : Event) (a : EventAnswer) (r : ℕ) (replicas : List ReplicaState) (now : ReplicaState) (held : Hand) (es : List Event) → now.hand ≡ held → es ≡ w.events ++ e ∷ [] → IsWorld w → IsEvent w.setting e → a ≡ answer w.setting (history w.setting w.events) e
+    → ArePartsOf w.setting ((e, a) ∷ history w.setting w.events) (record w.parts { hands = set (hands_of replicas) (r - 1) held }) → IsWorld (record { setting = w.setting; events = es; parts = record w.parts { hands = hands_of (set replicas (r - 1) now) } })
+notes_hand w e a r replicas now held es same more is i given parts =
+    let hands : hands_of (set replicas (r - 1) now) ≡ set (hands_of replicas) (r - 1) held = hands_set replicas (r - 1) now ∙ ap (set (hands_of replicas) (r - 1)) same in
+    notes w e a (record w.parts { hands = hands_of (set replicas (r - 1) now) }) es more is i given
+    (subst (λ (hs : List Hand). ArePartsOf w.setting ((e, a) ∷ history w.setting w.events) (record w.parts { hands = hs })) (sym hands) parts)
 
 -- an event whose answer changes nothing: the counts and the hands are as before
 pub notes_quiet : (w : WorldState) (e : Event) (a : EventAnswer) (es : List Event) → es ≡ w.events ++ e ∷ [] → IsWorld w → IsEvent w.setting e → a ≡ answer w.setting (history w.setting w.events) e → is_quiet a ≡ true → ((r : ℕ) → hand r ((e, a) ∷ history w.setting w.events) ≡ hand r (history w.setting w.events)) → IsWorld (record { setting = w.setting; events = es; parts = w.parts })

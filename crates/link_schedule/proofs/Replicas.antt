@@ -178,16 +178,16 @@ may_write s H p r (hands.Ready d v entry) charter is L at same within m =
       law = ap (slice_get (alone_in charter d.0)) count ∙ ap (λ es. slice_get es v) all ∙ f.1 ∙ ap Some (sym h.2);
     }
 
-pub writes_held : (s : Setting) (H : List Turn) (p : Parts) (r : ℕ) (was : Hand) (charter : CharterState) (new : StoreState) (commit : Commit) → Lawful s H → was ≡ get_or p.hands (r - 1) was → WritesHeld WritesRow was (record { charter = charter; rows = p.rows }) new commit → IsWithin s.replicas r → ArePartsOf s H p → (commit_answer commit ≡ answer s H (Write r)) × ArePartsOf s ((Write r, commit_answer commit) ∷ H) (record p { rows = new.rows; hands = set p.hands (r - 1) hands.Empty })
-writes_held s H p r hands.Empty charter new commit L at k within m = absurd k
-writes_held s H p r (hands.Taken d input) charter new commit L at k within m = absurd k
-writes_held s H p r (hands.Ready d v entry) charter new commit L at k within m =
+pub writes_held : (s : Setting) (H : List Turn) (p : Parts) (r : ℕ) (was : Hand) (old new : StoreState) (commit : Commit) → Lawful s H → was ≡ get_or p.hands (r - 1) was → old.rows ≡ p.rows → WritesHeld WritesRow was old new commit → IsWithin s.replicas r → ArePartsOf s H p → (commit_answer commit ≡ answer s H (Write r)) × ArePartsOf s ((Write r, commit_answer commit) ∷ H) (record p { rows = new.rows; hands = set p.hands (r - 1) hands.Empty })
+writes_held s H p r hands.Empty old new commit L at e k within m = absurd k
+writes_held s H p r (hands.Taken d input) old new commit L at e k within m = absurd k
+writes_held s H p r (hands.Ready d v entry) old new commit L at e k within m =
     let h = made_hand s (hand r H) d v entry (sym (at ∙ m.hands.at r (hands.Ready d v entry) within)) in
     let i = (held_arrival s H r d.0 h.0 L (holds_ready d.0 v h.0 (hand r H) h.1)).1 in
     let row = row_stored p.rows d.0 in
     let now = row_stored new.rows d.0 in
     let here : row ≡ get_or p.rows (d.0 - 1) row = get_or_default p.rows (d.0 - 1) opening_row row (omega (arith, m.rows.long, i.0, i.1)) in
-    let one : Commits row now v (entry_held s d.0 h.0 v) commit = subst (λ (x : Entry). Commits row now v x commit) h.2 k.0 in
+    let one : Commits row now v (entry_held s d.0 h.0 v) commit = subst (λ (x : Entry). Commits row now v x commit) h.2 (subst (λ (xs : List RowState). Commits (row_stored xs d.0) now v entry commit) e k.0) in
     let both = writes s H p r d.0 h.0 v commit row now L h.1 here one within i m in
-    let others : new.rows ≡ set p.rows (d.0 - 1) now = ap (λ (x : StoreState). x.rows) k.1 in
+    let others : new.rows ≡ set p.rows (d.0 - 1) now = ap (λ (x : StoreState). x.rows) k.1 ∙ ap (λ (xs : List RowState). set xs (d.0 - 1) now) e in
     (both.0, subst (λ (xs : List RowState). ArePartsOf s ((Write r, commit_answer commit) ∷ H) (record p { rows = xs; hands = set p.hands (r - 1) hands.Empty })) (sym others) both.1)

@@ -1,7 +1,9 @@
 -- The parts of a world, and what holds of them.
-use Rattle.std.specs.Prelude.{◌≡◌}
+use Rattle.std.specs.Prelude.{◌≡◌, map, All}
 use Rattle.std.specs.Arc.{arc_value}
 use Rattle.link_schedule.specs.declared.world.World.TheInside.{Inside}
+use Rattle.replica_worker.specs.Cache.{AreSessionsOf}
+use Rattle.replica_worker.specs.Replica.{ReplicaState}
 use Rattle.schedule_laws.specs.Promise.{setting}
 use Rattle.link_schedule.specs.World.{WorldState, IsWorld}
 
@@ -12,7 +14,7 @@ view_of w = record {
   events = w.log;
   parts = record {
     rows = w.store.rows;
-    hands = w.replicas.items;
+    hands = map (λ (r : ReplicaState). r.hand) w.replicas.items;
     windows = w.agents.items;
     gateway = w.gateway;
     subscriber = w.server;
@@ -21,7 +23,8 @@ view_of w = record {
   };
 }
 
--- the store is under the same charter
+-- the store is under the same charter, and what the replicas remember are sessions of it
 pub record IsInside (w : Inside) : Type 0 where
   pub charter : w.store.charter ≡ arc_value w.law.charter
+  pub caches : All (λ (r : ReplicaState). AreSessionsOf (arc_value w.law.charter) r.cache) w.replicas.items
   pub world : IsWorld (view_of w)

@@ -20,13 +20,13 @@ use std::alloc::{AllocError, Global};
 use std::sync::Arc;
 use subs_table::SubsTable;
 
-/// So many replicas that hold nothing.
+/// So many replicas that hold nothing, and remember nothing.
 fn idle_replicas(alloc: Global, count: u32) -> Result<Vec<Replica>, AllocError>
-    ensures { IfOk result (λ replicas. replicas.items ≡ replicate count hands.Empty) }
+    ensures { IfOk result (λ replicas. replicas.items ≡ replicate count (record { hand = hands.Empty; cache = [] })) }
 {
     let mut replicas = Vec::new(alloc);
     for _ in 0..count {
-        replicas.push(Replica::new())?;
+        replicas.push(Replica::new(alloc)?)?;
     }
     Ok(replicas)
 }

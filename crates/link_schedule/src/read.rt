@@ -1,5 +1,6 @@
 //! A replica reads the row of what it has taken.
 ghost use Rattle.std.specs.Prelude.{◌≡◌, length, IfOk, OnOk, OnErr, IsSomeAnd};
+ghost use Rattle.replica_worker.specs.Cache.{AreSessionsOf};
 ghost use Rattle.replica_worker.specs.Hands.{held_in, CanBeRead, hand_after};
 ghost use Rattle.session_store.specs.Rows.{journal_of};
 ghost use Rattle.schedule_laws.specs.Answer.{look_answer, IsEvent};
@@ -43,10 +44,13 @@ fn told(
     row: &Subscriber,
     store: &mut Store<EchoLaw>,
 ) -> Result<EventAnswer, AllocError>
-    requires { CanBeRead (length store.old.rows) (held_in replica.old) }
-    ensures store { store.new ≡ store.old }
-    ensures hand { OnOk result (IsSomeAnd (held_in replica.old) (λ held. replica.new ≡ hand_after row.now held.0 held.1 (journal_of store.old.rows held.0.0))) }
-    ensures answer { IfOk result (λ answer. IsSomeAnd (held_in replica.old) (λ held. answer ≡ seen_answer (journal_of store.old.rows held.0.0) held.1)) }
+    requires held { CanBeRead (length store.old.rows) (held_in replica.old.hand) }
+    requires remembers { AreSessionsOf store.old.charter replica.old.cache }
+    ensures charter { store.new.charter ≡ store.old.charter }
+    ensures store { store.new.rows ≡ store.old.rows }
+    ensures remembers { AreSessionsOf store.new.charter replica.new.cache }
+    ensures hand { OnOk result (IsSomeAnd (held_in replica.old.hand) (λ held. replica.new.hand ≡ hand_after row.now held.0 held.1 (journal_of store.old.rows held.0.0))) }
+    ensures answer { IfOk result (λ answer. IsSomeAnd (held_in replica.old.hand) (λ held. answer ≡ seen_answer (journal_of store.old.rows held.0.0) held.1)) }
     ensures err { OnErr result (replica.new ≡ replica.old) }
 {
     let look = replica.read(row, store)?.look;

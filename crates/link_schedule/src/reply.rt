@@ -8,7 +8,7 @@ ghost use Rattle.link_schedule.specs.World.{Answers};
 use crate::world::World;
 use agent_resend::Taken;
 use device_types::{DeviceId, Event, EventAnswer, Look};
-use session_store::{Asked, Seen};
+use session_store::{Asked, Peeked};
 use std::alloc::AllocError;
 
 /// What the agent says to the reply to message `n`, as the answer to the event.
@@ -31,7 +31,7 @@ impl World {
         ensures err { OnErr result (self.new ≡ self.old) }
     {
         let event = Event::Reply { d, n };
-        let Seen { look, reply, .. } = self.store.read(d, Asked::Message(n))?;
+        let Peeked { look, reply, .. } = self.store.peek(d, Asked::Message(n))?;
         if let Look::Settled(_) = look {
             return Ok(self.log.noted(event, EventAnswer::Old(n)));
         }

@@ -1,5 +1,6 @@
 //! A replica writes its step.
 ghost use Rattle.std.specs.Prelude.{◌≡◌, length, IfOk, OnOk, OnErr};
+ghost use Rattle.replica_worker.specs.Cache.{AreSessionsOf};
 ghost use Rattle.replica_worker.specs.Writes.{IsReady, MayWrite, WritesHeld};
 ghost use Rattle.session_store.specs.Rows.{journal_of, WritesRow};
 ghost use Rattle.schedule_laws.specs.Answer.{IsEvent};
@@ -25,11 +26,13 @@ fn commit_answer(commit: Commit) -> EventAnswer
 
 /// What the write of a replica comes to. For want of memory it holds what it held, and the store is as before.
 fn written(replica: &mut Replica, store: &mut Store<EchoLaw>) -> Result<Commit, AllocError>
-    requires ready { IsReady replica.old }
-    requires may { MayWrite store.old.charter (length store.old.rows) (λ d. journal_of store.old.rows d) replica.old }
+    requires ready { IsReady replica.old.hand }
+    requires may { MayWrite store.old.charter (length store.old.rows) (λ d. journal_of store.old.rows d) replica.old.hand }
+    requires remembers { AreSessionsOf store.old.charter replica.old.cache }
     ensures charter { store.new.charter ≡ store.old.charter }
-    ensures store { IfOk result (WritesHeld WritesRow replica.old store.old store.new) }
-    ensures empty { OnOk result (replica.new ≡ Hand.Empty) }
+    ensures store { IfOk result (WritesHeld WritesRow replica.old.hand store.old store.new) }
+    ensures remembers { AreSessionsOf store.new.charter replica.new.cache }
+    ensures empty { OnOk result (replica.new.hand ≡ Hand.Empty) }
     ensures store_err { OnErr result (store.new ≡ store.old) }
     ensures err { OnErr result (replica.new ≡ replica.old) }
 {

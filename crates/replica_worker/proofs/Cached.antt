@@ -1,6 +1,6 @@
 -- What a replica remembers are sessions of its store's journals.
-use Rattle.std.proofs.Common.{◌≡◌, ◌==◌, ◌&&◌, ℕ, ◌+◌, ◌-◌, ◌<◌, Bool, true, false, cond, ⊎_elim, List, [], ◌∷◌, ◌++◌, length, take, drop, get_or, Option, Some, None, refl, sym, ap, ◌∙◌, subst, arith, append_assoc}
-use Rattle.std.specs.Prelude.{All, IfOk, OnErr, Result, Ok, Err, slice_get}
+use Rattle.std.proofs.Common.{◌≡◌, ◌==◌, ℕ, ◌+◌, ◌-◌, ◌<◌, Bool, true, false, cond, ⊎_elim, List, [], ◌∷◌, ◌++◌, length, take, drop, get_or, Option, Some, None, refl, sym, ap, ◌∙◌, subst, append_assoc}
+use Rattle.std.specs.Prelude.{IfOk, OnErr, Result, Ok, Err}
 use Rattle.std.proofs.lemmas.Bool.{and_parts, eqb-true}
 use Rattle.std.proofs.lemmas.List.{take_more, take-append-drop}
 use Rattle.std.proofs.lemmas.List.Elements.{All-head, All-tail, All-push, All-drop}
@@ -16,9 +16,7 @@ use Rattle.device_types.specs.Journal.{version_of, session_of}
 use Rattle.device_types.specs.StepTable.{step_of}
 use Rattle.device_types.proofs.Journals.{session_more}
 use Rattle.replica_worker.specs.declared.cache.CachedSession.{CachedSession}
-use Rattle.replica_worker.specs.declared.hand.Hand.{Hand}
-use Rattle.replica_worker.specs.declared.hand.Hand.TheVariants as hands
-use Rattle.replica_worker.specs.Cache.{cache_size, remember, is_of, session_in, IsSessionOf, AreSessionsOf, lacks, must_read, fresh_at, noted, cached_when, cache_written}
+use Rattle.replica_worker.specs.Cache.{cache_size, is_of, session_in, IsSessionOf, AreSessionsOf, lacks, must_read, fresh_at, noted, cached_when}
 use Rattle.replica_worker.specs.declared.sight.Sight.{Sight}
 use Rattle.replica_worker.specs.Hands.{step_at}
 use Rattle.replica_worker.specs.Replica.{sight_of, Sees}

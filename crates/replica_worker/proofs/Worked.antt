@@ -1,5 +1,5 @@
 -- A worked run of a replica over the rows of two devices, computed: the cheapest test of the definitions of store and replica.
-use Rattle.std.proofs.Common.{◌≡◌, ℕ, ◌+◌, [], ◌∷◌, Some, None, refl}
+use Rattle.std.proofs.Common.{◌≡◌, ℕ, ◌+◌, true, false, [], ◌∷◌, Some, None, refl}
 use Rattle.device_types.specs.declared.down.Down.TheVariants.{Nas}
 use Rattle.device_types.specs.declared.effect.Effect.TheVariants as effects
 use Rattle.device_types.specs.declared.input.Input.TheVariants as inputs
@@ -15,7 +15,9 @@ use Rattle.device_types.specs.Acts.{moves_connection, drops_ue, frees_bearers}
 use Rattle.device_types.specs.Alone.{alone_of}
 use Rattle.device_types.specs.Session.{opening}
 use Rattle.device_types.specs.StepTable.{step_table, step_of}
+use Rattle.replica_worker.specs.declared.cache.CachedSession.{CachedSession}
 use Rattle.replica_worker.specs.declared.hand.Hand.TheVariants as hands
+use Rattle.replica_worker.specs.Cache.{remember, session_in, must_read, cache_read, cache_written}
 use Rattle.replica_worker.specs.Hands.{hand_after}
 use Rattle.replica_worker.specs.Writes.{written_reply}
 use Rattle.session_row.specs.declared.commit.Commit.TheVariants.{Committed, Stale}
@@ -92,3 +94,56 @@ reply-of-a-write = refl
 no-reply-if-stale : written_reply (hands.Ready second 0 rejected) (λ d. rejected ∷ []) (Stale 0 1) ≡ None
 unfolding second rejected service
 no-reply-if-stale = refl
+
+-- ---- what is remembered
+
+-- the session of the second device at a version
+at : ℕ → CachedSession
+at version = record { d = second; version = version; session = opening }
+
+-- nine of them: a full cache drops its oldest
+eight-are-kept : remember (at 0 ∷ at 1 ∷ at 2 ∷ at 3 ∷ at 4 ∷ at 5 ∷ at 6 ∷ []) (at 7) ≡ at 0 ∷ at 1 ∷ at 2 ∷ at 3 ∷ at 4 ∷ at 5 ∷ at 6 ∷ at 7 ∷ []
+eight-are-kept = refl
+
+ninth-drops-the-oldest : remember (at 0 ∷ at 1 ∷ at 2 ∷ at 3 ∷ at 4 ∷ at 5 ∷ at 6 ∷ at 7 ∷ []) (at 8) ≡ at 1 ∷ at 2 ∷ at 3 ∷ at 4 ∷ at 5 ∷ at 6 ∷ at 7 ∷ at 8 ∷ []
+ninth-drops-the-oldest = refl
+
+version-is-found : session_in (at 0 ∷ at 1 ∷ []) second 1 ≡ Some opening
+unfolding at second
+version-is-found = refl
+
+later-version-is-not-found : session_in (at 0 ∷ at 1 ∷ []) second 2 ≡ None
+unfolding at second
+later-version-is-not-found = refl
+
+other-device-is-not-found : session_in (at 0 ∷ at 1 ∷ []) (record { 0 = 1 }) 1 ≡ None
+unfolding at second
+other-device-is-not-found = refl
+
+ready-row-is-read : must_read [] second (inputs.Message service) [] ≡ true
+unfolding second service
+ready-row-is-read = refl
+
+remembered-row-is-not-read : must_read (at 0 ∷ []) second (inputs.Message service) [] ≡ false
+unfolding at second service
+remembered-row-is-not-read = refl
+
+repeat-is-not-read : must_read [] second (inputs.Message service) (rejected ∷ []) ≡ false
+unfolding second service rejected
+repeat-is-not-read = refl
+
+read-is-remembered : cache_read [] second (inputs.Message service) [] ≡ at 0 ∷ []
+unfolding at second service
+read-is-remembered = refl
+
+read-of-a-repeat-is-not-remembered : cache_read (at 0 ∷ []) second (inputs.Message service) (rejected ∷ []) ≡ at 0 ∷ []
+unfolding at second service rejected
+read-of-a-repeat-is-not-remembered = refl
+
+write-is-remembered : cache_written (at 0 ∷ []) (hands.Ready second 0 rejected) (Committed 1) ≡ at 0 ∷ at 1 ∷ []
+unfolding at second rejected
+write-is-remembered = refl
+
+stale-write-is-not-remembered : cache_written (at 0 ∷ []) (hands.Ready second 0 rejected) (Stale 0 1) ≡ at 0 ∷ []
+unfolding at second rejected
+stale-write-is-not-remembered = refl

@@ -8,7 +8,7 @@ use Rattle.device_types.specs.Journal.{version_of, session_of}
 use Rattle.replica_worker.specs.declared.cache.CachedSession.{CachedSession}
 use Rattle.replica_worker.specs.declared.hand.Hand.{Hand}
 use Rattle.replica_worker.specs.declared.sight.Sight.{Sight}
-use Rattle.replica_worker.specs.Cache.{fresh_at, noted, cache_read, PeekSuffices, ReadsBehind}
+use Rattle.replica_worker.specs.Cache.{fresh_at, cache_read, PeekSuffices, ReadsBehind}
 use Rattle.replica_worker.specs.Hands.{step_at}
 use Rattle.session_store.specs.Seen.{asked_of, look_to, peeked_of}
 

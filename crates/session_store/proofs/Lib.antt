@@ -3,3 +3,4 @@ pub mod Known
 pub mod Repeats
 pub mod Rows
 pub mod Shards
+mod Worked

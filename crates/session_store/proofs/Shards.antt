@@ -1,10 +1,8 @@
 -- Shards: their rows by device, and the rows of a store of them.
-use Rattle.std.proofs.Common.{◌≡◌, ℕ, zero, suc, ◌+◌, ◌-◌, ◌%◌, ◌≤◌, ◌<◌, Bool, true, false, cond, eqb, ⊎_elim, List, [], ◌∷◌, ◌++◌, length, map, set, get_or, replicate, Option, Some, None, IsSome, refl, sym, ap, ◌∙◌, subst, arith, length-set, length-append, get_or-set_same, get_or-set_other}
+use Rattle.std.proofs.Common.{◌≡◌, ℕ, zero, suc, ◌+◌, ◌-◌, ◌≤◌, ◌<◌, Bool, true, false, cond, ⊎_elim, List, [], ◌∷◌, ◌++◌, length, set, get_or, replicate, Some, IsSome, refl, sym, ap, ◌∙◌, subst, arith, length-set, length-append, get_or-set_same, get_or-set_other}
 use Rattle.std.specs.Prelude.{OnErr, Result, Ok, Err}
 use Rattle.std.specs.BTreeMap.{BTreeMap, is_at, Updates}
 use Rattle.std.specs.Cmp.{IsEquivalence}
-use Rattle.std.specs.List.{range_with_len}
-use Rattle.std.specs.Map.{lookup, set_value}
 use Rattle.std.specs.Option.{unwrap_or}
 use Rattle.std.specs.Ordering.{nat_cmp, eq_by_cmp}
 use Rattle.std.proofs.lemmas.Bool.{cases_eq, cases_lt, eq-eqb, ne_eqb, eqb-true}
@@ -13,16 +11,14 @@ use Rattle.std.proofs.lemmas.List.{get_or_default, get_or-replicate, length-repl
 use Rattle.std.proofs.lemmas.List.FromFn.{length-map-range_with_len, get_or-map-range_with_len, fill_by_all}
 use Rattle.std.proofs.lemmas.Map.{lookup-set_value}
 use Rattle.std.proofs.lemmas.Nat.{mod_below}
-use Rattle.device_types.specs.declared.no_room.NoRoom.{NoRoom}
 use Rattle.device_types.specs.declared.step.Entry.{Entry}
-use Rattle.session_row.specs.declared.commit.Commit.{Commit}
-use Rattle.session_row.specs.Row.{RowState, Commits}
+use Rattle.session_row.specs.Row.{RowState}
 use Rattle.subs_table.proofs.IndexLaws.{is_at_is}
 use Rattle.session_store.specs.Charter.{CharterState, IsCharter}
 use Rattle.session_store.specs.Law.{IsLawful}
-use Rattle.session_store.specs.Rows.{IsDevice, opening_row, row_of, journal_of, AreLawful}
-use Rattle.session_store.specs.Shards.{shard_count, shard_of, ShardState, IsHere, find_row, row_in, journal_in, with_row, IsOpening, AreLawfulHere, IsShard, no_shard, shard_at, stored_row, stored_rows, IsShardOf, AreShards, IsStore, AreOpened}
-use Rattle.session_store.proofs.Rows.{commit_lawful, set_lawful}
+use Rattle.session_store.specs.Rows.{IsDevice, opening_row, row_of, AreLawful}
+use Rattle.session_store.specs.Shards.{shard_count, shard_of, ShardState, IsHere, find_row, row_in, journal_in, with_row, IsOpening, IsShard, no_shard, shard_at, stored_row, stored_rows, IsShardOf, AreShards, IsStore, AreOpened}
+use Rattle.session_store.proofs.Rows.{set_lawful}
 
 -- ---- one shard
 

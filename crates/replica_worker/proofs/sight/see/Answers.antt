@@ -1,4 +1,4 @@
-use Rattle.std.proofs.Common.{◌≡◌, None, refl, sym, ap, ◌∙◌, subst, inl, inr}
+use Rattle.std.proofs.Common.{◌≡◌, refl, sym, ap, ◌∙◌, subst, inl, inr}
 use Rattle.replica_worker.specs.declared.sight.Sight.{Sight}
 use Rattle.replica_worker.specs.Cache.{AreSessionsOf, ReadsBehind}
 use Rattle.replica_worker.specs.Replica.{sight_read, Sees, MayCount}

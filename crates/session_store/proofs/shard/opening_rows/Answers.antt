@@ -1,7 +1,4 @@
-use Rattle.std.proofs.Common.{◌+◌, Some, ◌∙◌, subst}
-use Rattle.std.specs.BTreeMap.{Updates}
-use Rattle.std.specs.Ordering.{nat_cmp}
-use Rattle.session_row.specs.Row.{RowState}
+use Rattle.std.proofs.Common.{◌∙◌}
 use Rattle.session_store.proofs.Shards.{opened_more, opened_same}
 use Rattle.session_store.proofs.shard.opening_rows.Goals as goal
 use Rattle.session_store.proofs.shard.opening_rows.Goals.{then-shard_of-number+in_ok-open_row, else-shard_of-number}

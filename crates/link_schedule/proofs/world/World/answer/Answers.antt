@@ -1,10 +1,12 @@
-use Rattle.std.proofs.Common.{◌≡◌, cond, take, Some, None, refl, sym, ap, ◌∙◌, arith}
+use Rattle.std.proofs.Common.{◌≡◌, ◌-◌, cond, take, Some, None, refl, sym, ap, ◌∙◌, arith}
 use Rattle.std.specs.Prelude.{nat_le}
+use Rattle.std.specs.Arc.{arc_value}
 use Rattle.device_types.specs.declared.event.Event.TheVariants.{Answer}
 use Rattle.device_types.specs.declared.event.EventAnswer.TheVariants as told
 use Rattle.device_types.specs.declared.input.Input.TheVariants as inputs
 use Rattle.device_types.specs.PeerAnswer.{answer_of}
 use Rattle.replica_worker.specs.declared.hand.Hand.TheVariants as hands
+use Rattle.replica_worker.specs.Replica.{ReplicaState}
 use Rattle.schedule_laws.specs.Answer.{answer, history}
 use Rattle.schedule_laws.specs.Counts.{accepted}
 use Rattle.schedule_laws.specs.Setting.{row_of}
@@ -16,6 +18,7 @@ use Rattle.link_schedule.proofs.Events.{takes_answer}
 use Rattle.link_schedule.proofs.Given.{given_is, some_given, none_given, calls_few}
 use Rattle.schedule_laws.proofs.EachAnswer.{answer_told, no_replica}
 use Rattle.link_schedule.proofs.Noted.{event_in, notes_void, notes_hand}
+use Rattle.link_schedule.proofs.Remembered.{replica_within, caches_kept}
 use Rattle.link_schedule.proofs.world.World.answer.Goals as goal
 use Rattle.link_schedule.proofs.world.World.answer.Goals.{In_ok-answer}
 
@@ -26,6 +29,7 @@ invariant_of-self c =
     let i = event_in c.args.self.now w e c.self.view_is c.requires in
     record {
       charter = c.self.invariant.charter;
+      caches = c.self.invariant.caches;
       world = notes_void w e told.VoidReplica _ c.noted.ensures.events c.self.invariant.world i (no_replica w.setting c.args.r _ c.if-r-self.true) refl;
     }
 
@@ -60,6 +64,7 @@ invariant_of-self-in_default c =
     let given : told.VoidLink ≡ answer w.setting H e = sym (answer_told w.setting H c.args.r d l c.args.k c.self.invariant.world.lawful c.if-r-self.false i.3 ∙ ap (λ b. cond b told.Taken told.VoidLink) test) in
     record {
       charter = c.self.invariant.charter;
+      caches = c.self.invariant.caches;
       world = notes_void w e told.VoidLink _ c.noted-in_default.ensures.events c.self.invariant.world i given refl;
     }
 
@@ -74,8 +79,11 @@ invariant_of-self-2 c =
     let is = found (goal.at.invariant_of-self-2 c).In_ok-answer in
     let both = some_given (accepted d.0 l H) c.args.k c.in-Some.answer (answer_of (row_of w.setting d.0) (take c.args.k (accepted_effects w.setting l H d.0))) (sym c.in-Some.is ∙ is) in
     let given : told.Taken ≡ answer w.setting H e = sym (answer_told w.setting H c.args.r d l c.args.k c.self.invariant.world.lawful c.if-r-self.false i.3 ∙ ap (λ b. cond b told.Taken told.VoidLink) both.0) in
+    let replicas = c.self.inside.replicas.items in
     record {
       charter = c.self.invariant.charter;
-      world = notes_hand w e told.Taken c.args.r c.take.new.self (hands.Taken d (inputs.Answer l c.args.k c.in-Some.answer)) _ c.take.ensures c.noted-2.ensures.events c.self.invariant.world i given
+      caches = caches_kept (arc_value c.self.inside.law.charter) replicas (c.args.r - 1) c.index_mut.result.now c.take.new.self c.self.invariant.caches
+          (replica_within w.setting H w.parts replicas c.args.r refl (i.0.0, c.if-r-self.false) c.self.invariant.world.parts) c.index_mut.ensures.value (ap (λ (x : ReplicaState). x.cache) c.take.ensures);
+      world = notes_hand w e told.Taken c.args.r replicas c.take.new.self (hands.Taken d (inputs.Answer l c.args.k c.in-Some.answer)) _ (ap (λ (x : ReplicaState). x.hand) c.take.ensures) c.noted-2.ensures.events c.self.invariant.world i given
           (takes_answer w.setting H w.parts c.args.r d l c.args.k c.in-Some.answer both.1 (le_of c.args.k (accepted d.0 l H) both.0) (i.0.0, c.if-r-self.false) c.self.invariant.world.parts);
     }

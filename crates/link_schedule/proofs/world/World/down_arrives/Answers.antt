@@ -53,6 +53,7 @@ invariant_of-self-2 c =
     rw c.index-index.ensures
     (record {
       charter = c.self.invariant.charter;
+      caches = c.self.invariant.caches;
       world = notes w (Effect c.args.d Down c.args.k) _ _ c.noted.new.self c.noted.ensures.events c.self.invariant.world made.event made.given made.parts;
     })
 

@@ -25,4 +25,4 @@ invariant_of-self c =
     let i = event_in c.args.self.now w e c.self.view_is c.requires in
     let off : effect_pushed c.args.d.0 c.args.lane c.args.k H ≡ false = on_link (goal.at.invariant_of-self c).After-has ∙ c.if-not-has.true in
     let void = effect_void w.setting H c.args.d c.args.lane c.args.k off in
-    record { charter = c.self.invariant.charter; world = notes_void w e told.VoidLink c.noted.new.self c.noted.ensures.events c.self.invariant.world i void refl }
+    record { charter = c.self.invariant.charter; caches = c.self.invariant.caches; world = notes_void w e told.VoidLink c.noted.new.self c.noted.ensures.events c.self.invariant.world i void refl }

@@ -18,7 +18,7 @@ invariant_of-self c =
     let i = event_in c.args.self.now w e c.self.view_is c.requires in
     let row = is.parts.rows.at c.args.d.0 opening_row i.0 in
     let void = in_row_void w.setting H c.args.d c.args.lane c.args.k _ row (λ there. let t = c.in_ok-is_in_row.ensures.1 there in cc) in
-    record { charter = c.self.invariant.charter; world = notes_void w e told.VoidOutbox c.noted.new.self c.noted.ensures.events is i void refl }
+    record { charter = c.self.invariant.charter; caches = c.self.invariant.caches; world = notes_void w e told.VoidOutbox c.noted.new.self c.noted.ensures.events is i void refl }
 
 pub invariant_of-self-2 : goal.invariant_of-self-2
 invariant_of-self-2 c =
@@ -32,6 +32,7 @@ invariant_of-self-2 c =
     rw c.index-index.ensures
     (record {
       charter = c.self.invariant.charter;
+      caches = c.self.invariant.caches;
       world = notes w e told.Pushed _ c.noted-2.new.self c.noted-2.ensures.events is i pushed
           (pushes w.setting H w.parts c.args.d c.args.lane c.args.k c.index_mut.result.now c.mark.new.self (rw (← c.index-index.ensures) c.index_mut.ensures.value) c.in_ok-mark.ensures.ok i.0 is.parts);
     })

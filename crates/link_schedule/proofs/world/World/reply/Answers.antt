@@ -7,7 +7,7 @@ use Rattle.device_types.specs.declared.step.Reply.{Reply as ReplyValue}
 use Rattle.device_types.specs.Journal.{taken_count}
 use Rattle.device_types.specs.Look.{look_of}
 use Rattle.agent_resend.specs.Window.{reply_taken, after_reply}
-use Rattle.session_store.specs.declared.asked.Seen.{Seen}
+use Rattle.session_store.specs.declared.asked.Peeked.{Peeked}
 use Rattle.session_store.specs.Rows.{journal_of}
 use Rattle.session_store.specs.Seen.{IsRepeat}
 use Rattle.schedule_laws.specs.Answer.{answer, history}
@@ -25,7 +25,7 @@ given_old c =
     let w = view_of c.self.inside in
     let is = c.self.invariant.world in
     let i = event_in c.args.self.now w (Reply c.args.d c.args.n) c.self.view_is c.requires in
-    let seen = ap (λ (x : Seen). x.look) c.in_ok-look.ensures.ok in
+    let seen = ap (λ (x : Peeked). x.look) c.in_ok-look.ensures.ok in
     let said : look_of 4 (journal_of w.parts.rows c.args.d.0) c.args.n ≡ look.Settled c.in-Settled.field-0 = cc in
     replied_old w.setting (history w.setting w.events) w.parts c.args.d c.args.n c.in-Settled.field-0 is.lawful is.parts i.0 i.1 said
 
@@ -35,9 +35,10 @@ invariant_of-self-in-Settled c =
     let e = Reply c.args.d c.args.n in
     let i = event_in c.args.self.now w e c.self.view_is c.requires in
     let given = given_old (goal.at.invariant_of-self-in-Settled c).In-Settled in
-    rw c.read.ensures.same
+    rw c.peek.ensures.same
     (record {
       charter = c.self.invariant.charter;
+      caches = c.self.invariant.caches;
       world = notes_quiet w e (told.Old c.args.n) _ c.noted.ensures.events c.self.invariant.world i given refl (λ r. refl);
     })
 
@@ -52,7 +53,7 @@ given_void c =
     let w = view_of c.self.inside in
     let is = c.self.invariant.world in
     let i = event_in c.args.self.now w (Reply c.args.d c.args.n) c.self.view_is c.requires in
-    let seen = ap (λ (x : Seen). x.look) c.in_ok-look.ensures.ok in
+    let seen = ap (λ (x : Peeked). x.look) c.in_ok-look.ensures.ok in
     let none : c.in_ok-look.field-0.reply ≡ None = cc in
     replied_void w.setting (history w.setting w.events) w.parts c.args.d c.args.n is.lawful is.parts i.0 i.1
     (λ m said. c.in_default.not-Settled m (let e : c.in_ok-look.field-0.look ≡ look.Settled m = cc in e))
@@ -64,9 +65,10 @@ invariant_of-self-in_default-reply c =
     let e = Reply c.args.d c.args.n in
     let i = event_in c.args.self.now w e c.self.view_is c.requires in
     let given = given_void (goal.at.invariant_of-self-in_default-reply c).In_default-reply in
-    rw c.read.ensures.same
+    rw c.peek.ensures.same
     (record {
       charter = c.self.invariant.charter;
+      caches = c.self.invariant.caches;
       world = notes_void w e told.VoidLink _ c.noted-in_default-reply.ensures.events c.self.invariant.world i given refl;
     })
 
@@ -85,8 +87,8 @@ replied c =
     let is = c.self.invariant.world in
     let i = event_in c.args.self.now w (Reply c.args.d c.args.n) c.self.view_is c.requires in
     let J = journal_of w.parts.rows c.args.d.0 in
-    let seen = ap (λ (x : Seen). x.look) c.in_ok-look.ensures.ok in
-    let kept = ap (λ (x : Seen). x.reply) c.in_ok-look.ensures.ok in
+    let seen = ap (λ (x : Peeked). x.look) c.in_ok-look.ensures.ok in
+    let kept = ap (λ (x : Peeked). x.reply) c.in_ok-look.ensures.ok in
     let some : c.in_ok-look.field-0.reply ≡ Some c.in-Some.reply = cc in
     let repeat = c.in_ok-look.ensures.told.0 (subst (λ (x : Option ReplyValue). IsSome x) (sym some) refl) in
     replied_some w.setting (history w.setting w.events) w.parts c.args.d c.args.n c.in-Some.reply is.parts i.0 i.1 (subst IsRepeat seen repeat) (sym some ∙ kept)
@@ -111,9 +113,10 @@ invariant_of-self-2 c =
     let n = c.args.n in
     let path = goal.at.invariant_of-self-2 c in
     let made = (agreed path.After-take_reply-taken (replied path.In-Some)).1 in
-    rw (c.read.ensures.same, c.index-index.ensures)
+    rw (c.peek.ensures.same, c.index-index.ensures)
     (record {
       charter = c.self.invariant.charter;
+      caches = c.self.invariant.caches;
       world = notes w (Reply c.args.d n) (reply_answer n (reply_taken c.index_mut.result.now n)) _ _ c.noted-2.ensures.events c.self.invariant.world made.event made.given made.parts;
     })
 

@@ -25,6 +25,7 @@ invariant_of-self c =
     let given : told.VoidWindow ≡ answer w.setting (history w.setting w.events) e = sym (told_by (goal.at.invariant_of-self c).After-may_send ∙ ap (λ b. cond b told.Sent told.VoidWindow) c.if-not-may_send.true) in
     record {
       charter = c.self.invariant.charter;
+      caches = c.self.invariant.caches;
       world = notes_void w e told.VoidWindow _ c.noted.ensures.events c.self.invariant.world i given refl;
     }
 
@@ -39,6 +40,7 @@ invariant_of-self-2 c =
     rw c.index-index.ensures
     (record {
       charter = c.self.invariant.charter;
+      caches = c.self.invariant.caches;
       world = notes w e told.Sent _ _ c.noted-2.ensures.events c.self.invariant.world i given
           (sends w.setting H w.parts d c.args.n c.index_mut-2.result.now c.sent.new.self c.index_mut.result.now c.mark.new.self (rw (← c.index-index.ensures) c.index_mut-2.ensures.value) c.sent.ensures (rw (← c.index-index.ensures) c.index_mut.ensures.value) c.in_ok-mark.ensures.ok i.0 c.self.invariant.world.parts);
     })

@@ -48,6 +48,7 @@ invariant_of-self-2 c =
     let a = offer_answer c.args.k (offer_of (subscriber_answer_of c.row_at-row.result.now) (calls_of c.self.inside.server c.args.d.0) c.args.k c.in_ok-call.call) in
     record {
       charter = c.self.invariant.charter;
+      caches = c.self.invariant.caches;
       world = notes w e a _ c.noted.new.self c.noted.ensures.events c.self.invariant.world made.event made.given
           (subst (λ (x : List (List SubCall)). ArePartsOf w.setting ((e, a) ∷ history w.setting w.events) (record w.parts { subscriber = x })) (sym calls) made.parts);
     }

@@ -45,7 +45,7 @@ invariant_of-self c =
     let e = Settle c.args.d c.args.lane c.args.k in
     let i = event_in c.args.self.now w e c.self.view_is c.requires in
     let given = void (goal.at.invariant_of-self c).After-accepted-accepted c.if-accepted-k.true in
-    record { charter = c.self.invariant.charter; world = notes_void w e told.VoidLink c.noted.new.self c.noted.ensures.events c.self.invariant.world i given refl }
+    record { charter = c.self.invariant.charter; caches = c.self.invariant.caches; world = notes_void w e told.VoidLink c.noted.new.self c.noted.ensures.events c.self.invariant.world i given refl }
 
 pub returns-then-accepted-k : goal.returns-then-accepted-k
 returns-then-accepted-k c =
@@ -69,6 +69,7 @@ invariant_of-self-2 c =
     let made = is_settled path.After-settle-settled (counted path.After-accepted-accepted) in
     record {
       charter = ap (λ (x : StoreState). x.charter) c.settle-settled.ensures.state ∙ c.self.invariant.charter;
+      caches = c.self.invariant.caches;
       world = notes w (Settle c.args.d c.args.lane c.args.k) _ _ c.noted-2.new.self c.noted-2.ensures.events c.self.invariant.world made.event made.given made.parts;
     }
 

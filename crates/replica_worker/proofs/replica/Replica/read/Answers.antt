@@ -1,11 +1,8 @@
 use Rattle.std.proofs.Common.{◌≡◌, Some, IsSomeAnd, rules, refl, sym, subst, ap, ◌∙◌, arith}
 use Rattle.std.proofs.lemmas.Grind.{common_steps}
-use Rattle.replica_worker.specs.declared.hand.Hand.{Hand}
-use Rattle.replica_worker.specs.declared.cache.CachedSession.{CachedSession}
 use Rattle.replica_worker.specs.Cache.{AreSessionsOf, noted}
 use Rattle.replica_worker.specs.Hands.{held_in, CanBeRead, hand_after}
 use Rattle.replica_worker.specs.Replica.{ReplicaState}
-use Rattle.replica_worker.specs.Writes.{MayWrite}
 use Rattle.replica_worker.proofs.Cached.{sees_peeked, sees_fresh}
 use Rattle.replica_worker.proofs.May.{asked_in, may_read}
 use Rattle.session_store.specs.declared.asked.Peeked.{Peeked}

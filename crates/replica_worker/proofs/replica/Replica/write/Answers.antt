@@ -1,10 +1,8 @@
 use Rattle.std.proofs.Common.{◌≡◌, Some, sym, ap, ◌∙◌, subst}
-use Rattle.device_types.specs.declared.session.Session.{Session}
-use Rattle.replica_worker.specs.declared.cache.CachedSession.{CachedSession}
 use Rattle.replica_worker.specs.declared.hand.Hand.{Hand}
 use Rattle.replica_worker.specs.declared.hand.Hand.TheVariants as hands
 use Rattle.replica_worker.specs.declared.replica.Wrote.{Wrote}
-use Rattle.replica_worker.specs.Cache.{AreSessionsOf, cached_when, written_session, noted}
+use Rattle.replica_worker.specs.Cache.{AreSessionsOf, cached_when, written_session}
 use Rattle.replica_worker.specs.Replica.{ReplicaState}
 use Rattle.replica_worker.specs.Replies.{told_in, reply_when}
 use Rattle.replica_worker.specs.Writes.{written_reply}

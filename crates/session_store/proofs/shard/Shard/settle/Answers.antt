@@ -1,4 +1,4 @@
-use Rattle.std.proofs.Common.{◌≡◌, ℕ, List, sym, ap, ◌∙◌, subst}
+use Rattle.std.proofs.Common.{◌≡◌, ℕ, List, sym, subst}
 use Rattle.session_row.specs.Row.{RowState}
 use Rattle.session_store.specs.Law.{IsLawful}
 use Rattle.session_store.specs.Shards.{ShardState, IsHere, row_in, IsShard}

@@ -1,7 +1,5 @@
 use Rattle.std.proofs.Common.{ap, subst}
-use Rattle.session_row.specs.Row.{RowState}
 use Rattle.session_store.specs.Charter.{IsCharter}
-use Rattle.session_store.specs.Rows.{StoreState}
 use Rattle.session_store.proofs.Shards.{opened_store, opened_rows}
 use Rattle.session_store.proofs.store.Store.new.Goals as goal
 

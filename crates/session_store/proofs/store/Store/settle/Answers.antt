@@ -1,13 +1,12 @@
-use Rattle.std.proofs.Common.{◌≡◌, ◌≤◌, ◌-◌, List, set, take, refl, sym, ap, ◌∙◌, subst}
-use Rattle.std.specs.Prelude.{IfOk}
-use Rattle.device_types.specs.Journal.{version_of, pushed_count}
+use Rattle.std.proofs.Common.{◌≡◌, ◌≤◌, ◌-◌, List, set, sym, ap, ◌∙◌, subst}
+use Rattle.device_types.specs.Journal.{pushed_count}
 use Rattle.effect_outbox.specs.Outbox.{number_on, settled_by}
-use Rattle.session_row.specs.Row.{RowState, Commits}
+use Rattle.session_row.specs.Row.{RowState}
 use Rattle.session_store.specs.Charter.{CharterState}
 use Rattle.session_store.specs.Law.{IsLawful}
-use Rattle.session_store.specs.Rows.{StoreState, row_of, journal_of, with_settled}
+use Rattle.session_store.specs.Rows.{StoreState, row_of, with_settled}
 use Rattle.session_store.specs.Shards.{shard_of, shard_at, stored_rows, ShardState, IsHere, row_in, journal_in}
-use Rattle.session_store.proofs.Shards.{shard_is, shard_placed, device_in, is_here, row_placed, row_set, same_set, stays_store, on_err}
+use Rattle.session_store.proofs.Shards.{shard_is, shard_placed, device_in, is_here, row_placed, stays_store}
 use Rattle.session_store.proofs.store.Store.settle.Goals as goal
 
 pub settle-requires-clause-here : goal.settle-requires-clause-here
