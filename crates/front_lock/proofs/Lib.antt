@@ -1,0 +1,5 @@
+pub mod Histories
+pub mod Views
+pub mod Steps
+pub mod Seats
+pub mod Turns
