@@ -23,7 +23,7 @@ use Rattle.front_lock.specs.Rule.{ticket_count, Knows, Stands, Apart, IsHome, Is
 use Rattle.front_lock.specs.Steps.{Compares, dealer_left, number_dealt, views_joined}
 use Rattle.front_lock.specs.Turns.{IsClosed}
 use Rattle.front_lock.proofs.Histories.{off, list_of-append, list_of-empty_lists, prefix_shorter, in_order, turns_of-between, speaks_for_below, speaks_for_all, speaks_for_one, speaks_for_itself, list_of-one}
-use Rattle.front_lock.proofs.Views.{is_served-has_value, has_ticket-is_served, is_live-has_ticket, weight, flip, stands_aside, placed, moved_at}
+use Rattle.front_lock.proofs.Views.{is_served-has_value, has_ticket-is_served, is_live-has_ticket, weight, flip, knows_at, stands_aside, placed, moved_at, moved}
 
 -- ---- lists
 
@@ -251,19 +251,12 @@ module _ {X B : Type 0} where
           w,
           keeps,
           tt,
-          record {
-            tickets = h.tickets;
-            serving = h.serving;
-            history = h.history;
-            facts = moved_at turns basis by b seats s h.tickets h.serving h.history h.facts id v w at h.tickets h.serving h.history (h.tickets ∷ h.serving ∷ length h.history ∷ []) s.homes refl h.facts.bound (let all = h.facts.counted in omega arith)
-                (record { basis = k.basis; count = k.count; own = k.own; below = k.below; lists = k.lists; told = k.told; seen = k.seen; met = (h.history, refl) })
-                (λ j u _ is. h.facts.knows j u is)
-                (stands_aside h.tickets h.serving h.history (s.homes ≡ none ∷ []) w (ap has_ticket idle))
-                (λ j u _ is. h.facts.stands j u is)
-                (λ j u ne is. let p = h.facts.apart id j v u (λ q. ne (sym q)) at is in record { tickets = p.tickets; numbers = p.numbers })
-                (placed turns basis by b seats s h.history id v w at (λ q. q) h.facts.place)
-                h.facts.numbers;
-          },
+          moved turns basis by b seats s h id v w at h.tickets h.serving s.homes h.facts.bound (let all = h.facts.counted in omega arith)
+              (knows_at by b seats h.history v v.stage v.ticket live k)
+              (stands_aside h.tickets h.serving h.history (s.homes ≡ none ∷ []) w (ap has_ticket idle))
+              (λ j u _ is. h.facts.stands j u is)
+              (λ j u ne is. let p = h.facts.apart id j v u (λ q. ne (sym q)) at is in record { tickets = p.tickets; numbers = p.numbers })
+              (placed turns basis by b seats s h.history id v w at (λ q. q) h.facts.place),
           (prefix_shorter v.met v.seen h.history k.met (k.seen live) le, refl, record { own = k.own live; told = k.told }),
         )
 

@@ -19,7 +19,7 @@ use Rattle.front_lock.specs.View.{is_live, has_ticket, is_served, has_value, vie
 use Rattle.front_lock.specs.Rule.{Knows, Apart, IsHome, IsAway, Keeps}
 use Rattle.front_lock.specs.Steps.{Draws, Looks, Takes, Raises, Returns, Passes}
 use Rattle.front_lock.proofs.Histories.{off, turns_of-else, turns_of-here, speaks_for-with_turn, list_of-with_turn_else, list_of-with_turn_here}
-use Rattle.front_lock.proofs.Views.{is_served-has_value, has_ticket-is_served, weight, set_at, knows_at, stands_aside, placed, moved_at, moved, unmoved}
+use Rattle.front_lock.proofs.Views.{is_served-has_value, has_ticket-is_served, weight, set_at, knows_seen, knows_at, stands_aside, placed, moved_at, moved, unmoved}
 
 module _ {T X B : Type 0} (turns : T → List X) (basis : T → B) (by : X → ℕ) (b : B) (seats : ℕ) where
   abbrev Rule : State T (View X B) → Type 0
@@ -126,16 +126,7 @@ module _ {T X B : Type 0} (turns : T → List X) (basis : T → B) (by : X → �
             takes 0 y.value,
             ap (λ (l : List (maybe.Option T)). get_elem? l 0) y.here,
             moved turns basis by b seats s h id v w at h.tickets h.serving (set s.homes 0 none) h.facts.bound (omega arith)
-                (record {
-                  basis = (λ _. k.basis live);
-                  count = (λ _. k.count live);
-                  own = (λ _. k.own live);
-                  below = k.below;
-                  lists = k.lists;
-                  told = (λ n e. ap (turns_of by n) y.turns_are ∙ k.lists n e);
-                  seen = (λ _. subst (λ l. IsPrefix l h.history) (sym y.turns_are) (prefix_refl h.history));
-                  met = (h.history, refl);
-                })
+                (knows_seen by b seats h.history v Holding v.ticket (turns y.value) live k (λ n e. ap (turns_of by n) y.turns_are ∙ k.lists n e) (subst (λ l. IsPrefix l h.history) (sym y.turns_are) (prefix_refl h.history)))
                 (record { from = (λ _. f.from queues); to = (λ _. f.to queues); now = (λ _. f.now is); whole = (λ _. y.turns_are); out = (λ _. gone) })
                 (λ j u ne there. let g = h.facts.stands j u there in record { from = g.from; to = g.to; now = g.now; whole = g.whole; out = (λ _. gone) })
                 (apart_on s h id v Holding (turns y.value) at queues)

@@ -1,8 +1,7 @@
 -- What the steps of one turn say together.
-use Rattle.std.proofs.Common.{◌≡◌, ℕ, List, [], ◌∷◌, ◌++◌, length, get_or, Some, sym, ap, refl, subst, ◌∙◌}
+use Rattle.std.proofs.Common.{◌≡◌, ℕ, List, [], ◌∷◌, ◌++◌, length, get_or, Some, sym, ap, subst, ◌∙◌}
 use Rattle.std.specs.Prelude.{Result, Ok, Err, IfOk, IfErr}
 use mathlib.Core.List.{IsPrefix}
-use base.Growing.{prefix_trans}
 use Rattle.atomic_table.specs.Table.{Me}
 use Rattle.front_lock.specs.declared.view.Stage.TheVariants.{Idle, Holding}
 use Rattle.front_lock.specs.declared.view.View.{View}
@@ -84,9 +83,3 @@ module _ {T X B : Type 0} (turns : T → List X) (basis : T → B) where
     seen = r.seen;
     view_is = ap (λ (q : Me T (View X B)). q.0) out ∙ ap (λ (q : Me T (View X B)). view_at Idle 0 q.0.seen q.0.mine q.0) r.me;
   }
-
-  pub made_grows : {A : Type 0} (by : X → ℕ) (done : B → List X → X → A → Type 0) (v w : View X B) (a : A) → MakesTurn turns basis by done v a w → IsPrefix v.seen w.seen
-  made_grows by done v w a t = subst (λ (u : View X B). IsPrefix v.seen u.seen) (sym t.view_is) (prefix_trans v.seen (turns t.value) (turns t.value ++ t.turn ∷ []) t.seen (t.turn ∷ [], refl))
-
-  pub missed_grows : (v w : View X B) → MissesTurn turns basis v w → IsPrefix v.seen w.seen
-  missed_grows v w t = subst (λ (u : View X B). IsPrefix v.seen u.seen) (sym t.view_is) t.seen

@@ -2,6 +2,7 @@
 use Rattle.std.proofs.Common.{◌≡◌, ◌≢◌, ◌⊎◌, ℕ, zero, suc, ◌+◌, ◌^◌, ◌≤◌, true, false, List, [], ◌∷◌, length, set, refl, sym, ap, ◌∙◌, subst, inl, inr, ⊎_elim, arith, true≢false, cond}
 use mathlib.Core.Option.{some, none, some-injective, some-ne-none}
 use mathlib.Core.Option as maybe
+use mathlib.Core.List.{IsPrefix}
 use mathlib.Core.Logic.{dite}
 use native.Mathlib.Decide.{ℕ_discrete}
 use lib.ListN.{get_elem?}
@@ -10,7 +11,7 @@ use Rattle.atomic_table.proofs.Lists.{at_set, set_else, set_again}
 use Rattle.front_lock.specs.declared.view.Stage.{Stage}
 use Rattle.front_lock.specs.declared.view.Stage.TheVariants.{Spent, Idle, Waiting, Served, Holding}
 use Rattle.front_lock.specs.declared.view.View.{View}
-use Rattle.front_lock.specs.Numbers.{turns_of}
+use Rattle.front_lock.specs.Numbers.{turns_of, speaks_for, list_of}
 use Rattle.front_lock.specs.View.{is_live, has_ticket, is_served, has_value, view_at}
 use Rattle.front_lock.specs.Rule.{ticket_count, Knows, Stands, Apart, IsHome, IsAway, Keeps, KeepsAt}
 
@@ -55,18 +56,23 @@ module _ {A : Type 0} where
 module _ {X B : Type 0} where
   -- ---- one view
 
-  -- a live view knows the same at another stage and with another ticket
-  pub knows_at : (by : X → ℕ) (b : B) (seats : ℕ) (history : List X) (v : View X B) (stage : Stage) (ticket : ℕ) → is_live v.stage ≡ true → Knows by b seats history v → Knows by b seats history (view_at stage ticket v.seen v.mine v)
-  knows_at by b seats history v stage ticket live k = record {
+  -- a live view at another stage and with another ticket, which has seen so much of the history and the turns of its lists
+  pub knows_seen : (by : X → ℕ) (b : B) (seats : ℕ) (history : List X) (v : View X B) (stage : Stage) (ticket : ℕ) (seen : List X) → is_live v.stage ≡ true → Knows by b seats history v
+      → ((k : ℕ) → speaks_for k v.mine ≡ true → turns_of by k seen ≡ list_of k v.mine) → IsPrefix seen history → Knows by b seats history (view_at stage ticket seen v.mine v)
+  knows_seen by b seats history v stage ticket seen live k told begins = record {
     basis = (λ _. k.basis live);
     count = (λ _. k.count live);
     own = (λ _. k.own live);
     below = k.below;
     lists = k.lists;
-    told = k.told;
-    seen = (λ _. k.seen live);
+    told = told;
+    seen = (λ _. begins);
     met = (history, refl);
   }
+
+  -- one that has seen no more knows the same
+  pub knows_at : (by : X → ℕ) (b : B) (seats : ℕ) (history : List X) (v : View X B) (stage : Stage) (ticket : ℕ) → is_live v.stage ≡ true → Knows by b seats history v → Knows by b seats history (view_at stage ticket v.seen v.mine v)
+  knows_at by b seats history v stage ticket live k = knows_seen by b seats history v stage ticket v.seen live k k.told (k.seen live)
 
   -- one with no ticket stands anywhere
   pub stands_aside : (tickets serving : ℕ) (history : List X) (IsOut : Type 0) (v : View X B) → has_ticket v.stage ≡ false → Stands tickets serving history IsOut v

@@ -187,7 +187,6 @@ impl<T: Held> Front<T> {
         requires can { (y : T) → seat.old.me.0.basis ≡ Some (T.basis y) → J.can job (T.basis y) seat.old.me.0.seen }
         ensures table { seat.new.table_id ≡ seat.old.table_id }
         ensures empty { seat.new.me.1 ≡ [] }
-        ensures grows { IsPrefix seat.old.me.0.seen seat.new.me.0.seen }
         ensures knows { KnowsItsTurns T.by seat.new.me.0 }
         ensures ok { IfOk result (λ answer. MakesTurn T.turns T.basis T.by (J.done job) seat.old.me.0 answer seat.new.me.0) }
         ensures err { IfErr result (λ room. MissesTurn T.turns T.basis seat.old.me.0 seat.new.me.0) }

@@ -1,6 +1,6 @@
 use Rattle.std.proofs.Common.{◌∷◌, ◌++◌, [], arith, sym, ◌∙◌, ap, subst}
 use Rattle.front_lock.proofs.Steps.{takes_value, raises}
-use Rattle.front_lock.proofs.Turns.{when_ok, when_err, has_run, has_raised, makes_turn, misses_turn, made_grows, missed_grows}
+use Rattle.front_lock.proofs.Turns.{when_ok, when_err, has_run, has_raised, makes_turn, misses_turn}
 use Rattle.front_lock.proofs.front.Front.serve.Goals as goal
 
 pub load-requires : goal.load-requires
@@ -62,26 +62,11 @@ returns-in-Ok-clause-ok g c =
     let up = has_raised g.T.Held.turns g.T.Held.basis {A = g.row.J-Answer.Denot} g.T.Held.by c.args.number (g.J.Job.done c.args.job) c.in-Ok.answer c.args.seat.now.me.0 _ _ _ _ _ _ r t x.2 x.3 x.4 in
     makes_turn g.T.Held.turns g.T.Held.basis {A = g.row.J-Answer.Denot} g.T.Held.by c.args.number (g.J.Job.done c.args.job) c.in-Ok.answer c.args.seat.now.me.0 _ _ _ _ _ r t c.requires.number up c.leave.ensures.view
 
-pub returns-in-Ok-clause-grows : goal.returns-in-Ok-clause-grows
-returns-in-Ok-clause-grows g c =
-    let y = c.load.ensures.2 in
-    let r = has_run g.T.Held.turns g.T.Held.basis c.args.seat.now.me.0 _ _ _ _ _ y.1 y.2 y.3 c.run-answer.ensures.runs in
-    let t = when_ok _ _ _ c.in-Ok.is r.outcome.0 in
-    let x = c.store.ensures.2 in
-    let up = has_raised g.T.Held.turns g.T.Held.basis {A = g.row.J-Answer.Denot} g.T.Held.by c.args.number (g.J.Job.done c.args.job) c.in-Ok.answer c.args.seat.now.me.0 _ _ _ _ _ _ r t x.2 x.3 x.4 in
-    made_grows g.T.Held.turns g.T.Held.basis {A = g.row.J-Answer.Denot} g.T.Held.by (g.J.Job.done c.args.job) c.args.seat.now.me.0 c.leave.new.seat.me.0 c.in-Ok.answer (makes_turn g.T.Held.turns g.T.Held.basis {A = g.row.J-Answer.Denot} g.T.Held.by c.args.number (g.J.Job.done c.args.job) c.in-Ok.answer c.args.seat.now.me.0 _ _ _ _ _ r t c.requires.number up c.leave.ensures.view)
-
 pub returns-in-Err-clause-err : goal.returns-in-Err-clause-err
 returns-in-Err-clause-err g c =
     let y = c.load.ensures.2 in
     let r = has_run g.T.Held.turns g.T.Held.basis c.args.seat.now.me.0 _ _ _ _ _ y.1 y.2 y.3 c.run-answer.ensures.runs in
     misses_turn g.T.Held.turns g.T.Held.basis c.args.seat.now.me.0 _ _ _ _ r c.leave-in-Err.ensures.view
-
-pub returns-in-Err-clause-grows : goal.returns-in-Err-clause-grows
-returns-in-Err-clause-grows g c =
-    let y = c.load.ensures.2 in
-    let r = has_run g.T.Held.turns g.T.Held.basis c.args.seat.now.me.0 _ _ _ _ _ y.1 y.2 y.3 c.run-answer.ensures.runs in
-    missed_grows g.T.Held.turns g.T.Held.basis c.args.seat.now.me.0 c.leave-in-Err.new.seat.me.0 (misses_turn g.T.Held.turns g.T.Held.basis c.args.seat.now.me.0 _ _ _ _ r c.leave-in-Err.ensures.view)
 
 pub returns-in-Err-clause-back : goal.returns-in-Err-clause-back
 returns-in-Err-clause-back g c =
