@@ -1,0 +1,139 @@
+//! Turns of seats in one thread, and in several.
+ghost use Rattle.std.specs.Prelude.{◌<◌, ◌≤◌, IfOk, IsTrue, length};
+ghost use Rattle.front_lock.specs.Front.{IsSeatOf, basis_of, view};
+
+use crate::tally::{Add, Addition, Repeat, Tally};
+use crate::threads::{close_all, tally_of_front};
+use front_lock::{Front, FrontSeat};
+use std::alloc::AllocError;
+use std::sync::Wait;
+use std::test::Fail;
+
+/// What two seats do in turns, and the history that is closed. Seat 0 adds 3; seat 1 adds 4 and repeats the first number, which the other seat
+/// added; seat 0 finds no memory, and then adds 9.
+const TURNS: &str = "\
+seat 0 Ok(0)
+seat 1 Ok(1)
+seat 1 Ok(3)
+seat 0 Err(NoRoom(Add { amount: 5, room: 18446744073709551615 }))
+seat 0 Ok(3)
+closed Some([Addition { seat: 0, amount: 3 }, Addition { seat: 1, amount: 4 }, Addition { seat: 1, amount: 3 }, Addition { seat: 0, amount: 9 }])
+";
+
+/// How many turns 2 to 4 threads made with 10,000 each, and whether those of each are in its order.
+const THREADS: &str = "\
+20000 seat 0 true
+20000 seat 1 true
+30000 seat 0 true
+30000 seat 1 true
+30000 seat 2 true
+40000 seat 0 true
+40000 seat 1 true
+40000 seat 2 true
+40000 seat 3 true
+";
+
+/// Adds a number, tells what comes, and answers whether it was added: then the seat has seen a number.
+fn tell_added<R: Wait>(
+    rt: &R,
+    front: &Front<Tally>,
+    seat: &mut FrontSeat<Tally>,
+    job: Add,
+    told: &mut String,
+) -> Result<bool, AllocError>
+    requires seat { IsSeatOf (λ t. t.most) front.now seat.old }
+    requires most { job.amount ≤ basis_of (λ t. t.most) front.now }
+    ensures seat { IsSeatOf (λ t. t.most) front.now seat.new }
+    ensures seen { IfOk result (λ added. IsTrue added → 0 < length (view seat.new).seen) }
+{
+    let answer = front.turn(rt, seat, job);
+    writeln!(told, "seat {} {answer:?}", seat.number())?;
+    Ok(answer.is_ok())
+}
+
+/// Repeats the first number of all, and tells what comes.
+fn tell_repeated<R: Wait>(
+    rt: &R,
+    front: &Front<Tally>,
+    seat: &mut FrontSeat<Tally>,
+    told: &mut String,
+) -> Result<(), AllocError>
+    requires seat { IsSeatOf (λ t. t.most) front.now seat.old }
+    requires seen { 0 < length (view seat.old).seen }
+    ensures { IsSeatOf (λ t. t.most) front.now seat.new }
+{
+    let answer = front.turn(rt, seat, Repeat { place: 0 });
+    writeln!(told, "seat {} {answer:?}", seat.number())
+}
+
+#[test]
+fn seats_take_turns(rt: HostRuntime) -> Result<(), Fail> {
+    let alloc = rt.alloc();
+    let mut told = String::new(alloc);
+    let (front, mut seats) = Front::new(alloc, Tally::new(alloc, 9), 2)?;
+    let mut second = seats.pop().ok_or("no seat 1")?;
+    let mut first = seats.pop().ok_or("no seat 0")?;
+    tell_added(
+        &rt,
+        &front,
+        &mut first,
+        Add { amount: 3, room: 1 },
+        &mut told,
+    )?;
+    if tell_added(
+        &rt,
+        &front,
+        &mut second,
+        Add { amount: 4, room: 1 },
+        &mut told,
+    )? {
+        tell_repeated(&rt, &front, &mut second, &mut told)?;
+    }
+    tell_added(
+        &rt,
+        &front,
+        &mut first,
+        Add {
+            amount: 5,
+            room: usize::MAX,
+        },
+        &mut told,
+    )?;
+    tell_added(
+        &rt,
+        &front,
+        &mut first,
+        Add { amount: 9, room: 1 },
+        &mut told,
+    )?;
+    let left = Vec::from_array(alloc, [Some(first), Some(second)])?;
+    let additions = close_all(front, left, 2).map(|tally| tally.additions);
+    writeln!(told, "closed {additions:?}")?;
+    assert_eq!(rt; told.as_str(), TURNS);
+    Ok(())
+}
+
+/// Whether the seat's numbers are those below `turns`, in order.
+fn are_in_order(additions: &[Addition], seat: u32, turns: u64) -> bool {
+    let mut expected = 0..turns;
+    for addition in additions {
+        if addition.seat == seat && expected.next() != Some(addition.amount) {
+            return false;
+        }
+    }
+    expected.next().is_none()
+}
+
+#[test]
+fn threads_take_turns(rt: HostRuntime) -> Result<(), Fail> {
+    let mut told = String::new(rt.alloc());
+    for seats in 2..5 {
+        let tally = tally_of_front(&rt, rt.alloc(), seats, 10_000)?.ok_or("no memory")?;
+        for seat in 0..seats {
+            let in_order = are_in_order(&tally.additions, seat, 10_000);
+            writeln!(told, "{} seat {seat} {in_order}", tally.additions.len())?;
+        }
+    }
+    assert_eq!(rt; told.as_str(), THREADS);
+    Ok(())
+}
