@@ -1,0 +1,61 @@
+#!/bin/sh
+# Turns in a second on one value, behind a front and behind std's mutex: run.sh [-n TURNS] [-r RUNS] [-t 'THREADS ..']
+# bench/README.md says what is measured.
+set -eu
+
+turns=2000000
+runs=5
+threads='1 2 4 8'
+while getopts n:r:t: option; do
+    case $option in
+    n) turns=$OPTARG ;;
+    r) runs=$OPTARG ;;
+    t) threads=$OPTARG ;;
+    *) exit 2 ;;
+    esac
+done
+
+room=$(mktemp -d)
+trap 'rm -rf "$room"' EXIT
+
+# Proves and builds the program, where something has changed.
+crate=$(cd "$(dirname "$0")/../../crates/front_bench" && pwd)
+(cd "$crate" && rt run -- front 1 0) >"$room/log" 2>&1 || {
+    cat "$room/log" >&2
+    exit 1
+}
+
+# Runs the program with so many turns a thread, adds its seconds, those of processors and its switches of context to a list.
+measure() {
+    list=$1
+    shift
+    /usr/bin/time -a -o "$room/$list" -f '%e %U %S %w %c' "$crate/out/front_bench" "$@" >"$room/out"
+    grep -qx "turns $(($2 * $3))" "$room/out" || {
+        echo "front_bench $*: not the turns that were asked for" >&2
+        exit 1
+    }
+}
+
+# The run of least time: turns in a second, processors at work, and switches of context for 1,000 turns.
+figures() {
+    sort -n "$room/$1" | head -n 1 | awk -v total="$2" \
+        '{ printf "%12.0f %6.2f %10.2f", total / $1, ($2 + $3) / $1, ($4 + $5) * 1000 / total }'
+}
+
+run=0
+while [ "$run" -lt "$runs" ]; do
+    for count in $threads; do
+        for lock in front mutex; do
+            measure "$lock.$count" "$lock" "$count" $((turns / count))
+        done
+    done
+    run=$((run + 1))
+done
+
+echo "$turns turns in all, best of $runs"
+printf '%7s %-6s %12s %6s %10s\n' threads lock 'turns/s' busy 'switches/k'
+for count in $threads; do
+    for lock in front mutex; do
+        printf '%7s %-6s %s\n' "$count" "$lock" "$(figures "$lock.$count" $((turns / count * count)))"
+    done
+done
