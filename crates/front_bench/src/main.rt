@@ -1,5 +1,6 @@
-//! `front_bench LOCK THREADS TURNS` lets THREADS threads make TURNS turns each on one value, behind a front (LOCK is `front`) or behind std's
-//! mutex (`mutex`), and prints how many turns the value has then. It has no clock: what starts it takes the time (`bench/README.md`).
+//! `front_bench LOCK THREADS TURNS` lets THREADS threads make TURNS turns each on one value, behind a front (LOCK is `front`)
+//! or behind std's mutex (`mutex`), and prints how many turns the value has then. It has no clock: what starts it takes the
+//! time (`bench/README.md`).
 #![tactic(auto)]
 
 ghost use Rattle.std.specs.Prelude.{◌<◌, IfOk};
@@ -56,8 +57,8 @@ fn read_command(rt: &HostRuntime) -> Result<Command>
     })
 }
 
-/// What threads with the numbers from 0 add to a tally behind a mutex: each adds the numbers below `turns`, in order, by the job of a turn.
-/// Where one finds no memory it stops.
+/// What threads with the numbers from 0 add to a tally behind a mutex: each adds the numbers below `turns`, in order, by the
+/// job of a turn. Where one finds no memory it stops.
 fn tally_of_mutex<R: Threads + Wait + Sync>(
     rt: &R,
     alloc: Global,

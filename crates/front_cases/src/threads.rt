@@ -10,7 +10,8 @@ use std::sync::Wait;
 use std::thread;
 use std::thread::Threads;
 
-/// What seats in threads of their own add to a tally: each adds the numbers below `turns`, in order. `None` where a turn found no memory.
+/// What seats in threads of their own add to a tally: each adds the numbers below `turns`, in order. `None` where a turn found
+/// no memory.
 pub fn tally_of_front<R: Threads + Wait + Sync>(
     rt: &R,
     alloc: Global,

@@ -9,8 +9,8 @@ use std::alloc::AllocError;
 use std::sync::Wait;
 use std::test::Fail;
 
-/// What two seats do in turns, and the history that is closed. Seat 0 adds 3; seat 1 adds 4 and repeats the first number, which the other seat
-/// added; seat 0 finds no memory, and then adds 9.
+/// What two seats do in turns, and the history that is closed. Seat 0 adds 3; seat 1 adds 4 and repeats the first number, which
+/// the other seat added; seat 0 finds no memory, and then adds 9.
 const TURNS: &str = "\
 seat 0 Ok(0)
 seat 1 Ok(1)

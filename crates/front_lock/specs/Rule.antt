@@ -1,5 +1,6 @@
--- The rule of a front: what its words, its value and the views of all seats keep between any two steps.
--- Word 0 counts the tickets that were drawn, word 1 says which is served, word 2 how long the history of the value is. The one slot has the value.
+-- The rule of a front: what its words, its value and the views of all seats keep between any two steps. Word 0 counts the
+-- tickets that were drawn, word 1 says which is served, word 2 how long the history of the value is. The one slot has the
+-- value.
 use Rattle.std.specs.Prelude.{◌≡◌, ◌≢◌, ◌⊎◌, ℕ, ◌+◌, ◌^◌, ◌<◌, ◌≤◌, IsTrue, List, [], ◌∷◌, length, Some, if◌then◌else◌}
 use mathlib.Core.Option.{some, none}
 use mathlib.Core.Option as maybe
@@ -27,7 +28,8 @@ module _ {X B : Type 0} where
     pub seen : IsTrue (is_live v.stage) → IsPrefix v.seen history
     pub met : IsPrefix v.met history
 
-  -- its place in the queue, where so many tickets are drawn and one is served: the seat that holds the value has seen all, and the value is away
+  -- its place in the queue, where so many tickets are drawn and one is served: the seat that holds the value has seen all, and
+  -- the value is away
   pub record Stands (tickets serving : ℕ) (history : List X) (IsOut : Type 0) (v : View X B) : Type 0 where
     pub from : IsTrue (has_ticket v.stage) → serving ≤ v.ticket
     pub to : IsTrue (has_ticket v.stage) → v.ticket < tickets

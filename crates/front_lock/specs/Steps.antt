@@ -1,4 +1,5 @@
--- What each kind of atomic step tells its seat: of a step, the view and the slots that the seat held before, the number found and those after it.
+-- What each kind of atomic step tells its seat: of a step, the view and the slots that the seat held before, the number found
+-- and those after it.
 use Rattle.std.specs.Prelude.{◌≡◌, ◌≢◌, ℕ, List, [], ◌∷◌, ◌++◌, drop, get_or, Some}
 use mathlib.Core.List.{IsPrefix}
 use Rattle.atomic_table.specs.Table.{Me, Step, rest}

@@ -14,13 +14,15 @@ pub record AddsTurn {X A : Type 0} (by : X → ℕ) (seat : ℕ) (done : List X 
   pub of : by turn ≡ seat
   pub is_done : done old turn answer
 
--- a seat with the view v took in one with the view w: what one had seen begins what the other had seen, and the longer and the lists of both are kept
+-- a seat with the view v took in one with the view w: what one had seen begins what the other had seen, and the longer and the
+-- lists of both are kept
 pub record JoinsViews {X B : Type 0} (v w new : View X B) : Type 0 where
   pub one_history : IsPrefix (shorter_of v.seen w.seen) (longer_of v.seen w.seen)
   pub view_is : new ≡ view_at Idle v.ticket (longer_of v.seen w.seen) (v.mine ++ w.mine) v
 
 module _ {T X B : Type 0} where
-  -- a job ran on the value that a seat holds, which keeps its basis: how many turns it has now, and what came of the turns before and behind
+  -- a job ran on the value that a seat holds, which keeps its basis: how many turns it has now, and what came of the turns
+  -- before and behind
   pub record RunsJob (turns : T → List X) (basis : T → B) (Outcome : B → List X → List X → Type 0) (before : Me T (View X B)) (count : ℕ) (after : Me T (View X B)) : Type 0 where
     pub old : T
     pub new : T
@@ -30,8 +32,8 @@ module _ {T X B : Type 0} where
     pub count_is : count ≡ length (turns new)
     pub outcome : Outcome (basis old) (turns old) (turns new)
 
-  -- a seat with the view v made a turn: its job ran on a value with the front's basis, whose history begins with all that v had seen. The new
-  -- view has seen that history and the turn, which is the one more of its own
+  -- a seat with the view v made a turn: its job ran on a value with the front's basis, whose history begins with all that v had
+  -- seen. The new view has seen that history and the turn, which is the one more of its own
   pub record MakesTurn {A : Type 0} (turns : T → List X) (basis : T → B) (by : X → ℕ) (done : B → List X → X → A → Type 0) (v : View X B) (answer : A) (w : View X B) : Type 0 where
     pub value : T
     pub turn : X
@@ -48,7 +50,8 @@ module _ {T X B : Type 0} where
     pub seen : IsPrefix v.seen (turns value)
     pub view_is : w ≡ view_at Idle 0 (turns value) v.mine v
 
-  -- the value of a closed front with that basis and so many seats, whose last seat has the view v: it has the turns of each number's list, and no others
+  -- the value of a closed front with that basis and so many seats, whose last seat has the view v: it has the turns of each
+  -- number's list, and no others
   pub record IsClosed (turns : T → List X) (basis : T → B) (by : X → ℕ) (b : B) (seats : ℕ) (v : View X B) (value : T) : Type 0 where
     pub basis_is : basis value ≡ b
     pub seen : IsPrefix v.seen (turns value)

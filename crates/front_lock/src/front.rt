@@ -42,8 +42,8 @@ pub struct Front<T: Held> {
 impl<T: Held> Front<T> {
     ghost use Rattle.front_lock.specs.Front.{IsSeatOf, SpeaksForAll, basis_of, seats_of, view};
 
-    /// A front with this value, which has no turns yet, and its seats with the numbers from 0 in order; no seat is made later. For want of
-    /// memory the value is dropped.
+    /// A front with this value, which has no turns yet, and its seats with the numbers from 0 in order; no seat is made later.
+    /// For want of memory the value is dropped.
     pub fn new(
         alloc: Global,
         value: T,
@@ -63,8 +63,8 @@ impl<T: Held> Front<T> {
         Ok((front, dealt))
     }
 
-    /// Waits for its turn, runs the job on the value, and lets the next seat in. Once 2^62 tickets were drawn a turn waits for ever. For want of
-    /// memory the job is given back, and no turn was made.
+    /// Waits for its turn, runs the job on the value, and lets the next seat in. Once 2^62 tickets were drawn a turn waits for
+    /// ever. For want of memory the job is given back, and no turn was made.
     pub fn turn<J: Job<T>, R: Wait>(
         &self,
         rt: &R,
@@ -242,8 +242,8 @@ impl<T: Held> Front<T> {
         self.wake(ticket + 1);
     }
 
-    // Wakes the seats that wait, where a ticket behind the one that is served now was drawn. Whoever draws one later looks later, too, and so
-    // does not park on what was served before.
+    // Wakes the seats that wait, where a ticket behind the one that is served now was drawn. Whoever draws one later looks
+    // later, too, and so does not park on what was served before.
     fn wake(&self, serving: u64) {
         let shared = &self.table.shared;
         if shared.peek(TICKETS) > serving {

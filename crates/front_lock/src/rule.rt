@@ -1,4 +1,5 @@
-//! The rule that the words, the value and the views of all seats keep, and the kinds of atomic step, with what each tells its seat.
+//! The rule that the words, the value and the views of all seats keep, and the kinds of atomic step, with what each tells its
+//! seat.
 ghost use Rattle.front_lock.specs.Rule.{Keeps};
 ghost use Rattle.front_lock.specs.View.{dealer_view, spent_view};
 ghost use Rattle.front_lock.specs.Steps.{Draws, Looks, Takes, Raises, Returns, Passes, Compares, dealer_left, number_dealt, views_joined};

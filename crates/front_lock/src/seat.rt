@@ -12,8 +12,9 @@ pub(crate) type TableSeat<T> = Seat<T, View<<T as Held>::Turn, <T as Held>::Basi
 
 /// The right to make turns at one front, one after another, under a number of its own. Seats are made with their front alone.
 ///
-/// Contracts see what the seat knows, a `View`: the history as far as it has seen it, and for each number that it speaks for the turns of that
-/// number. It always speaks for its own number, and has seen the turns of its numbers, each once, and no others of them (`knows`).
+/// Contracts see what the seat knows, a `View`: the history as far as it has seen it, and for each number that it speaks for
+/// the turns of that number. It always speaks for its own number, and has seen the turns of its numbers, each once, and no
+/// others of them (`knows`).
 #[derive(Drop)]
 pub struct FrontSeat<T: Held> {
     pub(crate) seat: Seat<T, View<T::Turn, T::Basis>>,
