@@ -8,7 +8,8 @@ use device_types::{Event, EventAnswer};
 use std::alloc::AllocError;
 
 impl World {
-    /// The world takes an event, and tells what it comes to. For want of memory the world is as before.
+    /// The world takes an event, and tells what it comes to. For want of memory the world is as before, but that its store may count
+    /// a read more.
     pub fn apply(&mut self, event: Event) -> Result<EventAnswer, AllocError>
         requires { IsEvent self.old.setting event }
         ensures ok { IfOk result (Answers self.old self.new event) }

@@ -38,7 +38,7 @@ fn look_answer(version: u64, look: Look) -> EventAnswer
     }
 }
 
-/// What a replica is told of its input, as the answer to the event. For want of memory it holds what it held.
+/// What a replica is told of its input, as the answer to the event. Every row is as before. For want of memory so is the replica.
 fn told(
     replica: &mut Replica,
     row: &Subscriber,
@@ -68,7 +68,8 @@ fn device_held(hand: &Hand) -> Option<DeviceId>
 }
 
 impl World {
-    /// A replica reads the row of what it holds. For want of memory the world is as before.
+    /// A replica reads the row of what it holds. For want of memory the world is as before, but that the store may count a read
+    /// more.
     pub(crate) fn read(&mut self, r: u32) -> Result<EventAnswer, AllocError>
         requires { IsEvent self.old.setting (Event.Read r) }
         ensures ok { IfOk result (Answers self.old self.new (Event.Read r)) }

@@ -7,7 +7,7 @@ use crate::world::World;
 use device_types::{Event, EventAnswer};
 
 impl World {
-    /// The replica stops, and loses what it holds. It takes no memory.
+    /// The replica stops, and loses what it holds and remembers. It takes no memory.
     pub(crate) fn stop(&mut self, r: u32) -> EventAnswer
         requires { IsEvent self.old.setting (Event.Stop r) }
         ensures { Answers self.old self.new (Event.Stop r) result }
