@@ -4,14 +4,14 @@ use Rattle.std.proofs.lemmas.List.Elements.{All-append, All-from_recursion}
 use Rattle.echo_base.specs.declared.refusal.Bad.{Bad}
 use Rattle.echo_base.specs.declared.refusal.Bad.TheVariants.{Refused}
 use Rattle.echo_base.specs.declared.refusal.Refusal.{Refusal}
-use Rattle.s1ap_messages.specs.declared.pdu.Pdu.{Pdu}
+use Rattle.s1ap_pdu.specs.declared.pdu.Pdu.{Pdu}
 use Rattle.aper_fields.specs.Run.{◌▸◌, fixed_bits_run, number_run, open_run}
 use Rattle.aper_fields.proofs.NotEmpty.{first_some, bit_some}
 use Rattle.aper_fields.proofs.Packed.{length-packed}
 use Rattle.s1ap_ies.specs.Names.{criticality_number}
 use Rattle.aper_fields.specs.Asn1.{index_run}
-use Rattle.s1ap_messages.specs.Messages.{outcome_index, header_of, kind_of, values_of}
-use Rattle.s1ap_messages.specs.Run.{header_run, ies_run, pdu_run, written}
+use Rattle.s1ap_pdu.specs.Messages.{outcome_index, header_of, kind_of, values_of}
+use Rattle.s1ap_pdu.specs.Run.{header_run, ies_run, pdu_run, written}
 use Rattle.echo_base.specs.Answer.{IsAnswer}
 use Rattle.codec_bench.specs.declared.sample.Sample.{Sample}
 use Rattle.codec_bench.specs.Sample.{IsSample, IsMore}

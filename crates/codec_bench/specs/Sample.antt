@@ -2,8 +2,8 @@
 use Rattle.std.specs.Prelude.{◌≡◌, ℕ, Bool, nat_eq, List, [], ◌∷◌, ◌++◌, Ok, IsErr}
 use Rattle.std.specs.Cmp.Lexicographic.{pointwise}
 use Rattle.hex.specs.Hex.{decode_of}
-use Rattle.s1ap_messages.specs.Grammar.{Spells, Refused}
-use Rattle.s1ap_messages.specs.Run.{IsRight, written}
+use Rattle.s1ap_pdu.specs.Grammar.{Spells, Refused}
+use Rattle.s1ap_pdu.specs.Run.{IsRight, written}
 use Rattle.codec_bench.specs.declared.sample.Sample.{Sample}
 use Rattle.codec_bench.specs.declared.sample.SampleError.{SampleError}
 use Rattle.codec_bench.specs.declared.sample.SampleError.TheVariants as errors

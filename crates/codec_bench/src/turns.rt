@@ -1,7 +1,7 @@
 //! Reading and writing in turns.
 
 ghost use Rattle.std.specs.Prelude.{◌≡◌, ◌*◌, All, IfOk, IsTrue, count_by, length};
-ghost use Rattle.s1ap_messages.specs.Run.{written};
+ghost use Rattle.s1ap_pdu.specs.Run.{written};
 ghost use Rattle.codec_bench.specs.Sample.{IsSample, is_as_written};
 
 use crate::sample::Sample;

@@ -22,12 +22,12 @@ use Rattle.s1ap_ies.specs.declared.stmsi.Stmsi.{Stmsi}
 use Rattle.s1ap_ies.specs.declared.erab_done.ErabDone.{ErabDone}
 use Rattle.s1ap_ies.specs.Run.{IsTai, IsErabDone}
 use Rattle.s1ap_ies.proofs.Items.{dones_right}
-use Rattle.s1ap_messages.specs.declared.pdu.Pdu.{Pdu}
-use Rattle.s1ap_messages.specs.declared.pdu.Pdu.TheVariants.{InitialUeMessage, UplinkNasTransport, DownlinkNasTransport, InitialContextSetupRequest, InitialContextSetupResponse, InitialContextSetupFailure, UeContextReleaseRequest, UeContextReleaseCommand, UeContextReleaseComplete, UeCapabilityInfoIndication}
-use Rattle.s1ap_messages.specs.Built.{message_at}
-use Rattle.s1ap_messages.specs.Run.{IsRight, HasOctets}
-use Rattle.s1ap_messages.proofs.Exact.{found_message}
-use Rattle.s1ap_messages.proofs.Right.{message_right}
+use Rattle.s1ap_pdu.specs.declared.pdu.Pdu.{Pdu}
+use Rattle.s1ap_pdu.specs.declared.pdu.Pdu.TheVariants.{InitialUeMessage, UplinkNasTransport, DownlinkNasTransport, InitialContextSetupRequest, InitialContextSetupResponse, InitialContextSetupFailure, UeContextReleaseRequest, UeContextReleaseCommand, UeContextReleaseComplete, UeCapabilityInfoIndication}
+use Rattle.s1ap_pdu.specs.Built.{message_at}
+use Rattle.s1ap_pdu.specs.Run.{IsRight, HasOctets}
+use Rattle.s1ap_pdu.proofs.Exact.{found_message}
+use Rattle.s1ap_pdu.proofs.Right.{message_right}
 use Rattle.nas_kinds.specs.declared.nas_in.NasIn.{NasIn}
 use Rattle.nas_kinds.specs.declared.nas_in.NasIn.TheVariants.{AttachRequest, AttachComplete, DetachRequest, AreaRequest, AuthResponse, SecurityComplete, SecurityReject, ServiceRequest}
 use Rattle.nas_kinds.specs.Reading.{nas_of}

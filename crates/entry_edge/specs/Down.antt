@@ -11,8 +11,8 @@ use Rattle.s1ap_ies.specs.Names as names
 use Rattle.s1ap_ies.specs.declared.cause.Cause.{Cause}
 use Rattle.s1ap_ies.specs.declared.ue_ids.UeIds.TheVariants.{Pair}
 use Rattle.s1ap_ies.specs.declared.erab_to_setup.ErabToSetup.{ErabToSetup}
-use Rattle.s1ap_messages.specs.declared.pdu.Pdu.{Pdu}
-use Rattle.s1ap_messages.specs.declared.pdu.Pdu.TheVariants.{DownlinkNasTransport, InitialContextSetupRequest, UeContextReleaseCommand}
+use Rattle.s1ap_pdu.specs.declared.pdu.Pdu.{Pdu}
+use Rattle.s1ap_pdu.specs.declared.pdu.Pdu.TheVariants.{DownlinkNasTransport, InitialContextSetupRequest, UeContextReleaseCommand}
 use Rattle.nas_kinds.specs.Written.{nas_written}
 
 abbrev pub cause_of : CauseCode → Cause

@@ -6,8 +6,8 @@ ghost use Rattle.device_types.specs.Down.{IsAccept, IsDown};
 ghost use Rattle.device_types.specs.Nas.{IsNasOut};
 ghost use Rattle.device_types.specs.Subscriber.{IsSubscriber};
 ghost use Rattle.s1ap_ies.specs.Run.{IsNas};
-ghost use Rattle.s1ap_messages.specs.Run.{written};
-ghost use Rattle.s1ap_messages.specs.Small.{IsSmall};
+ghost use Rattle.s1ap_pdu.specs.Run.{written};
+ghost use Rattle.s1ap_pdu.specs.Small.{IsSmall};
 ghost use Rattle.nas_kinds.specs.Written.{nas_written};
 ghost use Rattle.entry_edge.specs.Down.{cause_of, algorithms_of, accept_of, bearer_of, message_of};
 

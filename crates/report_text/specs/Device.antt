@@ -6,7 +6,7 @@ use Rattle.echo_base.specs.Reason.{zero_filled}
 use Rattle.device_types.specs.declared.subscriber.Subscriber.{Subscriber}
 use Rattle.device_types.specs.declared.down.Down.{Down}
 use Rattle.device_types.specs.declared.down.Down.TheVariants as down
-use Rattle.s1ap_messages.specs.Run.{written}
+use Rattle.s1ap_pdu.specs.Run.{written}
 use Rattle.entry_edge.specs.Down.{message_of}
 use Rattle.device_types.specs.declared.effect.GwCall.{GwCall}
 use Rattle.device_types.specs.declared.effect.GwCall.TheVariants.{Create, Modify, Release, Delete}

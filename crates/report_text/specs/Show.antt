@@ -7,10 +7,10 @@ use Rattle.echo_base.specs.declared.refusal.Refusal.{Refusal}
 use Rattle.echo_base.specs.Refusal.{refusal_text}
 use Rattle.echo_base.specs.Answer.{◌>>=◌}
 use Rattle.case_form.specs.declared.case.TraceLine.{TraceLine}
-use Rattle.s1ap_messages.specs.declared.pdu.Pdu.{Pdu}
-use Rattle.s1ap_messages.specs.Messages.{kind_of, name_of}
-use Rattle.s1ap_messages.specs.Built.{message_at}
-use Rattle.s1ap_messages.specs.Run.{written}
+use Rattle.s1ap_pdu.specs.declared.pdu.Pdu.{Pdu}
+use Rattle.s1ap_pdu.specs.Messages.{kind_of, name_of}
+use Rattle.s1ap_pdu.specs.Built.{message_at}
+use Rattle.s1ap_pdu.specs.Run.{written}
 use Rattle.entry_edge.specs.Sent.{octets_of}
 use Rattle.report_text.specs.Lines.{ended}
 

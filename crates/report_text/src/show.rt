@@ -2,7 +2,7 @@
 
 ghost use Rattle.std.specs.Prelude.{◌≡◌, ◌++◌, IfOk, OnOk, string_bytes};
 ghost use Rattle.echo_base.specs.Answer.{IsAnswer};
-ghost use Rattle.s1ap_messages.specs.Run.{IsRight};
+ghost use Rattle.s1ap_pdu.specs.Run.{IsRight};
 ghost use Rattle.report_text.specs.Lines.{ended};
 ghost use Rattle.report_text.specs.Show.{pdu_of, message_line, refusal_line, line_text, show_text};
 

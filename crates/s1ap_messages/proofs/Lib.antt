@@ -1,18 +1,3 @@
-pub mod Distinct
-pub mod Writes
-pub mod Ies
-pub mod Frame
-pub mod Places
-pub mod Kept
-pub mod RowLaws
-pub mod Makes
-pub mod Exact
-pub mod Found
-pub mod Whole
-pub mod Sizes
-pub mod Answering
-pub mod Right
-pub mod Small
 pub mod UsualBits
 pub mod UsualNumbers
 pub mod UsualValues
@@ -20,4 +5,3 @@ pub mod UsualErabs
 pub mod UsualForm
 pub mod UsualRead
 pub mod UsualWrite
-pub mod InPlace

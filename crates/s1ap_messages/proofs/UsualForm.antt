@@ -9,26 +9,26 @@ use Rattle.aper_fields.specs.Run.{fixed_bits_run, number_run}
 use Rattle.aper_fields.specs.Spelling.{IsOctets}
 use Rattle.aper_fields.proofs.BitLaws.{length-bits, length-bits_of}
 use Rattle.aper_fields.proofs.Packed.{IsBytes, packed_is}
-use Rattle.s1ap_messages.specs.declared.tables.IeRow.{IeRow}
-use Rattle.s1ap_messages.specs.declared.tables.MessageKind.{MessageKind}
-use Rattle.s1ap_messages.specs.declared.tables.MessageKind.TheVariants as kind
-use Rattle.s1ap_messages.specs.Messages.{rows_of}
+use Rattle.s1ap_pdu.specs.declared.tables.IeRow.{IeRow}
+use Rattle.s1ap_pdu.specs.declared.tables.MessageKind.{MessageKind}
+use Rattle.s1ap_pdu.specs.declared.tables.MessageKind.TheVariants as kind
+use Rattle.s1ap_pdu.specs.Messages.{rows_of}
 use Rattle.s1ap_ies.specs.declared.stmsi.Stmsi.{Stmsi}
 use Rattle.aper_fields.specs.Asn1.{run}
 use Rattle.s1ap_ies.proofs.Items.{dones_fit, dones_right, setups_fit, setups_right}
 use Rattle.s1ap_ies.specs.Names.{criticality_number}
-use Rattle.s1ap_messages.specs.declared.value.IeValue.TheVariants as value
-use Rattle.s1ap_messages.specs.declared.pdu.Pdu.{Pdu}
-use Rattle.s1ap_messages.specs.Messages.{outcome_index, header_of, kinds, kind_of, values_of}
-use Rattle.s1ap_messages.specs.Grammar.{Spells, kind_among, kind_with}
-use Rattle.s1ap_messages.specs.Built.{message_at}
-use Rattle.s1ap_messages.specs.Run.{value_run, ie_run, fields_run, ies_run, header_run, pdu_run, written, count_of, IsShort, IsRightValue, IsRightField, IsRight, HasOctetsIn, HasOctets}
+use Rattle.s1ap_pdu.specs.declared.value.IeValue.TheVariants as value
+use Rattle.s1ap_pdu.specs.declared.pdu.Pdu.{Pdu}
+use Rattle.s1ap_pdu.specs.Messages.{outcome_index, header_of, kinds, kind_of, values_of}
+use Rattle.s1ap_pdu.specs.Grammar.{Spells, kind_among, kind_with}
+use Rattle.s1ap_pdu.specs.Built.{message_at}
+use Rattle.s1ap_pdu.specs.Run.{value_run, ie_run, fields_run, ies_run, header_run, pdu_run, written, count_of, IsShort, IsRightValue, IsRightField, IsRight, HasOctetsIn, HasOctets}
 use Rattle.s1ap_messages.specs.Usual.{counted, ie_octets, octets_of, value_octets, Given, HasForm, IsUsualValue, fields_octets, body_octets, message_octets, usual_octets, unfinished_octets, HasForms, HasUsualValues, IsUsual, AreFieldsOf, BeginsAs}
-use Rattle.s1ap_messages.specs.Values.{FieldValue}
-use Rattle.s1ap_messages.proofs.Distinct.{few_rows}
-use Rattle.s1ap_messages.proofs.Writes.{values-length}
-use Rattle.s1ap_messages.proofs.Whole.{written_spelled}
-use Rattle.s1ap_messages.proofs.Exact.{only_message}
+use Rattle.s1ap_pdu.specs.Values.{FieldValue}
+use Rattle.s1ap_pdu.proofs.Distinct.{few_rows}
+use Rattle.s1ap_pdu.proofs.Writes.{values-length}
+use Rattle.s1ap_pdu.proofs.Whole.{written_spelled}
+use Rattle.s1ap_pdu.proofs.Exact.{only_message}
 use Rattle.s1ap_messages.proofs.UsualBits.{AreOctets, octets_then, two_bits, low_octet, filled_is, Contains, contains_octets, open_octets, item_is, ie_few}
 use Rattle.s1ap_messages.proofs.UsualNumbers.{mme_is, enb_is, rates_are, ids_are}
 use Rattle.s1ap_messages.proofs.UsualValues.{counted_some, text_is, key_is, tai_is, cgi_is, stmsi_is, caps_are, rrc_is, cause_is}

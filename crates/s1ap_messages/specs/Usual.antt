@@ -12,16 +12,16 @@ use Rattle.s1ap_ies.specs.declared.ue_ids.UeIds.{UeIds}
 use Rattle.s1ap_ies.specs.declared.ue_ids.UeIds.TheVariants.{Pair, Mme}
 use Rattle.s1ap_ies.specs.declared.erab_done.ErabDone.{ErabDone}
 use Rattle.s1ap_ies.specs.declared.erab_to_setup.ErabToSetup.{ErabToSetup}
-use Rattle.s1ap_messages.specs.declared.tables.IeRow.{IeRow}
-use Rattle.s1ap_messages.specs.declared.tables.MessageKind.{MessageKind}
-use Rattle.s1ap_messages.specs.Messages.{rows_of}
+use Rattle.s1ap_pdu.specs.declared.tables.IeRow.{IeRow}
+use Rattle.s1ap_pdu.specs.declared.tables.MessageKind.{MessageKind}
+use Rattle.s1ap_pdu.specs.Messages.{rows_of}
 use Rattle.s1ap_ies.specs.Names as names
-use Rattle.s1ap_messages.specs.declared.header.Header.{Header}
-use Rattle.s1ap_messages.specs.declared.pdu.Pdu.{Pdu}
-use Rattle.s1ap_messages.specs.declared.value.IeValue.TheVariants as value
-use Rattle.s1ap_messages.specs.Values.{FieldValue}
-use Rattle.s1ap_messages.specs.Messages.{outcome_index, header_of, kind_of, values_of}
-use Rattle.s1ap_messages.specs.Run.{count_of, IsRightValue}
+use Rattle.s1ap_pdu.specs.declared.header.Header.{Header}
+use Rattle.s1ap_pdu.specs.declared.pdu.Pdu.{Pdu}
+use Rattle.s1ap_pdu.specs.declared.value.IeValue.TheVariants as value
+use Rattle.s1ap_pdu.specs.Values.{FieldValue}
+use Rattle.s1ap_pdu.specs.Messages.{outcome_index, header_of, kind_of, values_of}
+use Rattle.s1ap_pdu.specs.Run.{count_of, IsRightValue}
 
 -- ---- pieces
 

@@ -1,22 +1,15 @@
 //! Ten messages of S1AP (3GPP TS 36.413, 9.1) in aligned PER (ITU-T X.691): read exactly, refusals included, and written in
-//! one way.
+//! one way. What has its usual form goes octet by octet, and all else piece by piece.
 #![tactic(auto)]
 
-mod build;
-mod header;
-mod laws;
-mod lists;
-mod pdu;
 mod reading;
-mod slots;
-mod tables;
 mod usual;
-mod value;
 mod writing;
 
-pub use laws::{one_answer, small_is_right, spelled_is_right, written_is_spelled};
-pub use pdu::{ErabsDone, ErabsToSetup, Pdu};
-pub use reading::{read_pdu, read_pieces, read_uplink};
-pub use tables::{IeRow, IeTable, MessageKind, ies_of, message_name};
+pub use reading::{read_pdu, read_uplink};
+pub use s1ap_pdu::{
+    ErabsDone, ErabsToSetup, IeRow, IeTable, MessageKind, Pdu, ies_of, message_name, one_answer,
+    read_pieces, small_is_right, spelled_is_right, write_pieces, written_is_spelled,
+};
 pub use usual::{read_usual, write_usual};
-pub use writing::{write_pdu, write_pieces};
+pub use writing::write_pdu;

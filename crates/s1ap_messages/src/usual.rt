@@ -1,8 +1,8 @@
 //! Messages as they are written, with one E-RAB in a list: read and written octet by octet. Any other goes piece by piece.
 
 ghost use Rattle.std.specs.Prelude.{◌≡◌, ◌<◌, ◌∷◌, All, IfOk, IfSome, Ok, length};
-ghost use Rattle.s1ap_messages.specs.Built.{message_at};
-ghost use Rattle.s1ap_messages.specs.Run.{written, IsRight};
+ghost use Rattle.s1ap_pdu.specs.Built.{message_at};
+ghost use Rattle.s1ap_pdu.specs.Run.{written, IsRight};
 ghost use Rattle.s1ap_messages.specs.Usual.{counted, usual_octets, IsUsual};
 
 mod bearers;
@@ -15,12 +15,12 @@ mod put_kinds;
 mod put_values;
 mod values;
 
-use crate::pdu::Pdu;
 use crate::usual::kinds::{fields, kind_of_header};
 use crate::usual::octets::{counted, three};
 use crate::usual::put::finish;
 use crate::usual::put_kinds::unfinished;
 use device_types::Octets;
+use s1ap_pdu::Pdu;
 use std::alloc::{AllocError, Global};
 
 /// The header of a message, the count of its IEs, and the IEs.

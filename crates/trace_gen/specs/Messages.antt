@@ -8,9 +8,9 @@ use Rattle.s1ap_ies.specs.declared.cgi.Cgi.{Cgi}
 use Rattle.s1ap_ies.specs.declared.stmsi.Stmsi.{Stmsi}
 use Rattle.s1ap_ies.specs.declared.cause.Cause.{Cause}
 use Rattle.s1ap_ies.specs.declared.erab_done.ErabDone.{ErabDone}
-use Rattle.s1ap_messages.specs.declared.pdu.Pdu.{Pdu}
-use Rattle.s1ap_messages.specs.declared.pdu.Pdu.TheVariants.{InitialUeMessage, UplinkNasTransport, InitialContextSetupResponse, UeContextReleaseRequest, UeContextReleaseComplete, UeCapabilityInfoIndication}
-use Rattle.s1ap_messages.specs.Run.{written}
+use Rattle.s1ap_pdu.specs.declared.pdu.Pdu.{Pdu}
+use Rattle.s1ap_pdu.specs.declared.pdu.Pdu.TheVariants.{InitialUeMessage, UplinkNasTransport, InitialContextSetupResponse, UeContextReleaseRequest, UeContextReleaseComplete, UeCapabilityInfoIndication}
+use Rattle.s1ap_pdu.specs.Run.{written}
 use Rattle.trace_gen.specs.declared.script.Sending.{Sending}
 use Rattle.trace_gen.specs.declared.script.Sending.TheVariants.{AttachRequest, AuthenticationResponse, SecurityComplete, AttachContext, RadioCapability, AttachComplete, ReleaseRequest, ReleaseComplete, ServiceRequest, ServiceContext, AreaRequest, DetachRequest}
 use Rattle.trace_gen.specs.declared.script.Sent.{Sent}

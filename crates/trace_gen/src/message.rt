@@ -3,8 +3,8 @@
 ghost use Rattle.std.specs.Prelude.{◌≡◌, ◌++◌, ◌<◌, ◌≤◌, ◌^◌, length, codes, false, IfOk, OnOk, IfSome, string_bytes};
 ghost use Rattle.hex.specs.Hex.{encode_lower};
 ghost use Rattle.s1ap_ies.specs.Run.{IsStmsi};
-ghost use Rattle.s1ap_messages.specs.Run.{written};
-ghost use Rattle.s1ap_messages.specs.Small.{IsSmall};
+ghost use Rattle.s1ap_pdu.specs.Run.{written};
+ghost use Rattle.s1ap_pdu.specs.Small.{IsSmall};
 ghost use Rattle.trace_gen.specs.Made.{ended};
 ghost use Rattle.trace_gen.specs.Messages.{initial, uplink, context_made, inactivity, message_of, trace_line};
 

@@ -7,11 +7,11 @@ ghost use Rattle.s1ap_ies.specs.Names as named;
 ghost use Rattle.s1ap_ies.specs.Values as types;
 ghost use Rattle.s1ap_messages.specs.Usual.{nas_octets, done_octets, setup_octets, erabs_octets, ie_octets};
 
-use crate::pdu::{ErabsDone, ErabsToSetup};
 use crate::usual::octets::{counted, ie, one};
 use crate::usual::values::{four, own};
 use device_types::{ListOf, Octets};
 use s1ap_ies::{Criticality, ErabDone, ErabToSetup, names};
+use s1ap_pdu::{ErabsDone, ErabsToSetup};
 use std::alloc::Global;
 
 /// The one item of a list, where all of the octets are such a list.

@@ -1,16 +1,16 @@
 //! How many IEs a message has.
 
 ghost use Rattle.std.specs.Prelude.{◌≡◌, ◌+◌, ◌∷◌, [], length, option_map};
-ghost use Rattle.s1ap_messages.specs.declared.value.IeValue.TheVariants as value;
-ghost use Rattle.s1ap_messages.specs.Messages.{rows_of};
-ghost use Rattle.s1ap_messages.specs.Run.{count_of};
+ghost use Rattle.s1ap_pdu.specs.declared.value.IeValue.TheVariants as value;
+ghost use Rattle.s1ap_pdu.specs.Messages.{rows_of};
+ghost use Rattle.s1ap_pdu.specs.Run.{count_of};
 
-use crate::tables::{MessageKind, ies_of};
 use s1ap_ies::Stmsi;
+use s1ap_pdu::{MessageKind, ies_of};
 
 /// How many IEs the table of a kind of message has.
 #[inline(always)]
-#[tactic(auto, using(crate::proofs::Distinct::few_rows))]
+#[tactic(auto, using(s1ap_pdu::proofs::Distinct::few_rows))]
 pub fn rows_in(kind: MessageKind) -> u8
     ensures { result ≡ length (rows_of kind) }
 {

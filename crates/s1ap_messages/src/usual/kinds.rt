@@ -1,12 +1,9 @@
 //! The IEs of each kind of message, read from their octets.
 
 ghost use Rattle.std.specs.Prelude.{IfSome};
-ghost use Rattle.s1ap_messages.specs.declared.tables.MessageKind.TheVariants as kind;
+ghost use Rattle.s1ap_pdu.specs.declared.tables.MessageKind.TheVariants as kind;
 ghost use Rattle.s1ap_messages.specs.Usual.{AreAllFieldsOf, AreFieldsOf, BeginsAs};
 
-use crate::header::Outcome;
-use crate::pdu::Pdu;
-use crate::tables::{MessageKind, header_of, kind_with};
 use crate::usual::bearers::{erabs_done, erabs_to_setup};
 use crate::usual::counts::{initial_count, rows_in};
 use crate::usual::octets::ie;
@@ -14,6 +11,7 @@ use crate::usual::values::{
     caps, cause, cgi, enb, ids, key, last_stmsi, mme, nas, own, rates, rrc, tai, text,
 };
 use s1ap_ies::{Criticality, names};
+use s1ap_pdu::{MessageKind, Outcome, Pdu, header_of, kind_with};
 use std::alloc::Global;
 
 /// The IEs of an INITIAL UE MESSAGE.

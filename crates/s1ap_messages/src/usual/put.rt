@@ -2,13 +2,13 @@
 
 ghost use Rattle.std.specs.Prelude.{◌≡◌, ◌+◌, ◌-◌, ◌*◌, ◌^◌, ◌<◌, ◌≤◌, ◌∷◌, ◌++◌, IfOk, IfSome, OnOk, length, take, drop};
 ghost use Rattle.s1ap_ies.specs.Names as named;
-ghost use Rattle.s1ap_messages.specs.Messages.{rows_of};
+ghost use Rattle.s1ap_pdu.specs.Messages.{rows_of};
 ghost use Rattle.s1ap_messages.specs.Usual.{beginning, count_octets, counted, least_octets, number_octets};
 
-use crate::tables::{MessageKind, header_of};
 use crate::usual::counts::rows_in;
 use device_types::Octets;
 use s1ap_ies::Criticality;
+use s1ap_pdu::{MessageKind, header_of};
 use std::alloc::{AllocError, Global};
 
 /// The octets of a message of that kind before so many IEs, with an octet of zeros in place of its length.

@@ -3,12 +3,10 @@
 ghost use Rattle.std.specs.Prelude.{◌≡◌, ◌≤◌, true, ◌∷◌, [], IfOk, IfSome, length};
 ghost use Rattle.aper_fields.specs.Spelling.{IsEnumValue};
 ghost use Rattle.s1ap_ies.specs.Run.{IsTai, IsCgi, IsBitRates, IsCause, IsErabDone, IsErabToSetup};
-ghost use Rattle.s1ap_messages.specs.declared.pdu.Pdu.TheVariants.{InitialUeMessage, UplinkNasTransport, DownlinkNasTransport, InitialContextSetupRequest, InitialContextSetupResponse, InitialContextSetupFailure, UeContextReleaseRequest, UeContextReleaseCommand, UeContextReleaseComplete, UeCapabilityInfoIndication};
-ghost use Rattle.s1ap_messages.specs.Run.{IsRight};
+ghost use Rattle.s1ap_pdu.specs.declared.pdu.Pdu.TheVariants.{InitialUeMessage, UplinkNasTransport, DownlinkNasTransport, InitialContextSetupRequest, InitialContextSetupResponse, InitialContextSetupFailure, UeContextReleaseRequest, UeContextReleaseCommand, UeContextReleaseComplete, UeCapabilityInfoIndication};
+ghost use Rattle.s1ap_pdu.specs.Run.{IsRight};
 ghost use Rattle.s1ap_messages.specs.Usual.{unfinished_octets, HasForms};
 
-use crate::pdu::Pdu;
-use crate::tables::MessageKind;
 use crate::usual::counts::initial_count;
 use crate::usual::put::{begin, begin_with};
 use crate::usual::put_bearers::{nas_len, put_done, put_setup};
@@ -20,6 +18,7 @@ use aper_fields::EnumValue;
 use s1ap_ies::{
     BitRates, Cause, Cgi, Criticality, ErabDone, ErabToSetup, SecCaps, Stmsi, Tai, UeIds, names,
 };
+use s1ap_pdu::{MessageKind, Pdu};
 use std::alloc::{AllocError, Global};
 
 /// Room for what stands before the IEs, two identities and a cause.

@@ -4,8 +4,8 @@ ghost use Rattle.std.specs.Prelude.{◌≡◌, ◌+◌, ◌%◌, ◌^◌, ◌<�
 ghost use Rattle.aper_fields.specs.Spelling.{IsEnumValue};
 ghost use Rattle.s1ap_ies.specs.Run.{IsTai, IsCgi, IsStmsi, IsBitRates, IsSecCaps, IsCause, IsUeIds};
 ghost use Rattle.s1ap_ies.specs.Names as named;
-ghost use Rattle.s1ap_messages.specs.Tables.{optional};
-ghost use Rattle.s1ap_messages.specs.declared.value.IeValue.TheVariants as value;
+ghost use Rattle.s1ap_pdu.specs.Tables.{optional};
+ghost use Rattle.s1ap_pdu.specs.declared.value.IeValue.TheVariants as value;
 ghost use Rattle.s1ap_messages.specs.Usual.{counted, four_octets, number_octets, tai_octets, cgi_octets, stmsi_octets, rates_octets, caps_octets, rrc_octets, cause_octets, ids_octets, ie_octets, fields_octets, IsUsualValue};
 
 use crate::usual::octets::{counted, id, ie, number, one};

@@ -1,6 +1,6 @@
 use Rattle.std.proofs.Common.{◌≡◌, eqb, false, length, refl, arith}
 use Rattle.std.proofs.lemmas.Bool.{ne_eqb}
-use Rattle.s1ap_messages.specs.Run.{written}
+use Rattle.s1ap_pdu.specs.Run.{written}
 use Rattle.codec_bench.proofs.Written.{written_some}
 use Rattle.codec_bench.proofs.turns.is_something.Goals as goal
 

@@ -1,11 +1,11 @@
 -- Octets give the message or the refusal that the grammar has for them; what is read can be written, and memory runs out only where it takes some.
 use Rattle.std.proofs.Common.{subst}
 use Rattle.echo_base.specs.Answer.{IsAnswer}
-use Rattle.s1ap_messages.specs.Grammar.{Spells, Refused}
-use Rattle.s1ap_messages.specs.Built.{message_at}
-use Rattle.s1ap_messages.proofs.Right.{message_right, answer_right}
-use Rattle.s1ap_messages.proofs.Exact.{message_answers, only_message}
-use Rattle.s1ap_messages.proofs.Found.{read_answer, refused_read, short_read}
+use Rattle.s1ap_pdu.specs.Grammar.{Spells, Refused}
+use Rattle.s1ap_pdu.specs.Built.{message_at}
+use Rattle.s1ap_pdu.proofs.Right.{message_right, answer_right}
+use Rattle.s1ap_pdu.proofs.Exact.{message_answers, only_message}
+use Rattle.s1ap_pdu.proofs.Found.{read_answer, refused_read, short_read}
 use Rattle.s1ap_messages.proofs.reading.read_pdu.Goals as goal
 
 pub returns-clause-reading : goal.returns-clause-reading

@@ -1,11 +1,11 @@
 -- Octets are read as the grammar of what an MME receives has it, refusals too, and what is read can be written; memory runs out only where it takes some.
 use Rattle.std.proofs.Common.{subst}
 use Rattle.echo_base.specs.Answer.{IsAnswer}
-use Rattle.s1ap_messages.specs.Grammar.{SpellsUplink, RefusedUplink}
-use Rattle.s1ap_messages.specs.Built.{uplink_at}
-use Rattle.s1ap_messages.proofs.Right.{message_right, answer_right}
-use Rattle.s1ap_messages.proofs.Exact.{uplink_answers, only_uplink}
-use Rattle.s1ap_messages.proofs.Found.{read_answer, refused_received, short_received}
+use Rattle.s1ap_pdu.specs.Grammar.{SpellsUplink, RefusedUplink}
+use Rattle.s1ap_pdu.specs.Built.{uplink_at}
+use Rattle.s1ap_pdu.proofs.Right.{message_right, answer_right}
+use Rattle.s1ap_pdu.proofs.Exact.{uplink_answers, only_uplink}
+use Rattle.s1ap_pdu.proofs.Found.{read_answer, refused_received, short_received}
 use Rattle.s1ap_messages.proofs.reading.read_uplink.Goals as goal
 
 pub returns-clause-reading : goal.returns-clause-reading

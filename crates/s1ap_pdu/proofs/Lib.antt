@@ -1,0 +1,16 @@
+pub mod Distinct
+pub mod Writes
+pub mod Ies
+pub mod Frame
+pub mod Places
+pub mod Kept
+pub mod RowLaws
+pub mod Makes
+pub mod Exact
+pub mod Found
+pub mod Whole
+pub mod Sizes
+pub mod Answering
+pub mod Right
+pub mod Small
+pub mod InPlace

@@ -1,0 +1,11 @@
+pub mod Built
+pub mod Grammar
+pub mod Lent
+pub mod Memory
+pub mod Messages
+pub mod Reading
+pub mod Rows
+pub mod Run
+pub mod Small
+pub mod Tables
+pub mod Values

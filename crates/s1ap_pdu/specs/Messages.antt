@@ -1,0 +1,296 @@
+-- The messages (TS 36.413, 9.1): how each begins, who sends it, and its IEs in order.
+use Rattle.std.specs.Prelude.{ℕ, codes, Bool, true, false, List, [], ◌∷◌, Option, Some, None, Result, Ok, Err}
+use Rattle.s1ap_ies.specs.Names as names
+use Rattle.s1ap_ies.specs.declared.criticality.Criticality.{Criticality}
+use Rattle.s1ap_ies.specs.declared.criticality.Criticality.TheVariants.{Reject, Ignore}
+use Rattle.s1ap_pdu.specs.declared.tables.IeRow.{IeRow}
+use Rattle.s1ap_pdu.specs.declared.tables.MessageKind.{MessageKind}
+use Rattle.s1ap_pdu.specs.declared.tables.MessageKind.TheVariants as kind
+use Rattle.s1ap_pdu.specs.declared.header.Header.{Header}
+use Rattle.s1ap_pdu.specs.declared.header.Outcome.{Outcome}
+use Rattle.s1ap_pdu.specs.declared.header.Outcome.TheVariants.{Initiating, Successful, Unsuccessful}
+use Rattle.s1ap_pdu.specs.declared.pdu.Pdu.{Pdu}
+use Rattle.s1ap_pdu.specs.declared.pdu.Pdu.TheVariants as pdus
+use Rattle.s1ap_pdu.specs.Values as ies
+use Rattle.s1ap_pdu.specs.Values.{FieldValue}
+use Rattle.s1ap_pdu.specs.Rows.{Rows, last, ◌▸◌, must, may, Taking, taken, Slots, table, values, fields_from}
+
+-- the alternatives of S1AP-PDU (9.3.2)
+abbrev pub outcome_index : Outcome → ℕ
+outcome_index Initiating = 0
+outcome_index Successful = 1
+outcome_index Unsuccessful = 2
+
+-- a message
+pub record Message : Type 1 where
+  -- the values of its fields
+  pub Fields : Type 0
+  -- its name, as the standard spells it (9.3.3)
+  pub name : List ℕ
+  -- which alternative of S1AP-PDU it is
+  pub outcome : Outcome
+  -- its procedure code (9.3.6)
+  pub code : ℕ
+  -- the criticality with which it is written
+  pub criticality : Criticality
+  -- whether it is one that an MME sends, and does not receive
+  pub downlink : Bool
+  -- its IEs in order
+  pub rows : Rows Fields
+  -- the message of its fields
+  pub make : Taking rows Pdu
+  -- the fields of a message that is one of these
+  pub part : Pdu → Option Fields
+
+-- INITIAL UE MESSAGE (9.1.7.1)
+abbrev pub initial_ue_message : Message
+initial_ue_message = record {
+  Fields = _;
+  name = codes "InitialUEMessage";
+  outcome = Initiating;
+  code = names.initial_ue_message;
+  criticality = Ignore;
+  downlink = false;
+  rows =
+      must ies.enb Reject ▸
+      must ies.nas_pdu Reject ▸
+      must ies.tai Reject ▸
+      must ies.cgi Ignore ▸
+      must ies.rrc_cause Ignore ▸
+      may ies.stmsi Reject ▸
+      last;
+  make = pdus.InitialUeMessage;
+  part = elim [ pdus.InitialUeMessage enb nas tai cgi rrc stmsi ↦ Some (enb, (nas, (tai, (cgi, (rrc, (stmsi, tt)))))) | _ ↦ None ];
+}
+
+-- UPLINK NAS TRANSPORT (9.1.7.3)
+abbrev pub uplink_nas_transport : Message
+uplink_nas_transport = record {
+  Fields = _;
+  name = codes "UplinkNASTransport";
+  outcome = Initiating;
+  code = names.uplink_nas_transport;
+  criticality = Ignore;
+  downlink = false;
+  rows =
+      must ies.mme Reject ▸
+      must ies.enb Reject ▸
+      must ies.nas_pdu Reject ▸
+      must ies.cgi Ignore ▸
+      must ies.tai Ignore ▸
+      last;
+  make = pdus.UplinkNasTransport;
+  part = elim [ pdus.UplinkNasTransport mme enb nas cgi tai ↦ Some (mme, (enb, (nas, (cgi, (tai, tt))))) | _ ↦ None ];
+}
+
+-- DOWNLINK NAS TRANSPORT (9.1.7.2)
+abbrev pub downlink_nas_transport : Message
+downlink_nas_transport = record {
+  Fields = _;
+  name = codes "DownlinkNASTransport";
+  outcome = Initiating;
+  code = names.downlink_nas_transport;
+  criticality = Ignore;
+  downlink = true;
+  rows =
+      must ies.mme Reject ▸
+      must ies.enb Reject ▸
+      must ies.nas_pdu Reject ▸
+      last;
+  make = pdus.DownlinkNasTransport;
+  part = elim [ pdus.DownlinkNasTransport mme enb nas ↦ Some (mme, (enb, (nas, tt))) | _ ↦ None ];
+}
+
+-- INITIAL CONTEXT SETUP REQUEST (9.1.4.1)
+abbrev pub initial_context_setup_request : Message
+initial_context_setup_request = record {
+  Fields = _;
+  name = codes "InitialContextSetupRequest";
+  outcome = Initiating;
+  code = names.initial_context_setup;
+  criticality = Reject;
+  downlink = true;
+  rows =
+      must ies.mme Reject ▸
+      must ies.enb Reject ▸
+      must ies.bit_rates Reject ▸
+      must ies.erabs_to_setup Reject ▸
+      must ies.sec_caps Reject ▸
+      must ies.security_key Reject ▸
+      last;
+  make = pdus.InitialContextSetupRequest;
+  part = elim [ pdus.InitialContextSetupRequest mme enb rates bearers caps key ↦ Some (mme, (enb, (rates, (bearers, (caps, (key, tt)))))) | _ ↦ None ];
+}
+
+-- INITIAL CONTEXT SETUP RESPONSE (9.1.4.3)
+abbrev pub initial_context_setup_response : Message
+initial_context_setup_response = record {
+  Fields = _;
+  name = codes "InitialContextSetupResponse";
+  outcome = Successful;
+  code = names.initial_context_setup;
+  criticality = Reject;
+  downlink = false;
+  rows =
+      must ies.mme Ignore ▸
+      must ies.enb Ignore ▸
+      must ies.erabs_done Ignore ▸
+      last;
+  make = pdus.InitialContextSetupResponse;
+  part = elim [ pdus.InitialContextSetupResponse mme enb done ↦ Some (mme, (enb, (done, tt))) | _ ↦ None ];
+}
+
+-- INITIAL CONTEXT SETUP FAILURE (9.1.4.4)
+abbrev pub initial_context_setup_failure : Message
+initial_context_setup_failure = record {
+  Fields = _;
+  name = codes "InitialContextSetupFailure";
+  outcome = Unsuccessful;
+  code = names.initial_context_setup;
+  criticality = Reject;
+  downlink = false;
+  rows =
+      must ies.mme Ignore ▸
+      must ies.enb Ignore ▸
+      must ies.cause Ignore ▸
+      last;
+  make = pdus.InitialContextSetupFailure;
+  part = elim [ pdus.InitialContextSetupFailure mme enb cause ↦ Some (mme, (enb, (cause, tt))) | _ ↦ None ];
+}
+
+-- UE CONTEXT RELEASE REQUEST (9.1.4.5)
+abbrev pub ue_context_release_request : Message
+ue_context_release_request = record {
+  Fields = _;
+  name = codes "UEContextReleaseRequest";
+  outcome = Initiating;
+  code = names.ue_context_release_request;
+  criticality = Ignore;
+  downlink = false;
+  rows =
+      must ies.mme Reject ▸
+      must ies.enb Reject ▸
+      must ies.cause Ignore ▸
+      last;
+  make = pdus.UeContextReleaseRequest;
+  part = elim [ pdus.UeContextReleaseRequest mme enb cause ↦ Some (mme, (enb, (cause, tt))) | _ ↦ None ];
+}
+
+-- UE CONTEXT RELEASE COMMAND (9.1.4.6)
+abbrev pub ue_context_release_command : Message
+ue_context_release_command = record {
+  Fields = _;
+  name = codes "UEContextReleaseCommand";
+  outcome = Initiating;
+  code = names.ue_context_release;
+  criticality = Reject;
+  downlink = true;
+  rows =
+      must ies.ue_ids Reject ▸
+      must ies.cause Ignore ▸
+      last;
+  make = pdus.UeContextReleaseCommand;
+  part = elim [ pdus.UeContextReleaseCommand ids cause ↦ Some (ids, (cause, tt)) | _ ↦ None ];
+}
+
+-- UE CONTEXT RELEASE COMPLETE (9.1.4.7)
+abbrev pub ue_context_release_complete : Message
+ue_context_release_complete = record {
+  Fields = _;
+  name = codes "UEContextReleaseComplete";
+  outcome = Successful;
+  code = names.ue_context_release;
+  criticality = Reject;
+  downlink = false;
+  rows =
+      must ies.mme Ignore ▸
+      must ies.enb Ignore ▸
+      last;
+  make = pdus.UeContextReleaseComplete;
+  part = elim [ pdus.UeContextReleaseComplete mme enb ↦ Some (mme, (enb, tt)) | _ ↦ None ];
+}
+
+-- UE CAPABILITY INFO INDICATION (9.1.10)
+abbrev pub ue_capability_info_indication : Message
+ue_capability_info_indication = record {
+  Fields = _;
+  name = codes "UECapabilityInfoIndication";
+  outcome = Initiating;
+  code = names.ue_capability_info_indication;
+  criticality = Ignore;
+  downlink = false;
+  rows =
+      must ies.mme Reject ▸
+      must ies.enb Reject ▸
+      must ies.radio_capability Ignore ▸
+      last;
+  make = pdus.UeCapabilityInfoIndication;
+  part = elim [ pdus.UeCapabilityInfoIndication mme enb radio ↦ Some (mme, (enb, (radio, tt))) | _ ↦ None ];
+}
+
+-- what holds of the message of a kind
+abbrev pub by_kind {ℓ} : {B : Type ℓ} → (Message → B) → MessageKind → B
+by_kind f kind.InitialUeMessage = f initial_ue_message
+by_kind f kind.UplinkNasTransport = f uplink_nas_transport
+by_kind f kind.DownlinkNasTransport = f downlink_nas_transport
+by_kind f kind.InitialContextSetupRequest = f initial_context_setup_request
+by_kind f kind.InitialContextSetupResponse = f initial_context_setup_response
+by_kind f kind.InitialContextSetupFailure = f initial_context_setup_failure
+by_kind f kind.UeContextReleaseRequest = f ue_context_release_request
+by_kind f kind.UeContextReleaseCommand = f ue_context_release_command
+by_kind f kind.UeContextReleaseComplete = f ue_context_release_complete
+by_kind f kind.UeCapabilityInfoIndication = f ue_capability_info_indication
+
+abbrev pub message_of : MessageKind → Message
+message_of kind = by_kind (λ m. m) kind
+
+abbrev pub kinds : List MessageKind
+kinds = kind.InitialUeMessage ∷ kind.UplinkNasTransport ∷ kind.DownlinkNasTransport ∷ kind.InitialContextSetupRequest ∷ kind.InitialContextSetupResponse ∷ kind.InitialContextSetupFailure ∷ kind.UeContextReleaseRequest ∷ kind.UeContextReleaseCommand ∷ kind.UeContextReleaseComplete ∷ kind.UeCapabilityInfoIndication ∷ []
+
+-- the kind of a message
+abbrev pub kind_of : Pdu → MessageKind
+kind_of (pdus.InitialUeMessage enb nas tai cgi rrc stmsi) = kind.InitialUeMessage
+kind_of (pdus.UplinkNasTransport mme enb nas cgi tai) = kind.UplinkNasTransport
+kind_of (pdus.DownlinkNasTransport mme enb nas) = kind.DownlinkNasTransport
+kind_of (pdus.InitialContextSetupRequest mme enb rates bearers caps key) = kind.InitialContextSetupRequest
+kind_of (pdus.InitialContextSetupResponse mme enb done) = kind.InitialContextSetupResponse
+kind_of (pdus.InitialContextSetupFailure mme enb cause) = kind.InitialContextSetupFailure
+kind_of (pdus.UeContextReleaseRequest mme enb cause) = kind.UeContextReleaseRequest
+kind_of (pdus.UeContextReleaseCommand ids cause) = kind.UeContextReleaseCommand
+kind_of (pdus.UeContextReleaseComplete mme enb) = kind.UeContextReleaseComplete
+kind_of (pdus.UeCapabilityInfoIndication mme enb radio) = kind.UeCapabilityInfoIndication
+
+abbrev pub header_of : MessageKind → Header
+header_of kind = by_kind (λ m. record { outcome = m.outcome; code = m.code; criticality = m.criticality }) kind
+
+abbrev pub name_of : MessageKind → List ℕ
+name_of kind = by_kind (λ m. m.name) kind
+
+-- the messages that an MME sends, and does not receive
+abbrev pub is_downlink : MessageKind → Bool
+is_downlink kind = by_kind (λ m. m.downlink) kind
+
+-- the IEs of a message in order
+abbrev pub rows_of : MessageKind → List IeRow
+rows_of kind = by_kind (λ m. table m.rows) kind
+
+-- the values of the fields that there are
+abbrev pub values_or_none : {A : Type 0} → Rows A → Option A → List (Option FieldValue)
+values_or_none rows None = []
+values_or_none rows (Some fields) = values rows fields
+
+-- the values of a message's IEs, one for each row
+abbrev pub values_of : Pdu → List (Option FieldValue)
+values_of p = by_kind (λ m. values_or_none m.rows (m.part p)) (kind_of p)
+
+abbrev pub made : {A : Type 0} → (A → Pdu) → Result A ℕ → Result Pdu ℕ
+made make (Ok fields) = Ok (make fields)
+made make (Err id) = Err id
+
+-- the message of the values in its slots, or the first id that is missing
+abbrev pub made_from : Message → Slots → Result Pdu ℕ
+made_from m slots = made (taken m.rows m.make) (fields_from m.rows 0 slots)
+
+-- the same of a kind of message
+unfoldable pub message_from : MessageKind → Slots → Result Pdu ℕ
+message_from kind slots = by_kind (λ m. made_from m slots) kind

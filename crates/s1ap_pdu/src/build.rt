@@ -1,0 +1,213 @@
+//! Messages of the values that were read: memory is taken here alone.
+
+ghost use Rattle.std.specs.Prelude.{◌≡◌, IsOk, Ok};
+ghost use Rattle.s1ap_pdu.specs.Messages.{initial_ue_message, uplink_nas_transport, downlink_nas_transport, initial_context_setup_request, initial_context_setup_response, initial_context_setup_failure, ue_context_release_request, ue_context_release_command, ue_context_release_complete, ue_capability_info_indication, made_from, message_from};
+ghost use Rattle.s1ap_pdu.specs.Memory.{IsMade};
+
+use crate::pdu::Pdu;
+use crate::slots::Slots;
+use crate::tables::MessageKind;
+use crate::value::IeValue;
+use echo_base::OutOfMemory;
+use std::alloc::Global;
+
+/// Binds what stands in a slot by the name, where the slot holds that variant; by the function's condition it does.
+macro_rules! find {
+    ($slots:ident, $place:literal, $variant:ident($name:ident)) => {
+        let Some(IeValue::$variant($name)) = $slots.at($place) else {
+            unreachable!()
+        };
+    };
+}
+
+#[tactic(auto, unfolding(crate::specs::Rows::fields_from))]
+fn initial_ue_message(alloc: Global, slots: &Slots) -> Result<Pdu, OutOfMemory>
+    requires { IsOk (made_from initial_ue_message slots.now) }
+    ensures { IsMade (made_from initial_ue_message slots.now) result }
+{
+    find!(slots, 0, Enb(enb));
+    find!(slots, 1, Nas(nas));
+    find!(slots, 2, Tai(tai));
+    find!(slots, 3, Cgi(cgi));
+    find!(slots, 4, Rrc(rrc));
+    let stmsi = match slots.at(5) {
+        Some(IeValue::Stmsi(stmsi)) => Some(*stmsi),
+        _ => None,
+    };
+    let nas = nas.own(alloc)?;
+    Ok(Pdu::InitialUeMessage {
+        enb: *enb,
+        nas,
+        tai: *tai,
+        cgi: *cgi,
+        rrc: *rrc,
+        stmsi,
+    })
+}
+
+#[tactic(auto, unfolding(crate::specs::Rows::fields_from))]
+fn uplink_nas_transport(alloc: Global, slots: &Slots) -> Result<Pdu, OutOfMemory>
+    requires { IsOk (made_from uplink_nas_transport slots.now) }
+    ensures { IsMade (made_from uplink_nas_transport slots.now) result }
+{
+    find!(slots, 0, Mme(mme));
+    find!(slots, 1, Enb(enb));
+    find!(slots, 2, Nas(nas));
+    find!(slots, 3, Cgi(cgi));
+    find!(slots, 4, Tai(tai));
+    let nas = nas.own(alloc)?;
+    Ok(Pdu::UplinkNasTransport {
+        mme: *mme,
+        enb: *enb,
+        nas,
+        cgi: *cgi,
+        tai: *tai,
+    })
+}
+
+#[tactic(auto, unfolding(crate::specs::Rows::fields_from))]
+fn downlink_nas_transport(alloc: Global, slots: &Slots) -> Result<Pdu, OutOfMemory>
+    requires { IsOk (made_from downlink_nas_transport slots.now) }
+    ensures { IsMade (made_from downlink_nas_transport slots.now) result }
+{
+    find!(slots, 0, Mme(mme));
+    find!(slots, 1, Enb(enb));
+    find!(slots, 2, Nas(nas));
+    let nas = nas.own(alloc)?;
+    Ok(Pdu::DownlinkNasTransport {
+        mme: *mme,
+        enb: *enb,
+        nas,
+    })
+}
+
+#[tactic(auto, unfolding(crate::specs::Rows::fields_from))]
+fn initial_context_setup_request(alloc: Global, slots: &Slots) -> Result<Pdu, OutOfMemory>
+    requires { IsOk (made_from initial_context_setup_request slots.now) }
+    ensures { IsMade (made_from initial_context_setup_request slots.now) result }
+{
+    find!(slots, 0, Mme(mme));
+    find!(slots, 1, Enb(enb));
+    find!(slots, 2, Rates(rates));
+    find!(slots, 3, Bearers(bearers));
+    find!(slots, 4, Caps(caps));
+    find!(slots, 5, Key(key));
+    let bearers = bearers.own(alloc)?;
+    let key = key.own(alloc)?;
+    Ok(Pdu::InitialContextSetupRequest {
+        mme: *mme,
+        enb: *enb,
+        rates: *rates,
+        bearers,
+        caps: *caps,
+        key,
+    })
+}
+
+#[tactic(auto, unfolding(crate::specs::Rows::fields_from))]
+fn initial_context_setup_response(alloc: Global, slots: &Slots) -> Result<Pdu, OutOfMemory>
+    requires { IsOk (made_from initial_context_setup_response slots.now) }
+    ensures { IsMade (made_from initial_context_setup_response slots.now) result }
+{
+    find!(slots, 0, Mme(mme));
+    find!(slots, 1, Enb(enb));
+    find!(slots, 2, Done(done));
+    let done = done.own(alloc)?;
+    Ok(Pdu::InitialContextSetupResponse {
+        mme: *mme,
+        enb: *enb,
+        done,
+    })
+}
+
+#[tactic(auto, unfolding(crate::specs::Rows::fields_from))]
+fn initial_context_setup_failure(slots: &Slots) -> Pdu
+    requires { IsOk (made_from initial_context_setup_failure slots.now) }
+    ensures { made_from initial_context_setup_failure slots.now ≡ Ok result }
+{
+    find!(slots, 0, Mme(mme));
+    find!(slots, 1, Enb(enb));
+    find!(slots, 2, Cause(cause));
+    Pdu::InitialContextSetupFailure {
+        mme: *mme,
+        enb: *enb,
+        cause: *cause,
+    }
+}
+
+#[tactic(auto, unfolding(crate::specs::Rows::fields_from))]
+fn ue_context_release_request(slots: &Slots) -> Pdu
+    requires { IsOk (made_from ue_context_release_request slots.now) }
+    ensures { made_from ue_context_release_request slots.now ≡ Ok result }
+{
+    find!(slots, 0, Mme(mme));
+    find!(slots, 1, Enb(enb));
+    find!(slots, 2, Cause(cause));
+    Pdu::UeContextReleaseRequest {
+        mme: *mme,
+        enb: *enb,
+        cause: *cause,
+    }
+}
+
+#[tactic(auto, unfolding(crate::specs::Rows::fields_from))]
+fn ue_context_release_command(slots: &Slots) -> Pdu
+    requires { IsOk (made_from ue_context_release_command slots.now) }
+    ensures { made_from ue_context_release_command slots.now ≡ Ok result }
+{
+    find!(slots, 0, Ids(ids));
+    find!(slots, 1, Cause(cause));
+    Pdu::UeContextReleaseCommand {
+        ids: *ids,
+        cause: *cause,
+    }
+}
+
+#[tactic(auto, unfolding(crate::specs::Rows::fields_from))]
+fn ue_context_release_complete(slots: &Slots) -> Pdu
+    requires { IsOk (made_from ue_context_release_complete slots.now) }
+    ensures { made_from ue_context_release_complete slots.now ≡ Ok result }
+{
+    find!(slots, 0, Mme(mme));
+    find!(slots, 1, Enb(enb));
+    Pdu::UeContextReleaseComplete {
+        mme: *mme,
+        enb: *enb,
+    }
+}
+
+#[tactic(auto, unfolding(crate::specs::Rows::fields_from))]
+fn ue_capability_info_indication(alloc: Global, slots: &Slots) -> Result<Pdu, OutOfMemory>
+    requires { IsOk (made_from ue_capability_info_indication slots.now) }
+    ensures { IsMade (made_from ue_capability_info_indication slots.now) result }
+{
+    find!(slots, 0, Mme(mme));
+    find!(slots, 1, Enb(enb));
+    find!(slots, 2, Radio(radio));
+    let radio = radio.own(alloc)?;
+    Ok(Pdu::UeCapabilityInfoIndication {
+        mme: *mme,
+        enb: *enb,
+        radio,
+    })
+}
+
+/// The message of that kind with the values in the slots, none of which is missing, its octets and lists in memory of their own.
+#[tactic(auto, unfolding(crate::specs::Messages::message_from))]
+pub fn message(alloc: Global, kind: MessageKind, slots: &Slots) -> Result<Pdu, OutOfMemory>
+    requires { IsOk (message_from kind slots.now) }
+    ensures { IsMade (message_from kind slots.now) result }
+{
+    match kind {
+        MessageKind::InitialUeMessage => initial_ue_message(alloc, slots),
+        MessageKind::UplinkNasTransport => uplink_nas_transport(alloc, slots),
+        MessageKind::DownlinkNasTransport => downlink_nas_transport(alloc, slots),
+        MessageKind::InitialContextSetupRequest => initial_context_setup_request(alloc, slots),
+        MessageKind::InitialContextSetupResponse => initial_context_setup_response(alloc, slots),
+        MessageKind::InitialContextSetupFailure => Ok(initial_context_setup_failure(slots)),
+        MessageKind::UeContextReleaseRequest => Ok(ue_context_release_request(slots)),
+        MessageKind::UeContextReleaseCommand => Ok(ue_context_release_command(slots)),
+        MessageKind::UeContextReleaseComplete => Ok(ue_context_release_complete(slots)),
+        MessageKind::UeCapabilityInfoIndication => ue_capability_info_indication(alloc, slots),
+    }
+}

@@ -1,0 +1,143 @@
+//! The values of IEs.
+
+ghost use Rattle.std.specs.Prelude.{◌≡◌, IfOk};
+ghost use Rattle.echo_base.specs.Reading.{Gives};
+ghost use Rattle.aper_fields.specs.Reading.{octet_string_at, fixed_octets_at};
+ghost use Rattle.aper_fields.specs.Asn1.{reading};
+ghost use Rattle.s1ap_pdu.specs.Values.{value_type, among, later_ies, rrc_cause};
+
+use crate::lists::{FoundErabs, find_erabs_done, find_erabs_to_setup};
+use crate::pdu::{ErabsDone, ErabsToSetup};
+use aper_fields::{BitReader, EnumValue, Ranged, read_enum, read_octet_string, read_octets_fixed};
+use device_types::Octets;
+use echo_base::{OutOfMemory, Refusal};
+use s1ap_ies::{
+    BitRates, Cause, Cgi, ErabDone, ErabToSetup, PlainValue, SecCaps, Stmsi, Tai, UeIds, names,
+};
+use std::alloc::Global;
+use std::marker::Model;
+
+/// The value of an IE that a message has (TS 36.413, 9.2). Octets and lists lie in what is read where they were found, and are
+/// lent where they are written.
+#[derive(Drop)]
+pub enum IeValue<O, S, D> {
+    /// MME UE S1AP ID (9.2.3.3), the IE 0.
+    Mme(u32),
+    /// Cause (9.2.1.3), the IE 2.
+    Cause(Cause),
+    /// eNB UE S1AP ID (9.2.3.4), the IE 8.
+    Enb(u32),
+    /// E-RAB to Be Setup List (9.1.4.1), the IE 24.
+    Bearers(S),
+    /// NAS-PDU (9.2.3.5), the IE 26.
+    Nas(O),
+    /// E-RAB Setup List (9.1.4.3), the IE 51.
+    Done(D),
+    /// UE Aggregate Maximum Bit Rate (9.2.1.20), the IE 66.
+    Rates(BitRates),
+    /// TAI (9.2.3.16), the IE 67.
+    Tai(Tai),
+    /// Security Key (9.2.1.41), the IE 73.
+    Key(O),
+    /// UE Radio Capability (9.2.1.27), the IE 74.
+    Radio(O),
+    /// S-TMSI (9.2.3.6), the IE 96.
+    Stmsi(Stmsi),
+    /// UE S1AP IDs (9.1.4.6), the IE 99.
+    Ids(UeIds),
+    /// E-UTRAN CGI (9.2.1.38), the IE 100.
+    Cgi(Cgi),
+    /// UE Security Capabilities (9.2.1.40), the IE 107.
+    Caps(SecCaps),
+    /// RRC Establishment Cause (9.2.1.3a), the IE 134.
+    Rrc(EnumValue),
+}
+
+/// Octets where they lie in what is read.
+#[derive(Drop)]
+pub struct FoundOctets<'a> {
+    octets: &'a [u8],
+}
+
+impl<'a> Model for FoundOctets<'a> {
+    ghost use Rattle.std.specs.Prelude.{ℕ, List};
+
+    ghost Value = { List ℕ };
+
+    ghost view = { λ found. found.octets.now };
+}
+
+impl<'a> FoundOctets<'a> {
+    /// The octets in memory of their own.
+    pub fn own(&self, alloc: Global) -> Result<Octets, OutOfMemory>
+        ensures { IfOk result (λ own. own ≡ self.now) }
+    {
+        Ok(Octets::from(Vec::from_slice(alloc, self.octets)?))
+    }
+}
+
+/// A value as it was found.
+pub type FoundValue<'a> = IeValue<
+    FoundOctets<'a>,
+    FoundErabs<'a, ErabToSetup>,
+    FoundErabs<'a, ErabDone>,
+>;
+
+/// A value as it is written.
+pub type LentValue<'a> = IeValue<&'a Octets, &'a ErabsToSetup, &'a ErabsDone>;
+
+/// Finds an octet string of at most so many octets.
+fn find_text<'a>(r: &mut BitReader<'a>, most: usize) -> Result<FoundOctets<'a>, Refusal>
+    ensures { Gives result r.old r.new (octet_string_at most r.old) }
+{
+    let octets = read_octet_string(r, most)?;
+    Ok(FoundOctets { octets })
+}
+
+/// Finds a security key, a bit string of 256 bits.
+fn find_key<'a>(r: &mut BitReader<'a>) -> Result<FoundOctets<'a>, Refusal>
+    ensures { Gives result r.old r.new (fixed_octets_at 32 r.old) }
+{
+    let octets = read_octets_fixed(r, names::SECURITY_KEY_OCTETS)?;
+    Ok(FoundOctets { octets })
+}
+
+/// Finds the value of the IE with that id, of those behind TAI in the order of ids; the last is an RRC Establishment Cause.
+#[inline(always)]
+#[tactic(auto, unfolding(aper_fields::specs::Asn1::reading))]
+fn find_later_value<'a>(r: &mut BitReader<'a>, id: u16) -> Result<FoundValue<'a>, Refusal>
+    ensures { Gives result r.old r.new (reading (among later_ies rrc_cause id) r.old) }
+{
+    match id {
+        names::SECURITY_KEY => Ok(IeValue::Key(find_key(r)?)),
+        names::RADIO_CAPABILITY => Ok(IeValue::Radio(find_text(r, names::MOST_OCTETS)?)),
+        names::STMSI => Ok(IeValue::Stmsi(Stmsi::read(r)?)),
+        names::UE_IDS => Ok(IeValue::Ids(UeIds::read(r)?)),
+        names::CGI => Ok(IeValue::Cgi(Cgi::read(r)?)),
+        names::SEC_CAPS => Ok(IeValue::Caps(SecCaps::read(r)?)),
+        _ => Ok(IeValue::Rrc(read_enum(r, names::RRC_CAUSE_ROOTS, true)?)),
+    }
+}
+
+/// Finds the value of the IE with that id, by the IE's type (TS 36.413, 9.2). It is refused for the first piece that is
+/// wrong, and then the reader has not moved.
+#[tactic(auto, unfolding(aper_fields::specs::Asn1::reading, crate::specs::Values::value_type))]
+pub fn find_value<'a>(r: &mut BitReader<'a>, id: u16) -> Result<FoundValue<'a>, Refusal>
+    ensures { Gives result r.old r.new (reading (value_type id) r.old) }
+{
+    match id {
+        names::MME_UE_S1AP_ID => Ok(IeValue::Mme(
+            Ranged::<0, { names::MOST_MME_UE_S1AP_ID }>::read(r)? as u32,
+        )),
+        names::CAUSE => Ok(IeValue::Cause(Cause::read(r)?)),
+        names::ENB_UE_S1AP_ID => Ok(IeValue::Enb(
+            Ranged::<0, { names::MOST_ENB_UE_S1AP_ID }>::read(r)? as u32,
+        )),
+        names::ERABS_TO_SETUP => Ok(IeValue::Bearers(find_erabs_to_setup(r)?)),
+        names::NAS_PDU => Ok(IeValue::Nas(find_text(r, names::MOST_OCTETS_OF_NAS)?)),
+        names::ERABS_DONE => Ok(IeValue::Done(find_erabs_done(r)?)),
+        names::BIT_RATES => Ok(IeValue::Rates(BitRates::read(r)?)),
+        names::TAI => Ok(IeValue::Tai(Tai::read(r)?)),
+        _ => find_later_value(r, id),
+    }
+}

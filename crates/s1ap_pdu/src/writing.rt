@@ -1,0 +1,136 @@
+//! Writing messages.
+
+ghost use Rattle.std.specs.Prelude.{◌≡◌, ◌+◌, ◌≤◌, OnOk, IfOk, IfSome, option_map, length};
+ghost use Rattle.std.specs.List.{AllByRecursion};
+ghost use Rattle.aper_fields.specs.Run.{then_written};
+ghost use Rattle.s1ap_pdu.specs.Messages.{rows_of};
+ghost use Rattle.s1ap_pdu.specs.Messages.{kind_of, values_of};
+ghost use Rattle.s1ap_pdu.specs.Lent.{seen, all_seen};
+ghost use Rattle.s1ap_pdu.specs.Run.{value_run, ie_run, fields_run, ies_run, written, IsRightValue, IsRightField, IsRight, count_of};
+
+use crate::header::write_header;
+use crate::lists::{write_erabs_done, write_erabs_to_setup};
+use crate::pdu::Pdu;
+use crate::reading::rows;
+use crate::tables::{IeRow, MessageKind, header_of, ies_of};
+use crate::value::{IeValue, LentValue};
+use aper_fields::{
+    BitWriter, Ranged, begin_open, end_open, write_bits_fixed, write_enum, write_octet_string,
+    write_octets_fixed,
+};
+use device_types::Octets;
+use echo_base::OutOfMemory;
+use s1ap_ies::names::{MOST_ENB_UE_S1AP_ID, MOST_MME_UE_S1AP_ID, RRC_CAUSE_ROOTS};
+use s1ap_ies::{PlainValue, begin_item};
+use std::alloc::Global;
+
+/// Writes the value of an IE, which is what its open type contains (TS 36.413, 9.2). It fails for want of memory alone.
+#[tactic(auto, unfolding(crate::specs::Run::value_run, aper_fields::specs::Asn1::run))]
+fn write_value(w: &mut BitWriter, value: &LentValue) -> Result<(), OutOfMemory>
+    requires { IsRightValue (seen value.now) }
+    ensures { OnOk result (w.new ≡ then_written w.old (value_run (seen value.now))) }
+{
+    match value {
+        IeValue::Mme(mme) => Ranged::<0, MOST_MME_UE_S1AP_ID>::write(w, u64::from(*mme)),
+        IeValue::Cause(cause) => cause.write(w),
+        IeValue::Enb(enb) => Ranged::<0, MOST_ENB_UE_S1AP_ID>::write(w, u64::from(*enb)),
+        IeValue::Bearers(bearers) => write_erabs_to_setup(w, bearers.items()),
+        IeValue::Nas(nas) => write_octet_string(w, nas.items()),
+        IeValue::Done(done) => write_erabs_done(w, done.items()),
+        IeValue::Rates(rates) => rates.write(w),
+        IeValue::Tai(tai) => tai.write(w),
+        IeValue::Key(key) => write_octets_fixed(w, key.items()),
+        IeValue::Radio(radio) => write_octet_string(w, radio.items()),
+        IeValue::Stmsi(stmsi) => stmsi.write(w),
+        IeValue::Ids(ids) => ids.write(w),
+        IeValue::Cgi(cgi) => cgi.write(w),
+        IeValue::Caps(caps) => caps.write(w),
+        IeValue::Rrc(rrc) => write_enum(w, RRC_CAUSE_ROOTS, true, *rrc),
+    }
+}
+
+/// Writes an IE with the id and criticality of its row, where the message has it.
+#[tactic(auto, unfolding(crate::specs::Run::ie_run))]
+fn write_ie(w: &mut BitWriter, row: &IeRow, value: &Option<LentValue>) -> Result<(), OutOfMemory>
+    requires right { IfSome (option_map seen value.now) IsRightField }
+    ensures { OnOk result (w.new ≡ then_written w.old (ie_run row.now (option_map seen value.now))) }
+{
+    let Some(value) = value else {
+        return Ok(());
+    };
+    let start = begin_item(w, row.id, row.criticality)?;
+    write_value(w, value)?;
+    end_open(w, start)
+}
+
+/// Writes an IE for each row whose value is there, in the order of the rows. It fails for want of memory alone.
+#[tactic(auto, unfolding(crate::specs::Run::fields_run))]
+fn write_fields(
+    w: &mut BitWriter,
+    rows: &[IeRow],
+    values: &[Option<LentValue>],
+) -> Result<(), OutOfMemory>
+    requires right { AllByRecursion (λ v. IfSome v IsRightField) (all_seen values.now) }
+    ensures { OnOk result (w.new ≡ then_written w.old (fields_run rows.now (all_seen values.now))) }
+{
+    let mut rows = rows;
+    let mut values = values;
+    while let [row, later @ ..] = rows {
+        let [value, others @ ..] = values else {
+            return Ok(());
+        };
+        write_ie(w, row, value)?;
+        rows = later;
+        values = others;
+    }
+    Ok(())
+}
+
+/// How many values there are.
+fn count_of(values: &[Option<LentValue>]) -> usize
+    ensures value { result ≡ count_of (all_seen values.now) }
+    ensures most { result ≤ length values.now }
+{
+    values.iter().filter(|value| value.is_some()).count()
+}
+
+/// Writes the SEQUENCE of IEs of a table, with their values.
+#[tactic(auto, unfolding(crate::specs::Run::ies_run))]
+fn write_ies(
+    w: &mut BitWriter,
+    kind: MessageKind,
+    values: &[Option<LentValue>],
+) -> Result<(), OutOfMemory>
+    requires length { length values.now ≡ length (rows_of kind) }
+    requires right { AllByRecursion (λ v. IfSome v IsRightField) (all_seen values.now) }
+    ensures { OnOk result (w.new ≡ then_written w.old (ies_run kind (all_seen values.now))) }
+{
+    let table = ies_of(kind);
+    write_bits_fixed(w, 0, 1)?;
+    Ranged::<0, 65535>::write(w, count_of(values) as u64)?;
+    write_fields(w, rows(&table), values)
+}
+
+/// Writes the SEQUENCE of a message's IEs (TS 36.413, 9.1), which is what the open type behind its header contains. It fails
+/// for want of memory alone.
+fn write_body(w: &mut BitWriter, p: &Pdu) -> Result<(), OutOfMemory>
+    requires { AllByRecursion (λ v. IfSome v IsRightField) (values_of p.now) }
+    ensures { OnOk result (w.new ≡ then_written w.old (ies_run (kind_of p.now) (values_of p.now))) }
+{
+    let kind = p.kind();
+    write_ies(w, kind, &p.values()[..ies_of(kind).len])
+}
+
+/// Writes a message piece by piece, whatever it is: its IEs in the order of its table (TS 36.413, 9.1). The octets are begun
+/// once: what an open type contains is written where it stands, and counted then. It fails for want of memory alone.
+pub fn write_pieces(alloc: Global, p: &Pdu) -> Result<Octets, OutOfMemory>
+    requires { IsRight p.now }
+    ensures { IfOk result (λ octets. octets ≡ written p.now) }
+{
+    let mut w = BitWriter::new(alloc);
+    write_header(&mut w, header_of(p.kind()))?;
+    let start = begin_open(&mut w)?;
+    write_body(&mut w, p)?;
+    end_open(&mut w, start)?;
+    Ok(Octets::from(w.into_bytes()))
+}
