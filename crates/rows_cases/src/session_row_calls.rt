@@ -1,12 +1,13 @@
 //! A row that keeps two replies, from its first step on.
 ghost use Rattle.std.specs.Prelude.{◌≡◌, true, false, IfOk};
 ghost use Rattle.device_types.specs.Journal.{version_of, is_awaited};
+ghost use Rattle.device_types.specs.Session.{IsSession};
 ghost use Rattle.device_types.specs.declared.look.Look.TheVariants.{Ready};
 ghost use Rattle.session_row.specs.Row.{look_at, AwaitsAtMostOne};
 
 use device_types::{
     Answer, Body, CauseCode, Down, Effect, Effects, Entry, GwCall, Input, Lane, Look, Message,
-    Step, SubCall,
+    Session, Stage, Step, SubCall,
 };
 use session_row::Row;
 use std::alloc::{AllocError, Global};
@@ -136,8 +137,8 @@ fn effects(alloc: Global, what: &str) -> Result<Effects, AllocError>
 }
 
 /// May an entry of that input be written?
-fn may_write(row: &Row<2>, read: u64, input: &Input) -> bool
-    ensures { result ≡ true → read ≡ version_of row.now.journal → look_at 2 row.now.journal input.now ≡ Ready }
+fn may_write<const W: u64>(row: &Row<W>, read: u64, input: &Input) -> bool
+    ensures { result ≡ true → read ≡ version_of row.now.journal → look_at W row.now.journal input.now ≡ Ready }
 {
     if read != row.version() {
         return true;
@@ -149,9 +150,29 @@ fn may_write(row: &Row<2>, read: u64, input: &Input) -> bool
     matches!(look, Look::Ready)
 }
 
-/// Writes an entry where it may be, and tells what the write comes to.
-fn tell_write(
-    row: &mut Row<2>,
+/// Writes an entry with that session where it may be, and tells what the write comes to.
+fn tell_step<const W: u64>(
+    row: &mut Row<W>,
+    read: u64,
+    input: Input,
+    step: Step,
+    told: &mut String,
+) -> Result<(), AllocError>
+    requires session { IsSession step.session }
+    requires calls { AwaitsAtMostOne step.effects }
+{
+    if !may_write(row, read, &input) {
+        return writeln!(told, "not ready");
+    }
+    match row.commit(read, Entry { input, step }) {
+        Ok(commit) => writeln!(told, "{commit:?}"),
+        Err(_) => Err(AllocError),
+    }
+}
+
+/// Writes an entry that leaves the session as it is.
+fn tell_write<const W: u64>(
+    row: &mut Row<W>,
     read: u64,
     input: Input,
     effects: Effects,
@@ -159,21 +180,15 @@ fn tell_write(
 ) -> Result<(), AllocError>
     requires { AwaitsAtMostOne effects }
 {
-    if !may_write(row, read, &input) {
-        return writeln!(told, "not ready");
-    }
     let session = row.session()?;
-    let entry = Entry {
-        input,
-        step: Step { session, effects },
-    };
-    match row.commit(read, entry) {
-        Ok(commit) => writeln!(told, "{commit:?}"),
-        Err(_) => Err(AllocError),
-    }
+    tell_step(row, read, input, Step { session, effects }, told)
 }
 
-fn tell_settled(row: &mut Row<2>, k: u64, told: &mut String) -> Result<(), AllocError> {
+fn tell_settled<const W: u64>(
+    row: &mut Row<W>,
+    k: u64,
+    told: &mut String,
+) -> Result<(), AllocError> {
     if k > row.outbox().pushed(Lane::Down) {
         return writeln!(told, "none");
     }
@@ -181,7 +196,7 @@ fn tell_settled(row: &mut Row<2>, k: u64, told: &mut String) -> Result<(), Alloc
     writeln!(told, "{settled:?}")
 }
 
-fn tell_reply(row: &Row<2>, n: u64, told: &mut String) -> Result<(), AllocError> {
+fn tell_reply<const W: u64>(row: &Row<W>, n: u64, told: &mut String) -> Result<(), AllocError> {
     let Some(reply) = row.reply(n) else {
         return writeln!(told, "none");
     };
@@ -241,5 +256,102 @@ fn goes_on_from_its_versions(rt: HostRuntime) -> Result<(), Fail> {
     let mut told = String::new(rt.alloc());
     tell_steps(rt.alloc(), &mut row, &mut told)?;
     assert_eq!(rt; told.as_str(), STEPS);
+    Ok(())
+}
+
+/// How many octets the row lends, and those of them that are not zero, each behind its place.
+fn tell_octets<const W: u64>(row: &Row<W>, told: &mut String) -> Result<(), AllocError> {
+    let octets = row.octets();
+    let count = octets.len();
+    write!(told, "{count} octets")?;
+    for (place, octet) in octets.iter().enumerate() {
+        if *octet != 0 {
+            write!(told, " {place}:{octet}")?;
+        }
+    }
+    writeln!(told, "")
+}
+
+/// The session of the row, of a device that is registered and idle.
+fn idle<const W: u64>(row: &Row<W>) -> Result<Session, AllocError>
+    ensures { IfOk result IsSession }
+{
+    let mut session = row.session()?;
+    session.stage = Stage::Idle;
+    session.registered = true;
+    Ok(session)
+}
+
+/// The octets of the opening session, of one that a write made idle and registered (stage 14, at place 1; registered, at place 87),
+/// and of that one behind a stale write of another (`docs/FORMATS.md`, "Sessions").
+#[test]
+fn lends_the_octets_of_its_session(rt: HostRuntime) -> Result<(), Fail> {
+    let alloc = rt.alloc();
+    let mut row: Row<2> = Row::new(alloc)?;
+    let mut told = String::new(alloc);
+    tell_octets(&row, &mut told)?;
+    let opening = Step {
+        session: row.session()?,
+        effects: effects(alloc, "plain")?,
+    };
+    let step = Step {
+        session: idle(&row)?,
+        effects: effects(alloc, "plain")?,
+    };
+    tell_step(&mut row, 0, message(1), step, &mut told)?;
+    tell_octets(&row, &mut told)?;
+    tell_step(&mut row, 0, message(1), opening, &mut told)?;
+    tell_octets(&row, &mut told)?;
+    let wanted = "\
+96 octets 0:1
+Committed(1)
+96 octets 0:1 1:14 87:1
+Stale { read: 0, current: 1 }
+96 octets 0:1 1:14 87:1
+";
+    assert_eq!(rt; told.as_str(), wanted);
+    Ok(())
+}
+
+/// How many messages the row takes whose memory is measured (README of `session_row`).
+const MANY: u64 = 100_000;
+
+/// A row that keeps four replies takes 100,000 messages, each of whose effects is settled three messages later: the last four
+/// replies are there, and the last three effects.
+#[test]
+fn keeps_the_last_of_many(rt: HostRuntime) -> Result<(), Fail> {
+    let alloc = rt.alloc();
+    let mut row: Row<4> = Row::new(alloc)?;
+    let mut told = String::new(alloc);
+    for version in 0..MANY {
+        told.clear();
+        let effects = effects(alloc, "plain")?;
+        tell_write(&mut row, version, message(version + 1), effects, &mut told)?;
+        tell_settled(&mut row, version.saturating_sub(2), &mut told)?;
+    }
+    for n in MANY - 4..MANY + 2 {
+        tell_reply(&row, n, &mut told)?;
+        let found = row.outbox().at(Lane::Down, n).is_some();
+        writeln!(told, "{found}")?;
+    }
+    tell_octets(&row, &mut told)?;
+    let wanted = "\
+Committed(100000)
+Upto(99997)
+none
+false
+99997 99997 1
+false
+99998 99998 1
+true
+99999 99999 1
+true
+100000 100000 1
+true
+none
+false
+96 octets 0:1
+";
+    assert_eq!(rt; told.as_str(), wanted);
     Ok(())
 }
