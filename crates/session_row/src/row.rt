@@ -141,7 +141,7 @@ impl<const W: u64> Row<W> {
         self.replies.get(n)
     }
 
-    /// The effects of the lane up to `k` are settled. It takes no memory.
+    /// The effects of the lane up to `k` are settled, and their memory is given back. It never fails.
     pub fn settle(&mut self, lane: Lane, k: u64) -> Settled
         requires { k ≤ pushed_count lane self.old.journal }
         ensures value { result ≡ settled_by (number_on self.old.settled lane) k }
