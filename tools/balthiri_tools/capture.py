@@ -30,7 +30,7 @@ FILTER = f"(({IS_SCTP}) and not icmp and not icmpv6) or sctp"  # an ICMP message
 
 FIELDS = ("frame.number", "frame.time_epoch", "frame.len", "frame.cap_len", "data.data", "udp.length", "sctp.srcport")
 FIELDS += ("ip.src", "ip.proto", "ip.len", "ip.hdr_len", "ip.id", "ip.flags.mf", "ip.frag_offset", "ip.fragment.count")
-FIELDS += ("ipv6.src", "ipv6.nxt", "ipv6.plen", "ipv6.fraghdr.ident", "ipv6.fragment.count")
+FIELDS += ("ipv6.src", "ipv6.nxt", "ipv6.plen", "ipv6.fraghdr.ident", "ipv6.fragment.count", "ip.dst", "ipv6.dst")
 
 
 @dataclass
@@ -107,8 +107,8 @@ def _packet(it: Dict[str, str]) -> Packet:
     """The packet of a frame."""
     is_ipv4 = bool(it["ip.src"]) and (not it["ipv6.src"] or _last(it["ip.proto"]) == str(SCTP_IN_IP))
     octets = bytes.fromhex(_last(it["data.data"]).replace(":", ""))
-    source = _last(it["ip.src" if is_ipv4 else "ipv6.src"])
-    return Packet(it["frame.number"], it["frame.time_epoch"], source, octets, _length(it, is_ipv4, len(octets)))
+    source, target = (_last(it[f"{'ip' if is_ipv4 else 'ipv6'}.{end}"]) for end in ("src", "dst"))
+    return Packet(it["frame.number"], it["frame.time_epoch"], source, octets, _length(it, is_ipv4, len(octets)), target)
 
 
 def _length(it: Dict[str, str], is_ipv4: bool, captured: int) -> int:

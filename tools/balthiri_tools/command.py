@@ -38,6 +38,13 @@ class Progress:
             say(self.tool, f"{done}{'' if whole is None else f' of {whole}'} {self.of}")
 
 
+def replicas(text: str) -> int:
+    """The number of replicas that a word is."""
+    if not text.isdecimal() or not 1 <= int(text) <= 16:
+        raise argparse.ArgumentTypeError("replicas are 1 to 16")
+    return int(text)
+
+
 def say(tool: str, line: str) -> None:
     print(f"{tool}: {line}", file=sys.stderr, flush=True)
 

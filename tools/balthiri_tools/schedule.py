@@ -8,7 +8,7 @@ from __future__ import annotations
 from random import Random
 from typing import List
 
-from .case_text import MOST_EVENTS
+from .case_text import MOST_EVENTS, SCHEDULE
 from .command import BadInput
 from .turns import Call, Message, Turn
 
@@ -140,3 +140,8 @@ def schedule_of(kind: str, turns: List[Turn], seed: int, replicas: int) -> Lines
     if len(lines) > MOST_EVENTS:
         raise BadInput(f"the schedule has {len(lines)} events, and a case text takes {MOST_EVENTS}")
     return lines
+
+
+def case_with(case: bytes, schedule: Lines) -> bytes:
+    """The case text with a schedule behind it."""
+    return case + "\n".join([SCHEDULE, *schedule, ""]).encode()

@@ -29,24 +29,26 @@ Key = Tuple[int, int, int]
 
 @dataclass(frozen=True)
 class Packet:
-    """A packet of SCTP: its frame, that frame's time, the address that sent it, its octets as far as they were captured, and how many there were."""
+    """A packet of SCTP: its frame, that frame's time, the address that sent it, its octets as far as they were captured, and how many there were; whom it goes to."""
 
     frame: str
     time: str
     source: str
     octets: bytes
     length: int
+    target: str = ""
 
 
 @dataclass(frozen=True)
 class Captured:
-    """A message: the frame that it or its last part came in, that frame's time, its association and way, the address that sent it, its octets."""
+    """A message: the frame that it or its last part came in, that frame's time, its association and way, the address that sent it, its octets; whom it goes to."""
 
     frame: str
     time: str
     association: Key
     source: str
     message: bytes
+    target: str = ""
 
 
 @dataclass(frozen=True)
@@ -188,7 +190,7 @@ class Associations:
         chunk = Chunk(flags, tsn, stream, number, octets[DATA_HEADER:])
         found = way.whole(chunk)
         if found:
-            message = Captured(packet.frame, packet.time, key, packet.source, b"".join(it.octets for it in found))
+            message = Captured(packet.frame, packet.time, key, packet.source, b"".join(it.octets for it in found), packet.target)
             is_unordered = bool(flags & IS_UNORDERED)
             place = 0 if is_unordered else way.place(chunk)
             self._arrived.append(_Arrived(len(self._arrived), None if is_unordered else (key, stream), place, message))

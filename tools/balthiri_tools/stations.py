@@ -1,12 +1,18 @@
-"""Which base station an association of a capture is of."""
+"""Which base station an association of a capture is of, and which one a way of an MME goes to."""
 
 from __future__ import annotations
 
-from typing import Dict, Iterable, Tuple
+from dataclasses import dataclass, field
+from typing import Dict, Iterable, Optional, Set, Tuple
 
 from .command import BadInput
+from .messages import elements_of
 from .packets import LAST_STATION, station_of_address
+from .per import Broken
 from .sctp import Captured, Key
+from .values import ids_of
+
+Pair = Tuple[Optional[int], Optional[int]]
 
 
 def _own_numbers(messages: Iterable[Captured]) -> Dict[Key, int]:
@@ -38,3 +44,40 @@ def stations_of(messages: "list[Captured]") -> Dict[Key, int]:
     """
     own = _own_numbers(messages)
     return {**own, **dict(_others(dict.fromkeys(it.association for it in messages), own))}
+
+
+@dataclass
+class _Ends:
+    """What is seen of a way: the addresses that send and that receive, and the pairs of UE S1AP IDs in its messages."""
+
+    sources: Set[str] = field(default_factory=set)
+    targets: Set[str] = field(default_factory=set)
+    pairs: Set[Pair] = field(default_factory=set)
+
+    def answers(self, other: "_Ends") -> bool:
+        return bool(self.targets & other.sources and self.sources & other.targets)
+
+
+def _ends_of(messages: Iterable[Captured]) -> Dict[Key, _Ends]:
+    ways: Dict[Key, _Ends] = {}
+    for it in messages:
+        ends = ways.setdefault(it.association, _Ends())
+        ends.sources.add(it.source)
+        ends.targets.add(it.target)
+        try:
+            ends.pairs.add(ids_of(elements_of(it.message)))
+        except Broken:
+            pass
+    return ways
+
+
+def stations_by_way(messages: "list[Captured]", stations: Dict[Key, int]) -> Dict[Key, int]:
+    """The base station of each way, also of those of an MME: the station between the same ports and addresses, of several that with most pairs in common."""
+    ways, by_way = _ends_of(messages), dict(stations)
+    for (port, to_port, tag), ends in ways.items():
+        if (port, to_port, tag) in stations:
+            continue
+        others = [it for it in stations if it[:2] == (to_port, port) and ends.answers(ways[it])] or [it for it in stations if ends.pairs & ways[it].pairs]
+        if others:
+            by_way[port, to_port, tag] = stations[max(others, key=lambda it: len(ends.pairs & ways[it].pairs))]
+    return by_way

@@ -4,12 +4,12 @@ from __future__ import annotations
 
 from collections import Counter
 from dataclasses import dataclass, field
-from typing import List
+from typing import List, Sequence
 
 from .capture import ELSEWHERE, FRAGMENTS_MISSING, Capture
 from .case_text import MOST_OCTETS_OF_A_LINE
 from .messages import kind_of
-from .sctp import BREAKS_OFF, CUT, CUT_BEFORE, IN_I_DATA, NOT_WHOLE
+from .sctp import BREAKS_OFF, CUT, CUT_BEFORE, IN_I_DATA, NOT_WHOLE, Captured
 from .stations import stations_of
 
 OF_THE_MME, OTHER, TOO_LONG = "of the MME", "of other procedures", "too long for a line"
@@ -26,9 +26,19 @@ class Trace:
     left_out: "Counter[str]" = field(default_factory=Counter)
     end: str = ""
 
-    def is_missing_lines(self) -> bool:
+    def add(self, it: Captured, station: int, octets: bytes, changes: Sequence[str] = ()) -> bool:
+        """Takes a PDU as a line, behind a comment with its frame, its time and what was changed in it, where it is not too long for one."""
+        line = f"{station} {octets.hex()}"
+        if len(line) > MOST_OCTETS_OF_A_LINE:
+            self.left_out[TOO_LONG] += 1
+            return False
+        self.pdus += 1
+        self.lines += ["; ".join([f"# frame {it.frame} at {it.time}", *changes]), line]
+        return True
+
+    def is_missing_lines(self, lost: Sequence[str] = LOST) -> bool:
         """Whether S1AP of a base station was left out that would have been a line, or something that may have been."""
-        return bool(self.end) or any(self.left_out[it] for it in LOST)
+        return bool(self.end) or any(self.left_out[it] for it in lost)
 
     def told_left_out(self) -> str:
         """What was left out: how much of the MME and of other procedures always, of others where there is some."""
@@ -40,11 +50,9 @@ def trace_of(capture: Capture) -> Trace:
     kinds = [(it, kind_of(it.message)) for it in capture.messages]
     stations = stations_of([it for it, kind in kinds if kind and kind.is_up])
     for it, kind in kinds:
-        line = f"{stations[it.association]} {it.message.hex()}" if kind and kind.is_up else ""
-        if 0 < len(line) <= MOST_OCTETS_OF_A_LINE:
-            trace.pdus += 1
-            trace.lines += [f"# frame {it.frame} at {it.time}", line]
+        if kind and kind.is_up:
+            trace.add(it, stations[it.association], it.message)
         else:
-            trace.left_out[TOO_LONG if line else OF_THE_MME if kind else OTHER] += 1
+            trace.left_out[OF_THE_MME if kind else OTHER] += 1
     trace.left_out.update(capture.left_out)
     return trace
