@@ -324,7 +324,7 @@ def come_back(one: Ue, two: Ue) -> None:
     two.is_released(NORMAL)
     two.connects(1, FIRST_MME_ID + 6, 5)
     two.begins(protected(1, "074800{guti}"))
-    two.hears(protected(2, f"07490150{guti(Ids(0, 0, 0xC0000003))}"))
+    two.hears(protected(2, f"07490050{guti(Ids(0, 0, 0xC0000003))}"))
     two.given(0xC0000003)
     two.says(protected(2, "074a"), is_line=False)
     two.is_released(NORMAL)
