@@ -53,9 +53,8 @@ class Report:
 
 
 def _exchange(it: Heard, out: str, turn: Optional[Turn]) -> Exchange:
-    name = "ciphered NAS message" if it.nas.is_ciphered else name_of(it.captured.message)
-    made = [Sent(down.station, down.octets) for down in turn.downs] if turn else []
-    return Exchange(it.captured.frame, it.captured.time, it.station, name, out, machine=made)
+    made = [Sent(down.station, name_of(down.octets), down.octets) for down in turn.downs] if turn else []
+    return Exchange(it.captured.frame, it.captured.time, it.station, it.name, out, machine=made)
 
 
 def report_of(learnt: Learnt, case: CaseText, printed: Printed, turns: List[Turn]) -> Report:
@@ -73,7 +72,7 @@ def report_of(learnt: Learnt, case: CaseText, printed: Printed, turns: List[Turn
             out = it.why or (f"that is refused: {printed.refused[line]}" if line in printed.refused else "")
             exchanges.setdefault(row.number, []).append(_exchange(it, out, by_line.get(line)))
         else:
-            exchanges[row.number][-1].mme.append(Sent(it.station, it.captured.message, it.captured.frame, it.captured.time))
+            exchanges[row.number][-1].mme.append(Sent(it.station, it.name, it.captured.message, it.captured.frame, it.captured.time))
     devices = [DeviceBeside(it, exchanges[it.number]) for it in learnt.table.rows if it.number in exchanges]
     for device in devices:
         compare(device.exchanges, device.row.is_learnt)
@@ -119,7 +118,8 @@ def _sent(it: Optional[Sent]) -> Optional[Json]:
 
 def _answer(it: Answer) -> Json:
     fields = [{"name": one.name, "mme": one.mme, "machine": one.machine, "explained": one.explained} for one in it.fields]
-    return {"verdict": it.verdict, "differs": it.differs, "explained": it.explained, "mme": _sent(it.mme), "machine": _sent(it.machine), "fields": fields}
+    verdict: Json = {"verdict": it.verdict, "differs": it.differs, "explained": it.explained, "told": told(it)}
+    return {**verdict, "mme": _sent(it.mme), "machine": _sent(it.machine), "fields": fields}
 
 
 def json_of(report: Report) -> Json:

@@ -8,7 +8,7 @@ from typing import Dict, Iterator, List, Optional, Tuple
 
 from .fields import explanation, fields_of
 from .learnt import NOT_IN_PROFILE
-from .messages import elements_of, name_of
+from .messages import elements_of
 from .per import Broken
 from .values import ids_of
 
@@ -26,16 +26,13 @@ OF_THE_PROFILE += ("Detach accept", "Tracking area update accept", "Tracking are
 
 @dataclass(frozen=True)
 class Sent:
-    """A message to a device: its base station, its octets; where the capture's MME sent it, its frame and time."""
+    """A message to a device: its base station, its name, its octets; where the capture's MME sent it, its frame and time."""
 
     station: int
+    name: str
     message: bytes
     frame: str = ""
     time: str = ""
-
-    @cached_property
-    def name(self) -> str:
-        return name_of(self.message)
 
     @cached_property
     def place(self) -> Tuple[str, str]:

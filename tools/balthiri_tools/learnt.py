@@ -10,8 +10,8 @@ from .capture import Capture
 from .case_text import SUBSCRIBERS, TRACE
 from .command import Progress, counted
 from .devices import Device
-from .messages import SERVICE_REQUEST
-from .nas import ESM, guti_in, response_in, with_guti, with_response
+from .messages import SERVICE_REQUEST, SESSION_MANAGEMENT
+from .nas import guti_in, response_in, with_guti, with_response
 from .network import BEGIN_MISSING, BEHIND_THE_END, OTHER_ID, RELEASED, UNNAMED, Heard, network_of
 from .per import Broken, length_octets, number_octets
 from .rows import MOST_ROWS, Row, Table, rows_given
@@ -102,7 +102,7 @@ class _Lines:
             return LEFT
         if it.nas.is_ciphered:
             return CIPHERED
-        is_other = it.nas.kind is not None and it.nas.kind not in TAKEN or it.nas.plain[:1] and it.nas.plain[0] & 15 == ESM
+        is_other = it.nas.kind is not None and it.nas.kind not in TAKEN or it.nas.plain[:1] and it.nas.plain[0] & 15 == SESSION_MANAGEMENT
         return NOT_IN_PROFILE if is_other else ""
 
     def _bind(self, it: Heard) -> None:

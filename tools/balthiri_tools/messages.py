@@ -12,6 +12,7 @@ from .per import Broken
 from .values import BEARERS, NAS_PDU, S_TMSI, bearers_of, ids_of
 
 SERVICE_REQUEST = 0xC7
+SESSION_MANAGEMENT = 2  # the protocol discriminator of ESM
 PROTECTED = (0x17, 0x27, 0x37, 0x47)  # the first octets of NAS messages behind a code of authentication and a number
 PROTECTION = 6  # octets of the header that protects
 
@@ -178,4 +179,6 @@ def name_of(message: bytes) -> str:
     nas = nas_of(elements_of(message))
     if nas[:1] == bytes([SERVICE_REQUEST]):
         return "Service request"
+    if nas[:1] and nas[0] & 15 == SESSION_MANAGEMENT:
+        return "ESM message"
     return NAS_NAMES.get(nas[1], kind.name) if len(nas) >= 2 else kind.name

@@ -5,14 +5,14 @@ from __future__ import annotations
 from dataclasses import dataclass
 from typing import Dict, Iterator, Optional, Tuple
 
-from .messages import NAS_NAMES, SERVICE_REQUEST, identity_of_nas, imsi_of, without_protection
+from .messages import NAS_NAMES, SERVICE_REQUEST, SESSION_MANAGEMENT, identity_of_nas, imsi_of, without_protection
 
 ATTACH_REQUEST, ATTACH_ACCEPT, DETACH_REQUEST, UPDATE_REQUEST, UPDATE_ACCEPT = 0x41, 0x42, 0x45, 0x48, 0x49
 AUTHENTICATION_REQUEST, AUTHENTICATION_RESPONSE, AUTHENTICATION_REJECT = 0x52, 0x53, 0x54
 IDENTITY_RESPONSE, SECURITY_MODE_COMMAND = 0x56, 0x5D
 REJECTS = (0x44, 0x4B, 0x4E)  # of an attach, of an update of the area, of a service
 AREA_NOT_ALLOWED = 12
-EMM, ESM = 7, 2  # the protocol discriminators
+EMM = 7  # the protocol discriminator
 CIPHERED = (0x27, 0x47)  # the first octets of messages that are ciphered with the algorithm in use
 GUTI_IEI = 0x50
 
@@ -43,7 +43,7 @@ def nas_read(carried: bytes, algorithm: Optional[int]) -> Nas:
     """A NAS message behind a ciphering algorithm (EEA0 is 0), which may not be known: then what looks like a plain message is one."""
     plain = without_protection(carried)
     if carried[:1] and carried[0] in CIPHERED:
-        looks_plain = len(plain) > 1 and (plain[0] == EMM and plain[1] in NAS_NAMES or plain[0] & 15 == ESM)
+        looks_plain = len(plain) > 1 and (plain[0] == EMM and plain[1] in NAS_NAMES or plain[0] & 15 == SESSION_MANAGEMENT)
         if algorithm or algorithm is None and not looks_plain:
             return Nas(carried, b"")
     return Nas(carried, plain)
@@ -51,10 +51,11 @@ def nas_read(carried: bytes, algorithm: Optional[int]) -> Nas:
 
 def imsi_in(nas: Nas) -> Optional[str]:
     """The IMSI that a message of a device says, where it says one."""
-    if nas.kind == IDENTITY_RESPONSE:
-        identity = nas.plain[3 : 3 + nas.plain[2]] if len(nas.plain) > 2 else b""
-        return imsi_of(identity) if len(identity) == 8 and identity[0] & 15 == 9 else None
-    return identity_of_nas(nas.plain).imsi
+    imsi = identity_of_nas(nas.plain).imsi
+    if nas.kind == IDENTITY_RESPONSE and len(nas.plain) > 2:
+        identity = nas.plain[3 : 3 + nas.plain[2]]
+        imsi = imsi_of(identity) if len(identity) == 8 and identity[0] & 15 == 9 else None
+    return imsi if imsi and imsi.isdecimal() else None
 
 
 def _place_of_guti(nas: Nas) -> int:
@@ -151,7 +152,7 @@ class BearerAsked:
 
 def bearer_asked(octets: bytes) -> Optional[BearerAsked]:
     """The request in an ATTACH ACCEPT; none where it is another message, or breaks off."""
-    if len(octets) < 4 or octets[0] & 15 != ESM or octets[2] != 0xC1:
+    if len(octets) < 4 or octets[0] & 15 != SESSION_MANAGEMENT or octets[2] != 0xC1:
         return None
     values, at = [], 3
     for _ in range(3):

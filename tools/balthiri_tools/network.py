@@ -5,19 +5,21 @@ An S1 connection begins with an INITIAL UE MESSAGE, which has a number of the ba
 
 from __future__ import annotations
 
-from dataclasses import dataclass, field
+from dataclasses import dataclass
 from typing import Dict, List, Optional, Set, Tuple
 
 from . import nas as types
 from .command import Progress
 from .devices import Device, Devices, Guti, Vector
-from .messages import SERVICE_REQUEST, Kind, elements_of, kind_of, nas_pdu_of
+from .messages import SERVICE_REQUEST, Kind, elements_of, kind_of, name_of, nas_pdu_of
 from .nas import Nas, accepted, bearer_asked, guti_in, imsi_in, nas_read, response_in
 from .per import Broken
 from .sctp import Captured, Key
 from .stations import stations_by_way, stations_of
 from .values import BEARERS, BIT_RATES, KEY, S_TMSI, TAI, area_of, bearers_of, bit_rates, ids_of, s_tmsi_of
 
+Elements = Dict[int, bytes]
+KEY_OCTETS = 32
 FIRST, RELEASED = "InitialUEMessage", "UEContextReleaseComplete"
 # Why a message of a base station has no connection with a device.
 BEGIN_MISSING = "of connections whose begin is not in the capture"
@@ -46,7 +48,6 @@ class Heard:
     kind: Optional[Kind]
     is_up: bool
     station: int
-    elements: Dict[int, bytes] = field(default_factory=dict)
     connection: Optional[Connection] = None
     why: str = ""
     nas: Nas = Nas(b"", b"")
@@ -59,6 +60,13 @@ class Heard:
     @property
     def is_first(self) -> bool:
         return self.kind is not None and self.kind.name == FIRST
+
+    @property
+    def name(self) -> str:
+        """The NAS message in it, where that can be read, or else the message of S1AP."""
+        if not self.nas.is_ciphered or self.kind is None:
+            return name_of(self.captured.message)
+        return "ciphered NAS message" if self.kind.name.endswith("NASTransport") else self.kind.name
 
 
 class Network:
@@ -73,39 +81,39 @@ class Network:
 
     def hear(self, it: Heard) -> None:
         self.heard.append(it)
-        it.elements = elements_of(it.captured.message)
+        elements = elements_of(it.captured.message)
         try:
-            mme_id, enb_id = ids_of(it.elements)
+            mme_id, enb_id = ids_of(elements)
         except Broken:
             return
         if mme_id is None and enb_id is None:
             return
         if it.is_first and enb_id is not None:
-            self._begin(it, enb_id)
+            self._begin(it, enb_id, elements)
         else:
             self._go_on(it, mme_id, enb_id)
         if it.connection:
             device = it.device
-            it.nas = nas_read(nas_pdu_of(it.elements), device.algorithm if device else None)
+            it.nas = nas_read(nas_pdu_of(elements), device.algorithm if device else None)
             if device:
-                self._learn(it, it.connection, device)
+                self._learn(it, it.connection, device, elements)
         if it.kind and it.kind.name == RELEASED and it.connection:
             self._end(it.connection)
 
-    def _begin(self, it: Heard, enb_id: int) -> None:
-        it.nas = nas_read(nas_pdu_of(it.elements), None)
-        connection = Connection(it.station, enb_id, self._device_of(it))
+    def _begin(self, it: Heard, enb_id: int, elements: Elements) -> None:
+        it.nas = nas_read(nas_pdu_of(elements), None)
+        connection = Connection(it.station, enb_id, self._device_of(it, elements))
         it.connection = connection
         it.why = "" if connection.device else UNNAMED
         self._open[it.station, enb_id] = connection
 
-    def _device_of(self, it: Heard) -> Optional[Device]:
+    def _device_of(self, it: Heard, elements: Elements) -> Optional[Device]:
         """The device of a message that begins a connection, by what it says of itself."""
         frame, imsi, guti = it.captured.frame, imsi_in(it.nas), guti_in(it.nas)
         if imsi:
             return self.devices.by_imsi(imsi, frame)
-        if it.nas.kind == SERVICE_REQUEST and S_TMSI in it.elements:
-            guti = _s_tmsi(it.elements[S_TMSI])
+        if it.nas.kind == SERVICE_REQUEST and S_TMSI in elements:
+            guti = _s_tmsi(elements[S_TMSI])
         return self.devices.by_guti(guti, frame) if guti else None
 
     def _go_on(self, it: Heard, mme_id: Optional[int], enb_id: Optional[int]) -> None:
@@ -125,29 +133,29 @@ class Network:
         self._released.add((connection.station, connection.enb_id))
         self._by_mme_id.pop((connection.station, connection.mme_id or 0), None)
 
-    def _learn(self, it: Heard, connection: Connection, device: Device) -> None:
+    def _learn(self, it: Heard, connection: Connection, device: Device, elements: Elements) -> None:
         frame = it.captured.frame
         if it.nas.is_ciphered:
             device.ciphered += 1
         if it.is_up:
+            if TAI in elements:
+                connection.area = _area(elements[TAI], connection.area)
             self._learn_of_device(it, connection, device, frame)
             return
         _learn_authentication(it.nas, connection, device, frame)
-        _learn_context(it.elements, device, frame)
+        _learn_context(elements, device, frame)
         told = accepted(it.nas)
         if told and told.guti:
             self.devices.give(device, told.guti, frame)
         asked = bearer_asked(told.bearer) if told else None
         if asked:
             device.learn("apn", asked.name, frame)
-            if asked.address:
+            if len(asked.address) == 4:
                 device.learn("ip", asked.address.hex(), frame)
         if it.nas.kind in types.REJECTS and it.nas.plain[2:3] == bytes([types.AREA_NOT_ALLOWED]):
             device.forbidden.setdefault(connection.area, frame)
 
     def _learn_of_device(self, it: Heard, connection: Connection, device: Device, frame: str) -> None:
-        if TAI in it.elements:
-            connection.area = _area(it.elements[TAI], connection.area)
         response = response_in(it.nas)
         if response and connection.vector:
             it.vector = connection.vector
@@ -181,7 +189,7 @@ def _learn_authentication(nas: Nas, connection: Connection, device: Device, fram
         device.algorithm = plain[2] >> 4 & 7
 
 
-def _learn_context(elements: Dict[int, bytes], device: Device, frame: str) -> None:
+def _learn_context(elements: Elements, device: Device, frame: str) -> None:
     """What an INITIAL CONTEXT SETUP REQUEST tells of the device: its key, its rates, its gateway."""
     if BEARERS not in elements or KEY not in elements:
         return
@@ -190,7 +198,8 @@ def _learn_context(elements: Dict[int, bytes], device: Device, frame: str) -> No
         bearer = bearers_of(elements[BEARERS])[0]
     except Broken:
         return
-    device.learn("key", elements[KEY].hex()[-64:], frame)
+    if len(elements[KEY]) == KEY_OCTETS:
+        device.learn("key", elements[KEY].hex(), frame)
     device.learn("ambr_dl", down, frame)
     device.learn("ambr_ul", up, frame)
     if len(bearer.address) in (4, 20):

@@ -2,6 +2,7 @@
 
 from __future__ import annotations
 
+import json
 import re
 from dataclasses import dataclass
 from typing import Dict, List, Optional
@@ -35,7 +36,7 @@ def read_text(case: CaseText, text: bytes) -> Printed:
 
 @dataclass(frozen=True)
 class Run:
-    """A case and what was printed for it; the turns are there where they are known, which a transcript does not need."""
+    """A case and what was printed for it; the turns are there where they are known, which a transcript does not need; the report of a capture beside it."""
 
     name: str
     made_by: str
@@ -43,6 +44,7 @@ class Run:
     text: bytes
     printed: Printed
     turns: Optional[List[Turn]] = None
+    beside: Optional[Json] = None
 
     def messages(self) -> Dict[int, Message]:
         """The messages of devices by their lines in the case text."""
@@ -102,9 +104,31 @@ def _turns(run: Run) -> Optional[List[List[object]]]:
     return made
 
 
+def read_beside(case: CaseText, octets: bytes) -> Json:
+    """The report that `beside` made of a capture, where it is of the devices of the case."""
+    try:
+        report: Json = json.loads(octets)
+        imsis = {str(it["imsi"]) for it in report["devices"]}  # type: ignore[attr-defined]
+    except (ValueError, KeyError, TypeError):
+        raise BadInput("no report of beside --json") from None
+    if not imsis <= {it.imsi for it in case.subscribers}:
+        raise BadInput("the report of beside is not of this case text")
+    return report
+
+
+def _beside(run: Run) -> Optional[Json]:
+    """The report's summary, and its messages with their answers by the number of the device."""
+    if run.beside is None:
+        return None
+    numbers = {it.imsi: it.device for it in run.case.subscribers}
+    devices = [[numbers[str(it["imsi"])], it["messages"]] for it in run.beside["devices"]]  # type: ignore[attr-defined]
+    return {"summary": run.beside["summary"], "devices": devices}
+
+
 def data_of(run: Run) -> Json:
     """What the script of the page reads. The events and their answers are lines of text, as the case text and the transcript have them."""
     shown: Json = {"name": run.name, "madeBy": run.made_by, "devices": _devices(run), "trace": _trace(run), "downs": _downs(run), "turns": _turns(run)}
     shown["schedule"] = "\n".join(it.text for it in run.case.schedule) if run.printed.answers else ""
     shown["answers"] = "\n".join(run.printed.answers)
+    shown["beside"] = _beside(run)
     return shown

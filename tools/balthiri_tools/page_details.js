@@ -98,6 +98,18 @@ class Details {
     ]);
   }
 
+  // A row of the view beside a capture: what both sent, and each field that is otherwise.
+  beside(it) {
+    const values = it.fields.map((field) => [field.name, `${field.mme || "none"} / ${field.machine || "none"}${field.explained ? ` (${field.explained})` : ""}`]);
+    const sent = (title, message) => (message ? [element("h3", {}, title, element("span", { class: "dim" }, `  ${message.name}`)), dumpOf(octetsOf(message.octets), -1)] : []);
+    this.show(it.frame ? `Frame ${it.frame}` : "The machine alone", [
+      element("p", { class: "what" }, it.name || it.told),
+      this.facts([["device", this.deviceButton(it.device)], ["base station", String(it.station)], ["in words", it.name ? it.told : ""], ...values]),
+      ...sent("The capture's MME", it.mme),
+      ...sent("The proved machine", it.machine),
+    ]);
+  }
+
   messageParts(message) {
     const octets = octetsOf(message.text);
     const place = / at ([0-9]+)$/.exec(message.refusal);

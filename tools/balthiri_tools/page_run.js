@@ -31,6 +31,8 @@ class Run {
     this.calls = this.devices.flatMap((it) => ["gateway", "subscriber"].flatMap((lane) =>
       it[lane].map((words, at) => ({ device: it.device, lane, call: at + 1, words }))));
     this.refused = this.messages.filter((it) => it.refusal !== "");
+    this.beside = data.beside ? besideOf(data.beside) : [];
+    this.besideSummary = data.beside?.summary ?? "";
     this.events = this.hasTranscript ? this.readTranscript(data) : this.readTurns(data);
   }
 
@@ -127,6 +129,16 @@ class Run {
     }
     return this.bySubject.get(keyOf(subject)) ?? [];
   }
+}
+
+// Of a capture beside the machine: a row for each message of a base station, and one for each answer to it.
+function besideOf({ devices }) {
+  const nothing = { mme: null, machine: null, fields: [], differs: false };
+  return devices.flatMap(([device, messages]) => messages.flatMap((it) => {
+    const out = it.left_out ? `no message of the machine: ${it.left_out}` : "";
+    const front = { ...nothing, device, frame: it.frame, station: it.station, name: it.name, told: out || (it.answers.length ? "" : "equal") };
+    return [front, ...it.answers.map((answer) => ({ ...answer, device, station: it.station, frame: answer.mme?.frame ?? "", name: "" }))];
+  }));
 }
 
 const keyOf = (subject) => `${subject.device} ${subject.message} ${subject.lane} ${subject.call}`;

@@ -1,6 +1,6 @@
 // The page: devices at the side, the lists in tabs, what is picked beside them, and what the address says of all this.
 
-const TABS = ["events", "messages", "calls", "refused"];
+const TABS = ["events", "messages", "calls", "refused", "beside"];
 const FAULTS = ["stale", "repeat", "stopped"];
 const STRIP_BAND = 3;
 const byId = (id) => document.getElementById(id);
@@ -22,6 +22,7 @@ class Page {
   constructor(run) {
     this.run = run;
     this.device = 0;
+    this.tabs = TABS.filter((it) => it !== "beside" || run.besideSummary);
     this.firstTab = run.events.length ? "events" : "messages";
     this.tab = this.firstTab;
     this.kinds = new Set();
@@ -223,6 +224,10 @@ class Page {
       (it) => [`line ${it.line}`, it.station, it.refusal, it.name, lengthOf(it), it.info], (it) => this.details.message(it));
     this.callRows = list("calls", ["imsi", "lane", "number", "call", "first number", "first number", "first number", "again number"],
       (it) => [imsiOf(it.device), it.lane, it.call, it.words, ...this.courseOf(it)], (it) => this.details.call(it));
+    const either = (it, sent) => (it.name ? "" : sent?.name ?? "–");
+    this.besideRows = list("beside", ["number", "imsi", "name", "mme", "machine", "said"],
+      (it) => [it.frame, imsiOf(it.device), it.name, either(it, it.mme), either(it, it.machine), it.told], (it) => this.details.beside(it),
+      (it) => (it.differs ? "differs" : ""));
   }
 
   // Of a call: the events by which it was first pushed, accepted and settled, and how often it came again.
@@ -242,19 +247,25 @@ class Page {
     this.callRows.show(calls);
     this.refusedRows.show(run.refused);
     const events = run.events.reduce((sum, it) => sum + (!device || it.whose === device), 0);
-    const numbers = { events, messages: messages.length, calls: calls.length, refused: run.refused.length };
+    const beside = ofDevice(run.beside);
+    this.besideRows.show(beside);
+    const differences = beside.filter((it) => it.differs).length;
+    const numbers = { events, messages: messages.length, calls: calls.length, refused: run.refused.length, beside: differences };
     for (const tab of TABS) byId(`tab-${tab}`).lastElementChild.textContent = numeral.format(numbers[tab]);
     this.noteEmpty("messages", messages.length, "No message.");
     this.noteEmpty("calls", calls.length, "No peer was called.");
     this.noteEmpty("refused", run.refused.length, "No line of the trace was refused.");
+    this.noteEmpty("beside", beside.length, "The capture has no message of it.");
   }
 
   buildTabs() {
+    byId("tab-beside").hidden = !this.tabs.includes("beside");
+    byId("beside-summary").textContent = this.run.besideSummary;
     for (const tab of TABS) byId(`tab-${tab}`).addEventListener("click", () => this.setTab(tab));
     byId("tabs").addEventListener("keydown", (event) => {
       const by = { ArrowRight: 1, ArrowLeft: -1 }[event.key];
       if (!by) return;
-      this.setTab(TABS[(TABS.indexOf(this.tab) + by + TABS.length) % TABS.length]);
+      this.setTab(this.tabs[(this.tabs.indexOf(this.tab) + by + this.tabs.length) % this.tabs.length]);
       byId(`tab-${this.tab}`).focus();
     });
   }
@@ -272,7 +283,7 @@ class Page {
   }
 
   rowsOf(tab) {
-    return { events: this.eventRows, messages: this.messageRows, calls: this.callRows, refused: this.refusedRows }[tab];
+    return { events: this.eventRows, messages: this.messageRows, calls: this.callRows, refused: this.refusedRows, beside: this.besideRows }[tab];
   }
 
   setDevice(device) {
@@ -354,7 +365,7 @@ class Page {
       event.preventDefault();
       if (target === "find" || target === "events") this.setTab("events");
       byId(target).focus();
-    } else if (/^[1-4]$/.test(event.key)) this.setTab(TABS[Number(event.key) - 1]);
+    } else if (/^[1-5]$/.test(event.key) && event.key <= this.tabs.length) this.setTab(this.tabs[Number(event.key) - 1]);
   }
 
   print(isPrinting) {
@@ -382,7 +393,7 @@ class Page {
     this.kinds = new Set((words.get("answers") ?? "").split(",").filter((it) => this.chips.has(it)));
     this.find = (words.get("find") ?? "").toLowerCase();
     byId("find").value = this.find;
-    this.setTab(TABS.includes(words.get("tab")) ? words.get("tab") : this.firstTab);
+    this.setTab(this.tabs.includes(words.get("tab")) ? words.get("tab") : this.firstTab);
     this.setDevice(this.run.devices.find((it) => it.imsi === words.get("device"))?.device ?? 0);
     if (words.has("event")) this.goToEvent(Number(words.get("event")), false);
     this.isReading = false;

@@ -9,6 +9,7 @@ from typing import Dict, List, Optional, Union
 
 from .case_text import SUBSCRIBERS, read_case
 from .devices import Device
+from .values import MOST_BIT_RATE
 
 COLUMNS = ("imsi", "tmsi", "rand", "autn", "res", "key", "apn", "ip", "sgw", "teid", "ambr_dl", "ambr_ul", "forbidden")
 MOST_ROWS = 4096
@@ -104,6 +105,9 @@ def _told(device: Device) -> Dict[str, Value]:
         told["apn"] = label
     if not 1 <= int(str(told.get("teid", 0))) <= LAST_TEID:
         told.pop("teid", None)
+    for it in ("ambr_dl", "ambr_ul"):
+        if int(str(told.get(it, 0))) > MOST_BIT_RATE:
+            del told[it]
     vector = device.vector()
     if vector and len(vector.autn) == 16:
         told.update({"rand": vector.rand.hex(), "autn": vector.autn.hex()})

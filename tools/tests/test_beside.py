@@ -8,9 +8,10 @@ from typing import List, Tuple
 from balthiri_tools.compare import Answer, Exchange, Sent, compare
 from balthiri_tools.fields import fields_of
 from balthiri_tools.learnt import CIPHERED, NOT_IN_PROFILE
+from balthiri_tools.messages import name_of
 from balthiri_tools.trials import end_of, told as told_of_runs
 from other_mme import FIRST, RADIO_INACTIVITY, Ids, context_setup, down, protected, release_command
-from support import DATA, ECHO, IS_BUILT, TESTS, InFolder, needs, run, told
+from support import DATA, ECHO, IS_BUILT, TESTS, InFolder, needs, run
 
 MODEL = TESTS / "machine_model.py"
 PROGRAM = ECHO if IS_BUILT else MODEL
@@ -106,8 +107,8 @@ class Words(InFolder):
 
 
 def exchange(name: str, mme: List[bytes], machine: List[bytes], out: str = "") -> Exchange:
-    sent = [Sent(1, it, str(at), str(at)) for at, it in enumerate(mme, 1)]
-    return Exchange("1", "0", 1, name, out, mme=sent, machine=[Sent(1, it) for it in machine])
+    sent = [Sent(1, name_of(it), it, str(at), str(at)) for at, it in enumerate(mme, 1)]
+    return Exchange("1", "0", 1, name, out, mme=sent, machine=[Sent(1, name_of(it), it) for it in machine])
 
 
 class Compared(unittest.TestCase):

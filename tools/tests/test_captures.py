@@ -386,7 +386,8 @@ class BadCaptures(InFolder):
 
 class Help(unittest.TestCase):
     def test_each_tool_tells_its_words(self) -> None:
-        for tool in ("case2pcap", "pcap2case", "ladder"):
+        for tool in ("case2pcap", "pcap2case", "beside", "ladder", "page", "gate_minutes"):
             done = run(tool, "--help")
             self.assertEqual((done.returncode, done.stderr), (0, b""))
             self.assertIn(b"usage: " + tool.encode(), done.stdout)
+            self.assertIn(b"Example: " + tool.encode(), b" ".join(done.stdout.split()))

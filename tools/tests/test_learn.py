@@ -2,6 +2,7 @@
 
 import json
 import re
+import resource
 import subprocess
 import unittest
 from pathlib import Path
@@ -271,6 +272,32 @@ class Rewritten(InFolder):
     def test_capabilities_of_several_hundred_octets(self) -> None:
         before, after, lines = self.changed("", FIRST_MME_ID, 2, radio=900)
         self.assertEqual((lines, len(before) - len(after)), (["MME-UE-SNAP-ID: N"], 3))
+
+
+@needs("tshark")
+class Large(InFolder):
+    """A capture of 100,000 frames, told by processor time, which other processes leave as it is."""
+
+    measures_seconds = True
+    most_seconds = 60.0
+
+    def test_a_hundred_thousand_frames_in_a_minute(self) -> None:
+        story = Story()
+        for at in range(1, 51):
+            one = ue(story, FIRST, at, 0)
+            one.connects(at % 5 + 1, FIRST_MME_ID + at, at)
+            one.begins(attach_request(imsi(f"20893{at:010d}")))
+            one.authenticates()
+            one.is_accepted(0xC0000000 + at)
+            one.rests()
+        story.frames *= 100000 // len(story.frames) + 1  # the devices attach again and again
+        capture, made = self.file("large.pcap", story.pcap()), self.folder / "made"
+        before = resource.getrusage(resource.RUSAGE_CHILDREN)
+        done = self.ran("pcap2case", capture, "--learn", "--program", PROGRAM, "-o", made)
+        after = resource.getrusage(resource.RUSAGE_CHILDREN)
+        ups = sum(is_up for is_up, _, _ in story.frames)
+        self.assertIn(f"pcap2case: {ups} lines of a trace; left out: {len(story.frames) - ups} of the MME, 0 of other procedures", told(done))
+        self.assertLess(after.ru_utime + after.ru_stime - before.ru_utime - before.ru_stime, self.most_seconds)
 
 
 class Values(unittest.TestCase):

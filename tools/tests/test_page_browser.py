@@ -9,7 +9,8 @@ from typing import ClassVar, Dict, List, Tuple, cast
 from balthiri_tools.page import page_of
 from browser import CHROMIUM, Browser
 from page_runs import MadeRun, imsi_of
-from support import DATA, EXAMPLES, PLAIN, REPLAYS, needs, trace_of
+from machine_model import plain
+from support import DATA, EXAMPLES, PLAIN, REPLAYS, TESTS, needs, run, trace_of
 from test_page import FILES, run_of, transcript_of
 
 SECONDS_TO_OPEN = 3.0
@@ -354,6 +355,48 @@ class Details(InBrowser):
         self.value("page.refusedRows.choose(0)")
         self.assertEqual(self.text("#details .dump"), "</script/><script>document.title='bad'</script>")
         self.assertEqual(self.value('document.querySelectorAll("img").length'), 0)
+
+
+@needs("tshark")
+class BesideACapture(InBrowser):
+    """The view of a capture's MME beside the machine, of the capture of three devices."""
+
+    def setUp(self) -> None:
+        super().setUp()
+        networks, program, page = DATA / "networks", TESTS / "machine_model.py", self.folder / "beside.html"
+        if not page.exists():
+            report, text = self.folder / "report.json", self.folder / "text"
+            text.write_text(plain((networks / "three_devices.txt").read_text()))
+            run("beside", networks / "three_devices.pcap", "--json", "-o", report, "--program", program)
+            run("page", networks / "three_devices.txt", "--text", text, "--beside", report, "-o", page)
+        self.browser.open(page, "#tab=beside")
+
+    def test_each_message_and_each_answer_is_a_row(self) -> None:
+        lines = (DATA / "networks" / "three_devices_beside.txt").read_text().splitlines()
+        heading, lines = lines[1], [it for it in lines if it.startswith("  ") and "the proved machine" not in it]
+        columns = [heading.index(it) for it in ("frame", "time", "base station", "the capture's MME", "the proved machine")]
+        columns.append(next(it.index("equal") for it in lines if it.endswith("equal")))
+        cells = [[line[begin:end].strip() for begin, end in zip(columns, [*columns[1:], None])] for line in lines]
+        found = [[it[0], *(cell.replace("–", "-") for cell in it[2:])] for it in self.rows("beside")]
+        self.assertEqual(found, [[it[0], *it[2:]] for it in cells])
+
+    def test_of_a_device_and_what_differs(self) -> None:
+        self.assertEqual(self.text("#tab-beside b"), "3")
+        self.assertIn("3 differences", self.text("#beside-summary"))
+        self.value("page.setDevice(1)")
+        self.assertEqual((self.text("#tab-beside b"), {it[1] for it in self.rows("beside")}), ("1", {"208930000000001"}))
+        self.assertEqual(self.value('document.querySelector("#beside .differs .machine").textContent'), "Detach accept")
+
+    def test_a_row_has_what_both_sent(self) -> None:
+        self.value("page.details.beside(page.run.beside.find((it) => it.mme?.frame === 12))")
+        told = self.text("#details-body")
+        for it in ("The capture's MME", "The proved machine", "security header2 / 0 (no integrity)", "timer49 / e0 (no timers)"):
+            self.assertIn(it, told)
+
+    def test_it_is_reached_by_its_key(self) -> None:
+        self.browser.press("1", "1")
+        self.browser.press("5", "5")
+        self.assertEqual(self.value("page.tab"), "beside")
 
 
 class Keys(InBrowser):
