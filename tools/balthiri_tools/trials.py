@@ -18,7 +18,7 @@ def end_of(text: bytes) -> bytes:
 
 
 def others_of(program: Program, case: bytes, turns: List[Turn], kind: str, seeds: range, replicas: int, progress: Progress) -> List[int]:
-    """The seeds whose run does not come to the end of `plain`."""
+    """Which seeds have a run that does not come to the end of `plain`."""
     end, others = program.printed(["plain"], case), []
     for number, seed in enumerate(seeds, 1):
         scheduled = case_with(case, schedule_of(kind, turns, seed, replicas))
