@@ -50,8 +50,7 @@ returns-clause-ok g c =
     let cache = c.args.cache.now in
     let peeked = c.in_ok-peeked.peeked in
     let all = subst (λ x. AreSessionsOf x cache) (sym c.in_ok-peeked.ensures.charter) c.requires.remembers in
-    inl
-    (
+    inl (
       record {
         enough = sufficing_is cache d c.args.input.now journal c.asked_of.result peeked c.in-Some.session.now c.asked_of.ensures c.in_ok-peeked.ensures.ok c.in-Ready.is c.in-Some.ensures;
         uncounted = c.in_ok-peeked.ensures.uncounted;
