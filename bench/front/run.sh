@@ -25,11 +25,15 @@ crate=$(cd "$(dirname "$0")/../../crates/front_bench" && pwd)
     exit 1
 }
 
-# Runs the program with so many turns a thread, adds its seconds, those of processors and its switches of context to a list.
+# Runs the program with so many turns a thread, and adds to a list its nanoseconds, the seconds of processors and its switches of
+# context.
 measure() {
     list=$1
     shift
-    /usr/bin/time -a -o "$room/$list" -f '%e %U %S %w %c' "$crate/out/front_bench" "$@" >"$room/out"
+    start=$(date +%s%N)
+    /usr/bin/time -o "$room/used" -f '%U %S %w %c' "$crate/out/front_bench" "$@" >"$room/out"
+    end=$(date +%s%N)
+    echo "$((end - start)) $(cat "$room/used")" >>"$room/$list"
     grep -qx "turns $(($2 * $3))" "$room/out" || {
         echo "front_bench $*: not the turns that were asked for" >&2
         exit 1
@@ -39,7 +43,7 @@ measure() {
 # The run of least time: turns in a second, processors at work, and switches of context for 1,000 turns.
 figures() {
     sort -n "$room/$1" | head -n 1 | awk -v total="$2" \
-        '{ printf "%12.0f %6.2f %10.2f", total / $1, ($2 + $3) / $1, ($4 + $5) * 1000 / total }'
+        '{ printf "%12.0f %6.2f %10.2f", total / $1 * 1e9, ($2 + $3) / $1 * 1e9, ($4 + $5) * 1000 / total }'
 }
 
 run=0
