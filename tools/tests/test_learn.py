@@ -228,14 +228,14 @@ class Identities(unittest.TestCase):
         self.assertEqual(stations_by_way(messages, {one: 1, two: 2}), {one: 1, two: 2, to_one: 1, to_two: 2})
 
 
-def tree_of(message: bytes, folder: Path) -> List[str]:
-    """What tshark says of a message, without what it says of the packet round it."""
-    capture = folder / "message"
-    capture.write_bytes(pcap_of([Frame(True, 1, message)]))
+def trees_of(messages: List[bytes], folder: Path) -> List[List[str]]:
+    """What tshark says of each message, without what it says of the packet round it."""
+    capture = folder / "messages"
+    capture.write_bytes(pcap_of([Frame(True, 1, it) for it in messages]))
     words = ["tshark", "-n", "-r", str(capture), "-O", "s1ap,nas-eps", "-T", "text"]
-    lines = subprocess.run(words, stdout=subprocess.PIPE, stderr=subprocess.DEVNULL, check=True).stdout.decode().splitlines()
-    at = next(at for at, it in enumerate(lines) if it.startswith("S1 Application Protocol"))
-    return [it for it in lines[at:] if it.strip()]
+    text = subprocess.run(words, stdout=subprocess.PIPE, stderr=subprocess.DEVNULL, check=True).stdout.decode()
+    frames = re.split(r"^Frame [0-9]+: .*$", text, flags=re.M)[1:]
+    return [[line for line in it[it.index("S1 Application Protocol") :].splitlines() if line.strip()] for it in frames]
 
 
 @needs("tshark")
@@ -251,7 +251,7 @@ class Rewritten(InFolder):
         before = capability(ids, radio) if radio else up(ids, nas)
         story.sends(1, before)
         after = bytes.fromhex(learnt_of(story).trace.lines[-1].split(" ")[1])
-        trees = tree_of(before, self.folder), tree_of(after, self.folder)
+        trees = trees_of([before, after], self.folder)
         self.assertEqual(len(trees[0]), len(trees[1]))
         return before, after, [re.sub(r"[0-9]+", "N", new.strip()) for old, new in zip(*trees) if old != new]
 
@@ -268,6 +268,19 @@ class Rewritten(InFolder):
         _, after, lines = self.changed(protected(2, "074300035200c2"), FIRST_MME_ID, 2)
         self.assertEqual(lines, ["MME-UE-SNAP-ID: N"])
         self.assertTrue(after.endswith(bytes.fromhex("009b40060f80c0a80101")))
+
+    def test_each_message_of_the_networks(self) -> None:
+        # numbers, a GUTI, an S-TMSI or a response, whose octets may be more or fewer, and the lengths round them
+        changed = re.compile(r"(MME-UE-SNAP-ID|MME-UE-S1AP-ID|M-TMSI|m-TMSI|RES|Length|NAS-PDU)\b.*")
+        for name, tells in NETWORKS.items():
+            story = tells()
+            lines = learnt_of(story).trace.lines
+            frames = [int(it.split(" ")[2].rstrip(";")) for it in lines[::2]]
+            before = trees_of([story.frames[it - 1][2] for it in frames], self.folder)
+            after = trees_of([bytes.fromhex(it.split(" ")[1]) for it in lines[1::2]], self.folder)
+            self.assertEqual([len(it) for it in before], [len(it) for it in after], name)
+            others = [(old, new) for one, other in zip(before, after) for old, new in zip(one, other) if old != new and not changed.match(new.strip())]
+            self.assertEqual(others, [], name)
 
     def test_capabilities_of_several_hundred_octets(self) -> None:
         before, after, lines = self.changed("", FIRST_MME_ID, 2, radio=900)
