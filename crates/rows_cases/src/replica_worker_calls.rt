@@ -1,7 +1,9 @@
 //! Replicas over the store of one device, whose one message is a Service Request of a device that is not attached.
 ghost use Rattle.std.specs.Prelude.{◌≡◌, ◌∷◌, ℕ, [], length, refl, IfOk, OnOk};
+ghost use Rattle.std.proofs.Common.{◌∙◌};
 ghost use Rattle.device_types.specs.declared.message.Body.TheVariants as bodies;
 ghost use Rattle.device_types.specs.Subscriber.{IsSubscriber};
+ghost use Rattle.replica_worker.specs.Cache.{AreSessionsOf};
 ghost use Rattle.replica_worker.specs.Writes.{MayWrite};
 ghost use Rattle.session_store.specs.Rows.{Begins, journal_of};
 
@@ -10,7 +12,7 @@ use device_types::{
 };
 use replica_worker::{Hand, Replica};
 use session_row::Commit;
-use session_store::{Asked, EchoLaw, RowStore, Seen, Store};
+use session_store::{Asked, EchoLaw, Peeked, RowStore, Seen, Store};
 use std::alloc::{AllocError, Global};
 use std::test::Fail;
 use subs_table::{SubsTable, read_row};
@@ -59,14 +61,22 @@ impl RowStore for WrittenFirst {
 
     ghost known = { λ store d. journal_of store.rows.rows d };
 
-    ghost reads = { λ old new. new.rows ≡ old.rows };
+    ghost reads = { λ store. store.rows.reads };
+
+    ghost keeps = { λ old new. length new.rows.rows ≡ length old.rows.rows };
 
     ghost writes = { λ old new d read entry commit. length new.rows.rows ≡ length old.rows.rows };
 
-    ghost unread = { λ store. refl };
+    ghost keeps_same = { λ store. refl };
+
+    ghost keeps_twice = { λ old between new one two. two ∙ one };
 
     fn read(&mut self, d: DeviceId, asked: Asked) -> Result<Seen, AllocError> {
         RowStore::read(&mut self.rows, d, asked)
+    }
+
+    fn peek(&mut self, d: DeviceId, asked: Asked) -> Result<Peeked, AllocError> {
+        RowStore::peek(&mut self.rows, d, asked)
     }
 
     fn commit(&mut self, d: DeviceId, read: u64, entry: Entry) -> Result<Commit, NoRoom<Entry>> {
@@ -119,10 +129,12 @@ fn read<S: RowStore<Law = EchoLaw>>(
 ) -> Result<(), AllocError>
     requires charter { S.charter store.old ≡ record { rows = row.now ∷ []; lines = (record { number = 1; station = 1; enb = 7; body = bodies.Service } ∷ []) ∷ [] } }
     requires devices { S.devices store.old ≡ 1 }
+    requires remembers { AreSessionsOf (S.charter store.old) replica.old.cache }
     ensures charter { S.charter store.new ≡ S.charter store.old }
+    ensures remembers { AreSessionsOf (S.charter store.new) replica.new.cache }
     ensures devices { S.devices store.new ≡ S.devices store.old }
     ensures extends { (i : ℕ) → Begins (S.known store.old i) (S.known store.new i) }
-    ensures may { OnOk result (MayWrite (S.charter store.new) (S.devices store.new) (S.known store.new) replica.new) }
+    ensures may { OnOk result (MayWrite (S.charter store.new) (S.devices store.new) (S.known store.new) replica.new.hand) }
 {
     replica.take(DeviceId(1), Input::Message(message()));
     let looked = replica.read(row, store)?;
@@ -136,8 +148,10 @@ fn write<S: RowStore<Law = EchoLaw>>(
     store: &mut S,
     told: &mut String,
 ) -> Result<(), AllocError>
-    requires { MayWrite (S.charter store.old) (S.devices store.old) (S.known store.old) replica.old }
+    requires may { MayWrite (S.charter store.old) (S.devices store.old) (S.known store.old) replica.old.hand }
+    requires remembers { AreSessionsOf (S.charter store.old) replica.old.cache }
     ensures charter { S.charter store.new ≡ S.charter store.old }
+    ensures remembers { AreSessionsOf (S.charter store.new) replica.new.cache }
     ensures devices { S.devices store.new ≡ S.devices store.old }
     ensures extends { (i : ℕ) → Begins (S.known store.old i) (S.known store.new i) }
 {
@@ -159,6 +173,7 @@ fn stopped<S: RowStore<Law = EchoLaw>>(
 ) -> Result<(), AllocError>
     requires charter { S.charter store.old ≡ record { rows = row.now ∷ []; lines = (record { number = 1; station = 1; enb = 7; body = bodies.Service } ∷ []) ∷ [] } }
     requires devices { S.devices store.old ≡ 1 }
+    requires nothing { replica.old.cache ≡ [] }
 {
     read(row, replica, store, told)?;
     replica.stop();
@@ -178,6 +193,8 @@ fn raced<S: RowStore<Law = EchoLaw>>(
 ) -> Result<(), AllocError>
     requires charter { S.charter store.old ≡ record { rows = row.now ∷ []; lines = (record { number = 1; station = 1; enb = 7; body = bodies.Service } ∷ []) ∷ [] } }
     requires devices { S.devices store.old ≡ 1 }
+    requires first { first.old.cache ≡ [] }
+    requires second { second.old.cache ≡ [] }
 {
     read(row, first, store, told)?;
     read(row, second, store, told)?;
@@ -202,7 +219,7 @@ fn a_stop_loses_nothing(rt: HostRuntime) -> Result<(), Fail> {
     let row = read_row(alloc, ROW.as_bytes(), 1)?;
     let mut store = opened(alloc, &row)?;
     let mut told = String::new(alloc);
-    stopped(&row, &mut Replica::new(), &mut store, &mut told)?;
+    stopped(&row, &mut Replica::new(alloc)?, &mut store, &mut told)?;
     assert_eq!(rt; told.as_str(), STOPPED);
     Ok(())
 }
@@ -215,7 +232,7 @@ fn another_writes_first(rt: HostRuntime) -> Result<(), Fail> {
         rows: opened(alloc, &row)?,
     };
     let mut told = String::new(alloc);
-    stopped(&row, &mut Replica::new(), &mut store, &mut told)?;
+    stopped(&row, &mut Replica::new(alloc)?, &mut store, &mut told)?;
     assert_eq!(rt; told.as_str(), WRITTEN_FIRST);
     Ok(())
 }
@@ -225,8 +242,8 @@ fn one_of_two_replicas_writes(rt: HostRuntime) -> Result<(), Fail> {
     let alloc = rt.alloc();
     let row = read_row(alloc, ROW.as_bytes(), 1)?;
     let mut store = opened(alloc, &row)?;
-    let mut first = Replica::new();
-    let mut second = Replica::new();
+    let mut first = Replica::new(alloc)?;
+    let mut second = Replica::new(alloc)?;
     let mut told = String::new(alloc);
     raced(&row, &mut first, &mut second, &mut store, &mut told)?;
     assert_eq!(rt; told.as_str(), RACED);

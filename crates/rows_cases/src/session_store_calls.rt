@@ -1,5 +1,6 @@
 //! Stores of two devices, under a law that allows whatever a row takes.
 ghost use Rattle.std.specs.Prelude.{◌≡◌, ◌≤◌, true, [], length, refl, IfOk};
+ghost use Rattle.std.proofs.Common.{◌∙◌};
 ghost use Rattle.std.specs.Arc.{arc_value};
 ghost use Rattle.device_types.specs.declared.event.Lane.TheVariants as lane;
 ghost use Rattle.device_types.specs.Journal.{pushed_count};
@@ -11,7 +12,7 @@ use device_types::{
     Step,
 };
 use session_row::{Commit, Row};
-use session_store::{Asked, Charter, EchoLaw, RowLaw, RowStore, Seen, Store};
+use session_store::{Asked, Charter, EchoLaw, Peeked, RowLaw, RowStore, Seen, Store};
 use std::alloc::{AllocError, Global};
 use std::test::Fail;
 use subs_table::SubsTable;
@@ -85,14 +86,22 @@ impl RowStore for Raced {
 
     ghost known = { λ store d. journal_of store.rows.rows d };
 
-    ghost reads = { λ old new. new.rows ≡ old.rows };
+    ghost reads = { λ store. store.rows.reads };
+
+    ghost keeps = { λ old new. length new.rows.rows ≡ length old.rows.rows };
 
     ghost writes = { λ old new d read entry commit. length new.rows.rows ≡ length old.rows.rows };
 
-    ghost unread = { λ store. refl };
+    ghost keeps_same = { λ store. refl };
+
+    ghost keeps_twice = { λ old between new one two. two ∙ one };
 
     fn read(&mut self, d: DeviceId, asked: Asked) -> Result<Seen, AllocError> {
         RowStore::read(&mut self.rows, d, asked)
+    }
+
+    fn peek(&mut self, d: DeviceId, asked: Asked) -> Result<Peeked, AllocError> {
+        RowStore::peek(&mut self.rows, d, asked)
     }
 
     fn commit(&mut self, d: DeviceId, read: u64, entry: Entry) -> Result<Commit, NoRoom<Entry>> {
