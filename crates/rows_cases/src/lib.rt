@@ -19,8 +19,6 @@ mod peer_gateway_calls;
 #[cfg(test)]
 mod peer_subscriber_calls;
 #[cfg(test)]
-mod remembered_calls;
-#[cfg(test)]
 mod replica_worker_calls;
 #[cfg(test)]
 mod session_row_calls;
