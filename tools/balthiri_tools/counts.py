@@ -3,13 +3,13 @@
 The program prints what becomes of whole devices. Of short devices it is asked for the first message of each, for the first two, and so on. Of a long device
 that would take a run for each message. There it is guessed what a message makes, from what a message of its kind made behind such a message before, and
 the program then runs a schedule in which each guess shows: a push of the last call or down that is guessed has to be `pushed`, one of the next has to be
-`void outbox`. What shows to be wrong is asked for.
+`void outbox`. What shows to be wrong is asked for. One such run tells of as many devices as its schedule has room for.
 """
 
 from __future__ import annotations
 
 from dataclasses import dataclass, field
-from typing import Dict, Iterator, List, NamedTuple, Optional, Tuple
+from typing import Dict, Iterator, List, NamedTuple, Optional, Set, Tuple
 
 from .case_text import MOST_EVENTS, CaseText, TraceLine
 from .command import Progress
@@ -181,19 +181,52 @@ class Probe:
         return iter(sorted(calls, key=lambda it: self.device.effects[it[0]][it[1] - 1] == NOTICE))
 
 
-def first_wrong(asked: Asked, device: Device) -> Tuple[Optional[int], int]:
-    """The first message whose guess is wrong, None where all are right, of as many messages as a schedule can show; and how many these are."""
+def _probe_of(asked: Asked, device: Device) -> Tuple[Probe, int]:
+    """The probe of as many messages as a schedule can show, and how many these are."""
     probe, shown = Probe(device), 0
     for number in range(1, len(device.counts)):
         probe.message(number)
         if len(probe.events) > asked.most_events:
             break
         shown = number
-    events = probe.events[: asked.most_events]
-    for number, expected, answer in zip(probe.of_message, probe.expected, asked.answers(device.messages[: len(device.counts) - 1], events)):
+    del probe.events[asked.most_events :]
+    return probe, shown
+
+
+def _batches(asked: Asked, probes: List[Probe]) -> Iterator[List[Probe]]:
+    """The probes in their order, as many at a time as a schedule has room for."""
+    batch: List[Probe] = []
+    for probe in probes:
+        if batch and sum(len(it.events) for it in batch) + len(probe.events) > asked.most_events:
+            yield batch
+            batch = []
+        batch.append(probe)
+    if batch:
+        yield batch
+
+
+def _wrong_in(probe: Probe, answers: List[str]) -> Optional[int]:
+    """The first message whose guess is wrong, None where all are right."""
+    for number, expected, answer in zip(probe.of_message, probe.expected, answers):
         if answer != expected:
-            return number, shown
-    return None, shown
+            return number
+    return None
+
+
+def first_wrong(asked: Asked, devices: List[Device], progress: Progress) -> List[Tuple[Optional[int], int]]:
+    """Of each device the first message whose guess is wrong, None where all are right, of as many messages as a schedule can show; and how many these are.
+
+    One run tells of as many devices as its schedule has room for."""
+    made = [_probe_of(asked, it) for it in devices]
+    wrong: List[Optional[int]] = []
+    for batch in _batches(asked, [probe for probe, _ in made]):
+        messages = [it for probe in batch for it in probe.device.messages[: len(probe.device.counts) - 1]]
+        answers = asked.answers(sorted(messages, key=lambda it: it.line.line), [it for probe in batch for it in probe.events])
+        for probe in batch:
+            wrong.append(_wrong_in(probe, answers[: len(probe.events)]))
+            del answers[: len(probe.events)]
+        progress.at(len(wrong), len(devices))
+    return [(number, shown) for number, (_, shown) in zip(wrong, made)]
 
 
 def _next(asked: Asked, device: Device) -> Counts:
@@ -201,35 +234,60 @@ def _next(asked: Asked, device: Device) -> Counts:
     return counts_in(asked.finals(device.messages[: len(device.counts)])[device.imsi])
 
 
-def _ask(asked: Asked, device: Device) -> None:
+def _ask(asked: Asked, device: Device, progress: Progress) -> None:
     """Asks for the counts after the next message. Where those before it were guessed wrongly, it goes back to the first that was."""
     before = counts_in(asked.finals(device.messages[: len(device.counts) - 1])[device.imsi])
     if before != device.counts[-1]:
-        wrong, _ = first_wrong(asked, device)
+        wrong, _ = first_wrong(asked, [device], progress)[0]
         del device.counts[wrong or len(device.counts) - 1 :]
     device.counts.append(_next(asked, device))
 
 
-def _follow(asked: Asked, device: Device, seen: Seen, progress: Progress) -> None:
-    """Finds the counts of a long device behind those that are known."""
-    known = set(range(1, len(device.counts)))
-    while True:
+@dataclass
+class Long:
+    """A long device, and of which of its messages the counts behind them were asked for."""
+
+    device: Device
+    known: Set[int]
+
+    def guess(self, asked: Asked, seen: Seen, progress: Progress) -> None:
+        """Guesses the counts behind all messages, and asks where there is no guess."""
+        device = self.device
         while len(device.counts) <= len(device.messages):
-            progress.at(len(device.counts), len(device.messages))
             if not seen.guesses(device):
-                _ask(asked, device)
+                progress.at(len(device.counts), len(device.messages))
+                _ask(asked, device, progress)
                 seen.learn(device, len(device.counts) - 1)
-                known.add(len(device.counts) - 1)
-        wrong, shown = first_wrong(asked, device)
-        if wrong is None or wrong in known:
-            break
-        del device.counts[wrong:]
-        seen.forget(device, wrong)
-    # of more messages than a schedule can show, and behind one that it does not show as it is, each is asked for
-    del device.counts[min(shown, wrong or shown) + 1 :]
-    while len(device.counts) <= len(device.messages):
-        progress.at(len(device.counts), len(device.messages))
-        device.counts.append(_next(asked, device))
+                self.known.add(len(device.counts) - 1)
+
+    def ends(self, wrong: Optional[int], shown: int, seen: Seen) -> bool:
+        """Whether no guess that shows is wrong; else the counts from the first one on are taken back."""
+        if wrong is not None and wrong not in self.known:
+            del self.device.counts[wrong:]
+            seen.forget(self.device, wrong)
+            return False
+        # of more messages than a schedule can show, and behind one that it does not show as it is, each is asked for
+        del self.device.counts[min(shown, wrong or shown) + 1 :]
+        return True
+
+    def ask_for_the_rest(self, asked: Asked, progress: Progress) -> None:
+        while len(self.device.counts) <= len(self.device.messages):
+            progress.at(len(self.device.counts), len(self.device.messages))
+            self.device.counts.append(_next(asked, self.device))
+
+
+def _follow(asked: Asked, devices: List[Device], seen: Seen, progress: Progress) -> None:
+    """Finds the counts of long devices behind those that are known."""
+    left = [Long(it, set(range(1, len(it.counts)))) for it in devices]
+    while left:
+        for it in left:
+            it.guess(asked, seen, progress)
+        told = first_wrong(asked, [it.device for it in left], progress)
+        ended = [it.ends(wrong, shown, seen) for it, (wrong, shown) in zip(left, told)]
+        for it, has_ended in zip(left, ended):
+            if has_ended:
+                it.ask_for_the_rest(asked, progress)
+        left = [it for it, has_ended in zip(left, ended) if not has_ended]
 
 
 def counts_of(asked: Asked, messages: Dict[int, List[Message]], finals: Dict[int, Final], progress: Progress) -> Dict[int, List[Counts]]:
@@ -246,7 +304,5 @@ def counts_of(asked: Asked, messages: Dict[int, List[Message]], finals: Dict[int
     for device in devices.values():
         for number in range(1, len(device.counts)):
             seen.learn(device, number)
-    for device in devices.values():
-        if len(device.messages) > SHORT:
-            _follow(asked, device, seen, progress)
+    _follow(asked, [it for it in devices.values() if len(it.messages) > SHORT], seen, progress)
     return {at: device.counts for at, device in devices.items()}

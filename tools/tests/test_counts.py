@@ -89,6 +89,12 @@ class World:
         return f"accepted {call}"
 
 
+def device_of(event: str, held: int) -> int:
+    """The device that an event tells of. A read and a write are of the device whose input the replica holds."""
+    word, *values = event.split(" ")
+    return held if word in ("read", "write") else int(values[1] if word in ("take", "answer") else values[0])
+
+
 class Played:
     """Stands for the program."""
 
@@ -123,9 +129,12 @@ class Played:
         self.runs += 1
         assert words == ["replay"]
         case = read_case(octets)
-        device = case.trace[0].station
-        world = World(self.steps(case)[device])
-        return b"".join(f"event {it.number}: {world.answer(it.text)}\n".encode() for it in case.schedule)
+        worlds = {device: World(steps) for device, steps in self.steps(case).items()}
+        text, device = b"", 0
+        for it in case.schedule:
+            device = device_of(it.text, device)
+            text += f"event {it.number}: {worlds[device].answer(it.text)}\n".encode()
+        return text
 
 
 def plain_rule(kinds: List[int]) -> List[List[Effect]]:
@@ -167,6 +176,11 @@ class CountsOfDevices(unittest.TestCase):
     def test_a_long_device_takes_few_runs(self) -> None:
         # what each kind makes is known from its first messages, so that one schedule shows that all guesses are right
         self.assertEqual(self.check(plain_rule, {1: [0, 1, 2, 3, 4, 5] * 200}), SHORT + 1)
+
+    def test_one_run_tells_of_many_long_devices(self) -> None:
+        self.assertEqual(self.check(plain_rule, {it: [0, 1, 2, 3, 4, 5] * 10 for it in range(1, 41)}), SHORT + 1)
+        # a schedule with room for two of them at a time
+        self.assertEqual(self.check(plain_rule, {it: [3] * 50 for it in range(1, 6)}, most_events=450), SHORT + 3)
 
     def test_a_kind_that_comes_late(self) -> None:
         self.assertEqual(self.check(plain_rule, {1: [0, 1, 2] * 40 + [5] * 100 + [4, 5], 2: [3] * 50}) <= SHORT + 12, True)
