@@ -3,7 +3,7 @@
 import json
 import unittest
 from pathlib import Path
-from typing import List, Tuple
+from typing import Any, Dict, List, Tuple
 
 from balthiri_tools.compare import Answer, Exchange, Sent, compare
 from balthiri_tools.fields import fields_of
@@ -19,9 +19,80 @@ NETWORKS = DATA / "networks"
 IDS = Ids(1, 1, 0)
 
 
+# What is beside each answer, worked by hand from what `other_mme.py` sends, frame by frame, and from the step table (docs/DEFINITIONS.md): the device's last
+# digit, the frame of the MME's answer, it and the machine's, and whether the profile explains the difference. Of a message, what only the machine sends stands last.
+VERDICTS = {
+    "three_devices": """\
+1 3 Authentication request / Authentication request: equal
+1 5 Security mode command / Security mode command: explained
+1 12 Attach accept / Attach accept: explained
+1 16 EMM information / -: explained
+1 37 UEContextReleaseCommand / UEContextReleaseCommand: equal
+1 43 InitialContextSetupRequest / InitialContextSetupRequest: equal
+1 46 UEContextReleaseCommand / UEContextReleaseCommand: equal
+1 - - / Detach accept: only the machine's
+2 7 Authentication request / Authentication request: equal
+2 8 Authentication request / -: explained
+2 10 Security mode command / Security mode command: explained
+2 17 Attach accept / Attach accept: explained
+2 21 EMM information / -: explained
+2 40 UEContextReleaseCommand / UEContextReleaseCommand: equal
+2 49 Service reject / InitialContextSetupRequest: another message
+2 50 UEContextReleaseCommand / UEContextReleaseCommand: another order
+2 53 Tracking area update accept / Tracking area update accept: explained
+2 55 UEContextReleaseCommand / UEContextReleaseCommand: explained
+2 58 InitialContextSetupRequest / InitialContextSetupRequest: equal
+3 23 Attach reject / Attach reject: equal
+3 24 UEContextReleaseCommand / UEContextReleaseCommand: equal
+3 27 Authentication request / Authentication request: equal
+3 29 Security mode command / Security mode command: explained
+3 31 Attach accept / Attach accept: explained
+3 35 EMM information / -: explained
+""",
+    "strangers": """\
+4 5 Identity request / -: explained
+4 7 Authentication request / Authentication request: explained
+4 9 Security mode command / Security mode command: explained
+4 11 Attach accept / Attach accept: explained
+4 15 EMM information / -: explained
+4 27 UEContextReleaseCommand / UEContextReleaseCommand: equal
+4 30 Authentication request / Authentication request: explained
+4 32 Security mode command / Security mode command: explained
+4 34 Attach accept / Attach accept: explained
+4 38 EMM information / -: explained
+2 17 Authentication request / Authentication request: equal
+2 19 Security mode command / Security mode command: explained
+2 21 Attach accept / Attach accept: explained
+2 25 EMM information / -: explained
+""",
+    "ciphered": """\
+6 2 Authentication request / Authentication request: equal
+6 4 Security mode command / Security mode command: explained
+6 6 InitialContextSetupRequest / -: explained
+6 10 UEContextReleaseCommand / UEContextReleaseCommand: equal
+""",
+}
+
+
+def beside_each_answer(report: Dict[str, Any]) -> str:
+    """A report in the words of those tables."""
+    lines = ""
+    for device in report["devices"]:
+        for it in [answer for message in device["messages"] for answer in message["answers"]]:
+            mme, machine = it["mme"] or {}, it["machine"] or {}
+            word = it["verdict"] if it["differs"] else "explained" if it["explained"] else "equal"
+            lines += f"{device['imsi'][-1]} {mme.get('frame', '-')} {mme.get('name', '-')} / {machine.get('name', '-')}: {word}\n"
+    return lines
+
+
 @needs("tshark")
 class Reports(InFolder):
-    """Each capture with the report that is worked by hand."""
+    """Each capture with what is beside each answer by hand, and with its report, which the tool wrote and a reader compared line by line with the step table."""
+
+    def test_what_is_beside_each_answer(self) -> None:
+        for name, verdicts in VERDICTS.items():
+            done = run("beside", NETWORKS / f"{name}.pcap", "--program", PROGRAM, "--json")
+            self.assertEqual(beside_each_answer(json.loads(done.stdout)), verdicts, name)
 
     def check(self, name: str, status: int, *words: object) -> None:
         done = run("beside", NETWORKS / f"{name}.pcap", "--program", PROGRAM, *words)
