@@ -34,7 +34,7 @@ impl TryCopy for Answer {
 }
 
 /// What a peer says to a call that arrives.
-#[derive(Debug, Drop)]
+#[derive(Clone, Debug, Drop)]
 pub enum Offer {
     /// It is the next call of its device: the peer has done it, and this is its answer.
     Accepted(Answer),
@@ -42,6 +42,12 @@ pub enum Offer {
     Repeat(Answer),
     /// Calls before it have not come: the number of the last one that was accepted.
     Ahead(u64),
+}
+
+impl TryCopy for Offer {
+    ghost use Rattle.std.proofs.Common.{rules};
+
+    ghost same = { Prim.search rules };
 }
 
 /// What a step is made of.

@@ -21,12 +21,18 @@ impl TryCopy for Step {
 }
 
 /// An entry of a device's journal: an input, and the step that was made of it.
-#[derive(Debug, Drop)]
+#[derive(Clone, Debug, Drop)]
 pub struct Entry {
     /// The input.
     pub input: Input,
     /// Its step.
     pub step: Step,
+}
+
+impl TryCopy for Entry {
+    ghost use Rattle.std.proofs.Common.{rules};
+
+    ghost same = { Prim.search rules };
 }
 
 /// The reply to a message of a device.
