@@ -16,8 +16,8 @@ use Rattle.session_row.specs.Row.{RowState}
 use Rattle.subs_table.proofs.IndexLaws.{is_at_is}
 use Rattle.session_store.specs.Charter.{CharterState, IsCharter}
 use Rattle.session_store.specs.Law.{IsLawful}
-use Rattle.session_store.specs.Rows.{IsDevice, opening_row, row_of, AreLawful}
-use Rattle.session_store.specs.Shards.{shard_count, shard_of, ShardState, IsHere, find_row, row_in, journal_in, with_row, IsOpening, IsShard, no_shard, shard_at, stored_row, stored_rows, IsShardOf, AreShards, IsStore, AreOpened}
+use Rattle.session_store.specs.Rows.{StoreState, IsDevice, opening_row, row_of, AreLawful}
+use Rattle.session_store.specs.Shards.{shard_count, shard_of, ShardState, IsHere, find_row, row_in, journal_in, with_row, AreLawfulHere, IsOpening, IsShard, no_shard, shard_at, stored_row, stored_rows, IsShardOf, AreShards, IsStore, AreOpened}
 use Rattle.session_store.proofs.Rows.{set_lawful}
 
 -- ---- one shard
@@ -62,11 +62,14 @@ found rows d row e = sym (ap (λ o. unwrap_or o opening_row) e)
 -- the shard with another lawful row for one of its devices
 pub stays_shard : (follows : ℕ → List Entry → Entry → Type 0) (shard : ShardState) (d : ℕ) (row : RowState) → IsShard follows shard → IsHere shard d → IsLawful (follows d) row.journal → IsShard follows (record shard { rows = with_row shard.rows d row })
 stays_shard follows shard d row is here lawful =
-    let has = is.rows d here in record {
+    let has = (is.rows d).1 here in record {
       in_form = is.in_form;
-      rows = λ q h. ⊎_elim
-          (λ (e : d ≡ q). subst (λ (n : ℕ). IsSome (find_row (with_row shard.rows d row) n)) e (subst IsSome (sym (find_same shard.rows d row has)) refl))
-          (λ (ne : d ≡ q → ⊥). subst IsSome (sym (find_other shard.rows d q row ne)) (is.rows q h))
+      rows = λ q. ⊎_elim
+          (λ (e : d ≡ q). (
+            λ h. subst (IsHere shard) e here,
+            λ h. subst (λ (n : ℕ). IsSome (find_row (with_row shard.rows d row) n)) e (subst IsSome (sym (find_same shard.rows d row has)) refl),
+          ))
+          (λ (ne : d ≡ q → ⊥). let same = find_other shard.rows d q row ne in (λ h. (is.rows q).0 (subst IsSome same h), λ h. subst IsSome (sym same) ((is.rows q).1 h)))
           (cases_eq d q);
       lawful = λ q h. ⊎_elim
           (λ (e : d ≡ q).
@@ -90,6 +93,21 @@ opened_same m i number before apart d is lies =
     let most = is.1 in
     let other : d ≡ i + 1 → ⊥ = λ e. apart (ap shard_of (sym e) ∙ lies) in
     before d (is.0, omega (arith, most, other)) lies
+
+pub owned_same : (m : BTreeMap ℕ RowState) (i number : ℕ) → ((d : ℕ) → IsSome (find_row m.entries d) → IsDevice i d × (shard_of d ≡ number)) → (d : ℕ) → IsSome (find_row m.entries d) → IsDevice (i + 1) d × (shard_of d ≡ number)
+owned_same m i number before d has =
+    let was = before d has in
+    let most = was.0.1 in
+    ((was.0.0, omega (arith, most)), was.1)
+
+-- the devices that have a row, with one device more of the shard
+pub owned_more : (m n : BTreeMap ℕ RowState) (i number : ℕ) → ((d : ℕ) → IsSome (find_row m.entries d) → IsDevice i d × (shard_of d ≡ number)) → shard_of (i + 1) ≡ number → Updates nat_cmp m n (i + 1) (Some opening_row) → (d : ℕ) → IsSome (find_row n.entries d) → IsDevice (i + 1) d × (shard_of d ≡ number)
+owned_more m n i number before lies u d has = ⊎_elim
+    (λ (e : i + 1 ≡ d). ((omega (arith, e), omega (arith, e)), ap shard_of (sym e) ∙ lies))
+    (λ (ne : i + 1 ≡ d → ⊥).
+    let same : find_row n.entries d ≡ find_row m.entries d = u.0 d ∙ ap (λ b. cond b (Some opening_row) (find_row m.entries d)) (at_other (i + 1) d ne) in
+    owned_same m i number before d (subst IsSome same has))
+    (cases_eq (i + 1) d)
 
 -- ---- the rows of a store
 
@@ -214,6 +232,38 @@ stays_store follows charter n d shards was now row is device at has new lawful =
       },
       rows,
     )
+
+-- the shard of device d, of a store that is seen so
+pub record IsShardIn (charter : CharterState) (n d : ℕ) (shards : List ShardState) (shard : ShardState) (store : StoreState) : Type 0 where
+  pub at : shard_at shards (shard_of d) ≡ shard
+  pub device : IsDevice n d
+  pub here : IsHere shard d
+  pub own : IsShardOf charter n (shard_of d) shard
+  pub under : shard.charter ≡ store.charter
+  pub row : row_in shard.rows d ≡ row_of store.rows d
+
+-- the shard that is borrowed
+pub shard_in : {charter : CharterState} {n d k reads : ℕ} {shards : List ShardState} {shard : ShardState} {store : StoreState} → AreShards charter n shards → record { charter = charter; rows = stored_rows shards n; reads = reads } ≡ store → IsDevice (length store.rows) d → k ≡ shard_of d → shard ≡ get_or shards k shard → IsShardIn charter n d shards shard store
+shard_in {charter} {n} {d} {k} {reads} {shards} {shard} {store} are view is e value =
+    let at = shard_is charter n d k shards shard are e value in
+    let device = device_in shards n d store.rows (ap (λ (s : StoreState). s.rows) view) is in
+    let own = shard_placed charter n d shards shard are at in record {
+      at = at;
+      device = device;
+      here = is_here charter shards n d shard are device at;
+      own = own;
+      under = own.under ∙ ap (λ (s : StoreState). s.charter) view;
+      row = row_placed shards n d shard device at ∙ ap (λ (s : StoreState). row_of s.rows d) view;
+    }
+
+-- the store with that shard put back, which has another lawful row for the device
+pub put_back : (follows : CharterState → ℕ → List Entry → Entry → Type 0) → {charter : CharterState} {n d : ℕ} {shards : List ShardState} {was now : ShardState} {store : StoreState} {row : RowState} → IsStore (follows charter) charter n shards → IsShardIn charter n d shards was store → row_in now.rows d ≡ row → now ≡ record was { rows = with_row was.rows d row } → AreLawfulHere (follows now.charter) now
+    → IsStore (follows charter) charter n (set shards (shard_of d) now) × (stored_rows (set shards (shard_of d) now) n ≡ set (stored_rows shards n) (d - 1) row)
+put_back follows {charter} {n} {d} {shards} {was} {now} {store} {row} is own has new lawful =
+    let same : now.charter ≡ charter = ap (λ (s : ShardState). s.charter) new ∙ own.own.under in
+    let lies = subst (λ (s : ShardState). IsHere s d) (sym new) own.here in
+    let there = subst (λ (x : CharterState). IsLawful (follows x d) (journal_in now.rows d)) same (lawful d lies) in
+    stays_store (follows charter) charter n d shards was now row is own.device own.at has new (subst (λ (r : RowState). IsLawful (follows charter d) r.journal) has there)
 
 -- ---- a store before any call
 

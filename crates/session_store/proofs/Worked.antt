@@ -1,8 +1,8 @@
 -- Worked shards, computed: the cheapest test of their definitions.
-use Rattle.std.proofs.Common.{◌≡◌, ℕ, ◌-◌, ◌^◌, List, [], ◌∷◌, replicate, Some, None, refl}
+use Rattle.std.proofs.Common.{◌≡◌, ℕ, ◌-◌, ◌^◌, List, [], ◌∷◌, replicate, Some, None, refl, arith}
 use Rattle.session_row.specs.Row.{RowState}
 use Rattle.session_store.specs.Rows.{one_more, opening_row}
-use Rattle.session_store.specs.Shards.{shard_of, ShardState, find_row, row_in, with_row, no_shard, stored_rows}
+use Rattle.session_store.specs.Shards.{shard_of, ShardState, IsHere, find_row, row_in, with_row, no_shard, stored_rows}
 
 -- the row of a device that was seen, and another
 seen : RowState
@@ -46,6 +46,14 @@ second-row-is-put = refl
 
 shard : ShardState
 shard = record no_shard { number = 1; devices = 17; rows = rows }
+
+second-of-the-shard-is-here : IsHere shard 17
+unfolding shard rows
+second-of-the-shard-is-here = ((omega arith, omega arith), refl)
+
+device-of-another-shard-is-not : IsHere shard 2 → ⊥
+unfolding shard rows
+device-of-another-shard-is-not h = let e : 2 ≡ 1 = h.1 in absurd (omega (arith, e))
 
 rows-by-device : stored_rows (no_shard ∷ shard ∷ []) 17 ≡ seen ∷ replicate 16 opening_row
 unfolding shard rows

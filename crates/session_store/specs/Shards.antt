@@ -1,5 +1,5 @@
 -- Shards: the rows of the devices that share a remainder.
-use Rattle.std.specs.Prelude.{◌≡◌, ◌<◌, ℕ, ◌+◌, ◌%◌, List, [], length, map, Option, IsSome, slice_index_or}
+use Rattle.std.specs.Prelude.{◌≡◌, ◌<◌, ◌↔◌, ℕ, ◌+◌, ◌%◌, List, [], length, map, Option, IsSome, slice_index_or}
 use Rattle.std.specs.BTreeMap.{is_at}
 use Rattle.std.specs.List.{range_with_len}
 use Rattle.std.specs.Map.{lookup, set_value}
@@ -44,6 +44,10 @@ journal_in rows d = (row_in rows d).journal
 abbrev pub with_row : List (ℕ × RowState) → ℕ → RowState → List (ℕ × RowState)
 with_row rows d row = set_value (is_at (nat_cmp d)) rows row
 
+-- just the devices of the shard have a row
+abbrev pub HasItsRows : ShardState → Type 0
+HasItsRows shard = (d : ℕ) → IsSome (find_row shard.rows d) ↔ IsHere shard d
+
 -- none of the shard's devices was ever seen
 abbrev pub IsOpening : ShardState → Type 0
 IsOpening shard = (d : ℕ) → IsHere shard d → row_in shard.rows d ≡ opening_row
@@ -52,10 +56,10 @@ IsOpening shard = (d : ℕ) → IsHere shard d → row_in shard.rows d ≡ openi
 abbrev pub AreLawfulHere : (ℕ → List Entry → Entry → Type 0) → ShardState → Type 0
 AreLawfulHere follows shard = (d : ℕ) → IsHere shard d → IsLawful (follows d) (journal_in shard.rows d)
 
--- each device of the shard has a row
+-- a shard whose rows are those of just its devices, and lawful
 pub record IsShard (follows : ℕ → List Entry → Entry → Type 0) (shard : ShardState) : Type 0 where
   pub in_form : IsCharter shard.charter
-  pub rows : (d : ℕ) → IsHere shard d → IsSome (find_row shard.rows d)
+  pub rows : HasItsRows shard
   pub lawful : AreLawfulHere follows shard
 
 -- ---- a store of shards

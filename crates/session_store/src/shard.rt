@@ -9,7 +9,7 @@ ghost use Rattle.session_store.specs.Charter.{IsCharter};
 ghost use Rattle.session_store.specs.Law.{IsLawful};
 ghost use Rattle.session_store.specs.Rows.{IsDevice, opening_row, unsettled_effect, with_settled};
 ghost use Rattle.session_store.specs.Seen.{IsAsked, IsRepeat, peeked_of, seen_of};
-ghost use Rattle.session_store.specs.Shards.{shard_of, ShardState, IsHere, find_row, row_in, journal_in, with_row, IsOpening, AreLawfulHere};
+ghost use Rattle.session_store.specs.Shards.{shard_of, ShardState, IsHere, find_row, row_in, journal_in, with_row, HasItsRows, IsOpening, AreLawfulHere};
 
 use crate::asked::{Asked, Peeked, Seen};
 use crate::charter::Charter;
@@ -68,13 +68,14 @@ fn open_row(
     Ok(())
 }
 
-/// Of so many devices, a row that was never seen for each that lies in the shard of that number.
+/// Of so many devices, a row that was never seen for each that lies in the shard of that number, and for no other.
 fn opening_rows(
     alloc: Global,
     number: u32,
     devices: u32,
 ) -> Result<BTreeMap<u32, DeviceRow>, AllocError>
-    ensures { IfOk result (λ rows. (d : ℕ) → IsDevice devices d → shard_of d ≡ number → find_row rows.entries d ≡ Some opening_row) }
+    ensures opening { IfOk result (λ rows. (d : ℕ) → IsDevice devices d → shard_of d ≡ number → find_row rows.entries d ≡ Some opening_row) }
+    ensures no_other { IfOk result (λ rows. (d : ℕ) → IsSome (find_row rows.entries d) → IsDevice devices d × (shard_of d ≡ number)) }
 {
     let mut rows = BTreeMap::new(alloc);
     for index in 0..devices {
@@ -87,12 +88,14 @@ fn opening_rows(
 }
 
 impl<L: RowLaw> Shard<L> {
-    /// The shard of that number of a store of so many devices, none of which was ever seen. It fails for want of memory alone.
+    /// The shard of that number of a store of so many devices, none of which was ever seen: it has a row for each of them that lies
+    /// in it, and for no other device. It fails for want of memory alone.
     pub fn new(alloc: Global, law: L, number: u32, devices: u32) -> Result<Shard<L>, AllocError>
         ensures charter { IfOk result (λ shard. shard.charter ≡ L.charter law) }
         ensures number { IfOk result (λ shard. shard.number ≡ number) }
         ensures devices { IfOk result (λ shard. shard.devices ≡ devices) }
         ensures opening { IfOk result IsOpening }
+        ensures rows { IfOk result HasItsRows }
     {
         let rows = opening_rows(alloc, number, devices)?;
         law.charter().recall();
@@ -104,10 +107,11 @@ impl<L: RowLaw> Shard<L> {
         })
     }
 
-    /// The charter of its law, under which the rows are lawful. It takes no memory.
+    /// The charter of its law, under which its rows, those of just its devices, are lawful. It takes no memory.
     pub fn charter(&self) -> &Charter
         ensures charter { result.now ≡ self.now.charter }
         ensures in_form { IsCharter self.now.charter }
+        ensures rows { HasItsRows self.now }
         ensures lawful { AreLawfulHere (L.follows self.now.charter) self.now }
     {
         self.law.charter()
@@ -177,7 +181,8 @@ impl<L: RowLaw> Shard<L> {
         }
     }
 
-    /// The effects of a lane of the device up to `k` are settled: nothing but that number changes. It takes no memory.
+    /// The effects of a lane of the device up to `k` are settled: nothing but that number changes. It may move the lane into a
+    /// smaller block, and never fails.
     pub fn settle(&mut self, d: DeviceId, lane: Lane, k: u64) -> Settled
         requires here { IsHere self.old d.0 }
         requires pushed { k ≤ pushed_count lane (journal_in self.old.rows d.0) }

@@ -163,7 +163,8 @@ impl<L: RowLaw> Store<L> {
         self.shard(d).push(d, lane, k)
     }
 
-    /// The effects of a lane of the device up to `k` are settled: nothing but that number changes. It takes no memory.
+    /// The effects of a lane of the device up to `k` are settled: nothing but that number changes. It may move the lane into a
+    /// smaller block, and never fails.
     pub fn settle(&mut self, d: DeviceId, lane: Lane, k: u64) -> Settled
         requires device { IsDevice (length self.old.rows) d.0 }
         requires pushed { k ≤ pushed_count lane (journal_of self.old.rows d.0) }
