@@ -16,10 +16,10 @@ use Rattle.device_types.specs.Journal.{version_of, session_of}
 use Rattle.device_types.specs.StepTable.{step_of}
 use Rattle.device_types.proofs.Journals.{session_more}
 use Rattle.replica_worker.specs.declared.cache.CachedSession.{CachedSession}
-use Rattle.replica_worker.specs.Cache.{cache_size, is_of, session_in, IsSessionOf, AreSessionsOf, lacks, must_read, fresh_at, noted, cached_when}
+use Rattle.replica_worker.specs.Cache.{cache_size, is_of, session_in, IsSessionOf, AreSessionsOf, lacks, must_read, fresh_at, noted, ReadsBehind, cached_when}
 use Rattle.replica_worker.specs.declared.sight.Sight.{Sight}
 use Rattle.replica_worker.specs.Hands.{step_at}
-use Rattle.replica_worker.specs.Replica.{sight_of, Sees}
+use Rattle.replica_worker.specs.Replica.{sight_peeked, Sees}
 use Rattle.replica_worker.proofs.Answered.{last_apart}
 use Rattle.session_row.specs.declared.commit.Commit.{Commit}
 use Rattle.session_row.specs.declared.commit.Commit.TheVariants.{Committed, Stale}
@@ -28,7 +28,7 @@ use Rattle.session_store.specs.declared.asked.Peeked.{Peeked}
 use Rattle.session_store.specs.AloneLaw.{lawful_is_alone}
 use Rattle.session_store.specs.Charter.{CharterState, alone_in, follows_alone}
 use Rattle.session_store.specs.Law.{IsLawful}
-use Rattle.session_store.specs.Rows.{Begins, IsKnownAfter}
+use Rattle.session_store.specs.Rows.{one_more, Begins, IsKnownAfter}
 use Rattle.session_store.specs.Seen.{asked_of, look_to, peeked_of}
 
 -- ---- what is found
@@ -146,10 +146,20 @@ ready_is : (input : Input) (journal : List Entry) (asked : Asked) (peeked : Peek
 ready_is input journal asked peeked a p ready = ap (look_to journal) (sym a) ∙ sym (ap (λ (x : Peeked). x.look) p) ∙ ready
 
 -- the session of a row that is ready is not remembered
-pub lacking_is : (cache : List CachedSession) (d : DeviceId) (input : Input) (journal : List Entry) (asked : Asked) (peeked : Peeked) → asked ≡ asked_of input → peeked ≡ peeked_of journal asked → peeked.look ≡ looks.Ready → None ≡ session_in cache d peeked.version → must_read cache d input journal ≡ true
+lacking_is : (cache : List CachedSession) (d : DeviceId) (input : Input) (journal : List Entry) (asked : Asked) (peeked : Peeked) → asked ≡ asked_of input → peeked ≡ peeked_of journal asked → peeked.look ≡ looks.Ready → None ≡ session_in cache d peeked.version → must_read cache d input journal ≡ true
 lacking_is cache d input journal asked peeked a p ready none =
     let lacking : session_in cache d (version_of journal) ≡ None = sym (none ∙ ap (λ (x : Peeked). session_in cache d x.version) p) in
     ap (λ l. lacks l (session_in cache d (version_of journal))) (ready_is input journal asked peeked a p ready) ∙ ap (lacks looks.Ready) lacking
+
+-- so the store is read behind the peek
+pub reads_behind : {cache : List CachedSession} {d : DeviceId} {input : Input} {known between now : List Entry} {reads peeks new_reads : ℕ} {asked : Asked} {peeked : Peeked} → Begins known between → asked ≡ asked_of input → peeked ≡ peeked_of between asked → peeked.look ≡ looks.Ready → None ≡ session_in cache d peeked.version → peeks ≡ reads → Begins between now → new_reads ≡ one_more peeks → ReadsBehind cache d input known now reads new_reads
+reads_behind {cache} {d} {input} {known} {between} {now} {reads} {peeks} {new_reads} {asked} {peeked} later a p ready none same sooner counted = record {
+  peeked = between;
+  later = later;
+  sooner = sooner;
+  lacking = lacking_is cache d input between asked peeked a p ready none;
+  counted = counted ∙ ap one_more same;
+}
 
 -- it is remembered
 pub sufficing_is : (cache : List CachedSession) (d : DeviceId) (input : Input) (journal : List Entry) (asked : Asked) (peeked : Peeked) (session : Session) → asked ≡ asked_of input → peeked ≡ peeked_of journal asked → peeked.look ≡ looks.Ready → Some session ≡ session_in cache d peeked.version → must_read cache d input journal ≡ false
@@ -159,7 +169,7 @@ sufficing_is cache d input journal asked peeked session a p ready some =
 
 -- the step by a remembered session is that of the journal
 pub sight_is : (charter : CharterState) (cache : List CachedSession) (row : Subscriber) (d : DeviceId) (input : Input) (journal : List Entry) (asked : Asked) (peeked : Peeked) (session : Session) (step : Step) → asked ≡ asked_of input → peeked ≡ peeked_of journal asked → peeked.look ≡ looks.Ready → Some session ≡ session_in cache d peeked.version
-    → AreSessionsOf charter cache → IsLawful (follows_alone charter d.0) journal → step ≡ step_of row session input → record { peeked = peeked; step = Some step; fresh = None } ≡ sight_of row input journal None
+    → AreSessionsOf charter cache → IsLawful (follows_alone charter d.0) journal → step ≡ step_of row session input → record { peeked = peeked; step = Some step; fresh = None } ≡ sight_peeked row input journal
 sight_is charter cache row d input journal asked peeked session step a p ready some all l made =
     let same : session ≡ session_of journal = remembered_is charter cache d journal session all l (some ∙ ap (λ (x : Peeked). session_in cache d x.version) p) in
     let steps : Some step ≡ step_at row (session_of journal) input (look_to journal (asked_of input)) =

@@ -2,10 +2,10 @@
 ghost use Rattle.std.specs.Prelude.{◌≡◌, ℕ, IfOk, OnErr};
 ghost use Rattle.replica_worker.specs.Cache.{AreSessionsOf};
 ghost use Rattle.replica_worker.specs.Hands.{step_at};
-ghost use Rattle.replica_worker.specs.Replica.{sight_read, Sees, MayCount};
+ghost use Rattle.replica_worker.specs.Replica.{sight_in, Sees, MayCount};
 ghost use Rattle.session_store.specs.Charter.{follows_alone};
 ghost use Rattle.session_store.specs.Law.{IsLawful};
-ghost use Rattle.session_store.specs.Rows.{one_more, IsDevice, Begins};
+ghost use Rattle.session_store.specs.Rows.{IsDevice, Begins};
 ghost use Rattle.session_store.specs.Seen.{IsAsked, asked_of};
 
 use crate::cache::{Cache, CachedSession, fresh_at};
@@ -41,29 +41,16 @@ fn step_at(
     }
 }
 
-/// What is seen of the row where the store is read.
-fn read_row<S: RowStore<Law = EchoLaw>>(
-    row: &Subscriber,
-    d: DeviceId,
-    input: &Input,
-    store: &mut S,
-) -> Result<Sight, AllocError>
-    requires device { IsDevice (S.devices store.old) d.0 }
-    requires asked { IsAsked (asked_of input.now) }
-    ensures charter { S.charter store.new ≡ S.charter store.old }
-    ensures devices { S.devices store.new ≡ S.devices store.old }
-    ensures extends { (i : ℕ) → Begins (S.known store.old i) (S.known store.new i) }
-    ensures lawful { IsLawful (follows_alone (S.charter store.new) d.0) (S.known store.new d.0) }
-    ensures store { S.keeps store.old store.new }
-    ensures counted { S.reads store.new ≡ one_more (S.reads store.old) }
-    ensures ok { IfOk result (λ sight. sight ≡ sight_read row.now d input.now (S.known store.new d.0)) }
+/// What is seen by what a read of the store has told.
+fn sight_in(row: &Subscriber, d: DeviceId, input: &Input, seen: Seen) -> Result<Sight, AllocError>
+    ensures { IfOk result (λ sight. sight ≡ sight_in row.now d input.now seen) }
 {
     let Seen {
         version,
         session,
         look,
         reply,
-    } = store.read(d, asked_of(input))?;
+    } = seen;
     let step = step_at(row, &session, input, look)?;
     Ok(Sight {
         peeked: Peeked {
@@ -111,7 +98,8 @@ pub(crate) fn see<S: RowStore<Law = EchoLaw>>(
         });
     };
     let Some(session) = cache.session(d, peeked.version) else {
-        return read_row(row, d, input, store);
+        let seen = store.read(d, asked_of(input))?;
+        return sight_in(row, d, input, seen);
     };
     let step = step(row, session, input)?;
     Ok(Sight {

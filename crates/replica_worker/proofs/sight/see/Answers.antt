@@ -1,46 +1,44 @@
 use Rattle.std.proofs.Common.{◌≡◌, refl, sym, ap, ◌∙◌, subst, inl, inr}
 use Rattle.replica_worker.specs.declared.sight.Sight.{Sight}
-use Rattle.replica_worker.specs.Cache.{AreSessionsOf, ReadsBehind}
-use Rattle.replica_worker.specs.Replica.{sight_read, Sees, MayCount}
-use Rattle.replica_worker.proofs.Cached.{begins_trans, lacking_is, sufficing_is, sight_is, on_ok, at_err}
-use Rattle.session_store.specs.Rows.{one_more}
+use Rattle.replica_worker.specs.Cache.{AreSessionsOf}
+use Rattle.replica_worker.specs.Replica.{sight_in, Sees, MayCount}
+use Rattle.replica_worker.proofs.Cached.{begins_trans, reads_behind, sufficing_is, sight_is, on_ok, at_err}
+use Rattle.session_store.specs.Seen.{seen_of}
 use Rattle.replica_worker.proofs.sight.see.Goals as goal
+
+pub returns-in_err-seen-clause-extends : goal.returns-in_err-seen-clause-extends
+returns-in_err-seen-clause-extends g c = λ i.
+    begins_trans (g.S.RowStore.known c.args.store.now i) (g.S.RowStore.known c.peek.new.self i) (g.S.RowStore.known c.read.new.self i) (c.in_ok-peeked.ensures.extends i) (c.in_err-seen.ensures.extends i)
+
+pub returns-in_err-seen-clause-err : goal.returns-in_err-seen-clause-err
+returns-in_err-seen-clause-err g c =
+    let d = c.args.d in
+    let before = c.args.store.now in
+    let now = c.read.new.self in
+    at_err (MayCount c.args.cache.now d c.args.input.now (g.S.RowStore.known before d.0) (g.S.RowStore.known now d.0) (g.S.RowStore.reads before) (g.S.RowStore.reads now)) c.from_residual-in_err-seen.result
+    (inr (reads_behind (c.in_ok-peeked.ensures.extends c.args.d.0) c.asked_of.ensures c.in_ok-peeked.ensures.ok c.in-Ready.is c.in_default-session.ensures c.in_ok-peeked.ensures.uncounted (c.in_err-seen.ensures.extends c.args.d.0) c.in_err-seen.ensures.counted))
 
 pub returns-in_default-session-clause-extends : goal.returns-in_default-session-clause-extends
 returns-in_default-session-clause-extends g c = λ i.
-    begins_trans (g.S.RowStore.known c.args.store.now i) (g.S.RowStore.known c.peek.new.self i) (g.S.RowStore.known c.read_row.new.store i) (c.in_ok-peeked.ensures.extends i) (c.read_row.ensures.extends i)
+    begins_trans (g.S.RowStore.known c.args.store.now i) (g.S.RowStore.known c.peek.new.self i) (g.S.RowStore.known c.read.new.self i) (c.in_ok-peeked.ensures.extends i) (c.in_ok-seen.ensures.extends i)
 
 pub returns-in_default-session-clause-ok : goal.returns-in_default-session-clause-ok
 returns-in_default-session-clause-ok g c =
     let d = c.args.d in
     let before = c.args.store.now in
-    let between = c.peek.new.self in
-    let now = c.read_row.new.store in
-    let behind : ReadsBehind c.args.cache.now d c.args.input.now (g.S.RowStore.known before d.0) (g.S.RowStore.known now d.0) (g.S.RowStore.reads before) (g.S.RowStore.reads now) = record {
-      peeked = g.S.RowStore.known between d.0;
-      later = c.in_ok-peeked.ensures.extends d.0;
-      sooner = c.read_row.ensures.extends d.0;
-      lacking = lacking_is c.args.cache.now d c.args.input.now (g.S.RowStore.known between d.0) c.asked_of.result c.in_ok-peeked.peeked c.asked_of.ensures c.in_ok-peeked.ensures.ok c.in-Ready.is c.in_default-session.ensures;
-      counted = c.read_row.ensures.counted ∙ ap one_more c.in_ok-peeked.ensures.uncounted;
-    } in
-    on_ok (λ (s : Sight). s ≡ sight_read c.args.row.now d c.args.input.now (g.S.RowStore.known now d.0))
-    (λ (s : Sight). Sees c.args.cache.now c.args.row.now d c.args.input.now (g.S.RowStore.known before d.0) (g.S.RowStore.known now d.0) (g.S.RowStore.reads before) (g.S.RowStore.reads now) s) c.read_row.result
-    (λ s e. inr (behind, e)) c.read_row.ensures.ok
+    let now = c.read.new.self in
+    let told = c.in_ok-seen.ensures.ok ∙ ap (seen_of (g.S.RowStore.known now d.0)) c.asked_of-in_default-session.ensures in
+    on_ok (λ (s : Sight). s ≡ sight_in c.args.row.now d c.args.input.now c.in_ok-seen.seen)
+    (λ (s : Sight). Sees c.args.cache.now c.args.row.now d c.args.input.now (g.S.RowStore.known before d.0) (g.S.RowStore.known now d.0) (g.S.RowStore.reads before) (g.S.RowStore.reads now) s) c.sight_in.result
+    (λ s e. inr (reads_behind (c.in_ok-peeked.ensures.extends c.args.d.0) c.asked_of.ensures c.in_ok-peeked.ensures.ok c.in-Ready.is c.in_default-session.ensures c.in_ok-peeked.ensures.uncounted (c.in_ok-seen.ensures.extends c.args.d.0) c.in_ok-seen.ensures.counted, e ∙ ap (sight_in c.args.row.now d c.args.input.now) told)) c.sight_in.ensures
 
 pub returns-in_default-session-clause-err : goal.returns-in_default-session-clause-err
 returns-in_default-session-clause-err g c =
     let d = c.args.d in
     let before = c.args.store.now in
-    let between = c.peek.new.self in
-    let now = c.read_row.new.store in
-    let behind : ReadsBehind c.args.cache.now d c.args.input.now (g.S.RowStore.known before d.0) (g.S.RowStore.known now d.0) (g.S.RowStore.reads before) (g.S.RowStore.reads now) = record {
-      peeked = g.S.RowStore.known between d.0;
-      later = c.in_ok-peeked.ensures.extends d.0;
-      sooner = c.read_row.ensures.extends d.0;
-      lacking = lacking_is c.args.cache.now d c.args.input.now (g.S.RowStore.known between d.0) c.asked_of.result c.in_ok-peeked.peeked c.asked_of.ensures c.in_ok-peeked.ensures.ok c.in-Ready.is c.in_default-session.ensures;
-      counted = c.read_row.ensures.counted ∙ ap one_more c.in_ok-peeked.ensures.uncounted;
-    } in
-    at_err (MayCount c.args.cache.now d c.args.input.now (g.S.RowStore.known before d.0) (g.S.RowStore.known now d.0) (g.S.RowStore.reads before) (g.S.RowStore.reads now)) c.read_row.result (inr behind)
+    let now = c.read.new.self in
+    at_err (MayCount c.args.cache.now d c.args.input.now (g.S.RowStore.known before d.0) (g.S.RowStore.known now d.0) (g.S.RowStore.reads before) (g.S.RowStore.reads now)) c.sight_in.result
+    (inr (reads_behind (c.in_ok-peeked.ensures.extends c.args.d.0) c.asked_of.ensures c.in_ok-peeked.ensures.ok c.in-Ready.is c.in_default-session.ensures c.in_ok-peeked.ensures.uncounted (c.in_ok-seen.ensures.extends c.args.d.0) c.in_ok-seen.ensures.counted))
 
 pub returns-clause-ok : goal.returns-clause-ok
 returns-clause-ok g c =
