@@ -3,9 +3,9 @@ ghost use Rattle.std.specs.Prelude.{IfOk};
 ghost use Rattle.device_types.specs.Line.{IsLine};
 
 use device_types::{
-    Accept, Answer, Areas, Bearer, Body, Book, CauseCode, DeviceEnd, Down, Effect, GwCall, Input,
-    Key, Lane, Link, ListOf, Message, Messages, NasOut, Octets, Reply, Session, Stage, Step,
-    SubCall, Subscriber, TryCopy,
+    Accept, Answer, Areas, Bearer, Body, Book, CauseCode, DeviceEnd, Down, Effect, Entry, GwCall,
+    Input, Key, Lane, Link, ListOf, Message, Messages, NasOut, Octets, Offer, Reply, Session,
+    Stage, Step, SubCall, Subscriber, TryCopy,
 };
 use std::alloc::{AllocError, Global};
 use std::fmt::{Debug, Write};
@@ -25,6 +25,9 @@ Message { number: 1, station: 2, enb: 3, body: Response { res: ListOf { items: [
 Message { number: 2, station: 2, enb: 3, body: ReleaseAsked { cause: CauseCode { group: 0, extended: true, index: 63 } } }
 Answer { lane: Subscriber, k: 1, answer: Vectors(ListOf { items: [1] }, ListOf { items: [2] }, ListOf { items: [3] }, ListOf { items: [4] }) }
 Created(1, 2, 3)
+Accepted(Created(4, 5, 6))
+Repeat(Modified)
+Ahead(7)
 Nas { station: 1, enb: 2, nas: SecurityCommand { eea: 224, eia: 192 } }
 Setup { station: 1, enb: 2, dl: 3, ul: 4, sgw: 5, teid: 6, eea: 7, eia: 8, key: Key { octets: ListOf { items: [17] } }, accept: Yes { plmn: 9, tac: 10, pti: 11, ip: 12 } }
 Release { station: 1, enb: 2, cause: CauseCode { group: 2, extended: false, index: 1 } }
@@ -40,6 +43,12 @@ Reply { number: 1, version: 2, downs: ListOf { items: [Gateway(Create)] } }
 Step { session: Session { stage: Detached, link: Off, plmn: 0, tac: 0, eea: 0, eia: 0, pti: 0, res: ListOf { items: [] }, key: Key { octets: ListOf { items: [] } }, \
 dl: 0, ul: 0, sgw: 0, teid: 0, ip: 0, side_addr: 0, side_teid: 0, bearer: None, registered: false, off: false, \
 cause: CauseCode { group: 0, extended: false, index: 0 }, radio: 0 }, effects: ListOf { items: [Gateway(Create)] } }
+Entry { input: Message(Message { number: 4, station: 2, enb: 3, body: Service }), step: Step { session: Session { stage: Detached, link: Off, plmn: 0, tac: 0, eea: 0, eia: 0, pti: 0, res: ListOf { items: [] }, key: Key { octets: ListOf { items: [] } }, \
+dl: 0, ul: 0, sgw: 0, teid: 0, ip: 0, side_addr: 0, side_teid: 0, bearer: None, registered: false, off: false, \
+cause: CauseCode { group: 0, extended: false, index: 0 }, radio: 0 }, effects: ListOf { items: [Gateway(Create)] } } }
+Entry { input: Answer { lane: Gateway, k: 5, answer: Modified }, step: Step { session: Session { stage: Detached, link: Off, plmn: 0, tac: 0, eea: 0, eia: 0, pti: 0, res: ListOf { items: [] }, key: Key { octets: ListOf { items: [] } }, \
+dl: 0, ul: 0, sgw: 0, teid: 0, ip: 0, side_addr: 0, side_teid: 0, bearer: None, registered: false, off: false, \
+cause: CauseCode { group: 0, extended: false, index: 0 }, radio: 0 }, effects: ListOf { items: [Gateway(Create)] } } }
 DeviceEnd { messages: 1, steps: 2, downs: ListOf { items: [Release { station: 1, enb: 2, cause: CauseCode { group: 2, extended: false, index: 1 } }] }, \
 gateway: ListOf { items: [Modify(1, 2)] }, subscriber: ListOf { items: [Purge] }, session: Session { stage: Detached, link: Off, plmn: 0, tac: 0, eea: 0, eia: 0, pti: 0, res: ListOf { items: [] }, key: Key { octets: ListOf { items: [] } }, \
 dl: 0, ul: 0, sgw: 0, teid: 0, ip: 0, side_addr: 0, side_teid: 0, bearer: None, registered: false, off: false, \
@@ -248,6 +257,20 @@ fn step(alloc: Global) -> Result<Step, AllocError> {
     Ok(Step { session, effects })
 }
 
+fn entry(alloc: Global, input: Input) -> Result<Entry, AllocError> {
+    let step = step(alloc)?;
+    Ok(Entry { input, step })
+}
+
+/// The answer to a call of the gateway.
+fn modified() -> Input {
+    Input::Answer {
+        lane: Lane::Gateway,
+        k: 5,
+        answer: Answer::Modified,
+    }
+}
+
 fn end(alloc: Global) -> Result<DeviceEnd, AllocError> {
     let downs = list(alloc, release())?;
     let gateway = list(alloc, GwCall::Modify(1, 2))?;
@@ -277,7 +300,10 @@ fn put_inputs(alloc: Global, text: &mut String) -> Result<(), Fail> {
     let cause = cause(0, true, 63);
     put(text, Ok(message(2, Body::ReleaseAsked { cause })))?;
     put(text, vectors(alloc))?;
-    put(text, Ok(Answer::Created(1, 2, 3)))
+    put(text, Ok(Answer::Created(1, 2, 3)))?;
+    put(text, Ok(Offer::Accepted(Answer::Created(4, 5, 6))))?;
+    put(text, Ok(Offer::Repeat(Answer::Modified)))?;
+    put(text, Ok(Offer::Ahead(7)))
 }
 
 /// The copies of what goes out, and of what is kept of steps.
@@ -293,6 +319,11 @@ fn put_effects(alloc: Global, text: &mut String) -> Result<(), Fail> {
     put(text, connected(alloc))?;
     put(text, reply(alloc))?;
     put(text, step(alloc))?;
+    put(
+        text,
+        entry(alloc, Input::Message(message(4, Body::Service))),
+    )?;
+    put(text, entry(alloc, modified()))?;
     put(text, end(alloc))
 }
 
