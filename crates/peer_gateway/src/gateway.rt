@@ -53,15 +53,34 @@ impl Gateway {
         ensures err { OnErr result (self.new ≡ self.old) }
         ensures memory { OnErr result (k ≡ length (calls_of self.old row.now.number) + 1) }
     {
+        let offer = self.says(row, k, call);
         let d = DeviceId(row.number);
         match self.done.arrival(d, k) {
             Arrival::Next => {
                 let creates = creates_in(self.done.calls(d));
                 self.done.accept(d, Counted { call, creates })?;
-                Ok(Offer::Accepted(answer(row, creates, call)))
+                Ok(offer)
             }
-            Arrival::Repeat => Ok(Offer::Repeat(self.answer(row, k))),
-            Arrival::Ahead(last) => Ok(Offer::Ahead(last)),
+            Arrival::Repeat | Arrival::Ahead(_) => Ok(offer),
+        }
+    }
+
+    /// What it says to call `k` of the device of this row, `k` from 1, before anything is accepted. It takes no memory.
+    pub fn says(&self, row: &Subscriber, k: u64, call: GwCall) -> Offer
+        requires device { IsWithin (length self.now) row.now.number }
+        requires tunnel { row.now.teid ≤ 4000000000 }
+        requires number { 1 ≤ k }
+        requires count { k < 268435456 }
+        ensures { result ≡ offer_of (gateway_answer_of row.now) (calls_of self.now row.now.number) k call }
+    {
+        let d = DeviceId(row.number);
+        match self.done.arrival(d, k) {
+            Arrival::Next => {
+                let creates = creates_in(self.done.calls(d));
+                Offer::Accepted(answer(row, creates, call))
+            }
+            Arrival::Repeat => Offer::Repeat(self.answer(row, k)),
+            Arrival::Ahead(last) => Offer::Ahead(last),
         }
     }
 

@@ -63,11 +63,28 @@ impl SubscriberPeer {
         ensures err { OnErr result (self.new ≡ self.old) }
         ensures memory { OnErr result (k ≤ length (calls_of self.old row.now.number) + 1) }
     {
+        let offer = self.says(row, k, call)?;
         let d = DeviceId(row.number);
         match self.done.arrival(d, k) {
             Arrival::Next => {
-                let answer = answer(row, call)?;
                 self.done.accept(d, call)?;
+                Ok(offer)
+            }
+            Arrival::Repeat | Arrival::Ahead(_) => Ok(offer),
+        }
+    }
+
+    /// What it says to call `k` of the device of this row, `k` from 1, before anything is accepted. It fails for want of memory alone,
+    /// and takes none for a call that is ahead.
+    pub fn says(&self, row: &Subscriber, k: u64, call: SubCall) -> Result<Offer, AllocError>
+        requires device { IsWithin (length self.now) row.now.number }
+        requires number { 1 ≤ k }
+        ensures offer { IfOk result (λ offer. offer ≡ offer_of (subscriber_answer_of row.now) (calls_of self.now row.now.number) k call) }
+        ensures memory { OnErr result (k ≤ length (calls_of self.now row.now.number) + 1) }
+    {
+        match self.done.arrival(DeviceId(row.number), k) {
+            Arrival::Next => {
+                let answer = answer(row, call)?;
                 Ok(Offer::Accepted(answer))
             }
             Arrival::Repeat => Ok(Offer::Repeat(self.answer(row, k)?)),

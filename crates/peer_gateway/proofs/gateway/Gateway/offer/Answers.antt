@@ -1,10 +1,7 @@
 use Rattle.std.proofs.Common.{ap, sym, ◌∙◌, subst, map}
 use Rattle.device_types.specs.PeerAnswer.{create_count}
-use Rattle.peer_calls.specs.Calls.{calls_of, arrival_of}
-use Rattle.peer_calls.proofs.Offers.{offer_again}
 use Rattle.peer_gateway.specs.Counted.{effect_in, AreCounted}
-use Rattle.peer_gateway.specs.Gateway.{gateway_answer_of}
-use Rattle.peer_gateway.proofs.Counting.{all_counted, done_within, done_counted, said_next, calls_next}
+use Rattle.peer_gateway.proofs.Counting.{all_counted, done_within, calls_next}
 use Rattle.peer_gateway.proofs.gateway.Gateway.offer.Goals as goal
 
 pub invariant_of-self-in-Next : goal.invariant_of-self-in-Next
@@ -13,15 +10,5 @@ invariant_of-self-in-Next c =
     (all_counted c.self.inside.done c.args.row.now.number _ (done_within c.self.inside.done _ c.args.row.now.number c.self.view_is c.requires.device) c.self.invariant
     (c.creates_in-creates.ensures ∙ ap (λ xs. create_count (map effect_in xs)) c.calls.ensures))
 
-pub returns-in_ok-accept-in-Next-clause-offer : goal.returns-in_ok-accept-in-Next-clause-offer
-returns-in_ok-accept-in-Next-clause-offer c =
-    said_next c.args.row.now c.self.inside.done _ c.args.k c.args.call c.creates_in-creates.result c.answer.result c.self.view_is c.in-Next.ensures
-    (c.creates_in-creates.ensures ∙ ap (λ xs. create_count (map effect_in xs)) c.calls.ensures) c.answer.ensures
-
 pub returns-in_ok-accept-in-Next-clause-calls : goal.returns-in_ok-accept-in-Next-clause-calls
 returns-in_ok-accept-in-Next-clause-calls c = calls_next c.self.inside.done c.accept.new.self _ c.args.row.now.number c.args.k _ c.self.view_is c.in_ok-accept-in-Next.ensures.ok c.in-Next.ensures
-
-pub returns-in-Repeat-clause-offer : goal.returns-in-Repeat-clause-offer
-returns-in-Repeat-clause-offer c =
-    offer_again (gateway_answer_of c.args.row.now) (calls_of c.args.self.now c.args.row.now.number) c.args.k c.args.call c.answer-in-Repeat.result
-    (c.in-Repeat.ensures ∙ ap (λ n. arrival_of n c.args.k) (done_counted c.self.inside.done _ c.args.row.now.number c.self.view_is)) c.answer-in-Repeat.ensures

@@ -5,10 +5,10 @@ use Rattle.peer_calls.specs.Calls.{calls_of, arrival_of, offer_of}
 use Rattle.peer_calls.proofs.Offers.{offer_next, offer_again}
 use Rattle.peer_subscriber.specs.Server.{subscriber_answer_of}
 use Rattle.peer_subscriber.proofs.Answers.{answer_next}
-use Rattle.peer_subscriber.proofs.server.SubscriberPeer.offer.Goals as goal
+use Rattle.peer_subscriber.proofs.server.SubscriberPeer.says.Goals as goal
 
-pub returns-in_ok-accept-in-Next-clause-offer : goal.returns-in_ok-accept-in-Next-clause-offer
-returns-in_ok-accept-in-Next-clause-offer c =
+pub returns-in_ok-answer-in-Next-clause-offer : goal.returns-in_ok-answer-in-Next-clause-offer
+returns-in_ok-answer-in-Next-clause-offer c =
     let row = c.args.row.now in
     let calls = calls_of c.self.inside.done row.number in
     subst (λ (cs : List (List SubCall)). offer.Accepted c.in_ok-answer-in-Next.answer ≡ offer_of (subscriber_answer_of row) (calls_of cs row.number) c.args.k c.args.call) c.self.view_is
