@@ -31,7 +31,7 @@ lawful_front follows journal n l = λ v entry g.
     let r = get_take journal n v entry g in
     subst (λ (J : List Entry). follows J entry) (sym (take_take journal n v (omega (arith, r.0)))) (l v entry r.1)
 
-last_or_before : {X : Type 0} (xs : List X) (last x : X) (i : ℕ) → slice_get (xs ++ last ∷ []) i ≡ Some x → (i < length xs → slice_get xs i ≡ Some x) × (length xs ≤ i → (i ≡ length xs) × (last ≡ x))
+pub last_or_before : {X : Type 0} (xs : List X) (last x : X) (i : ℕ) → slice_get (xs ++ last ∷ []) i ≡ Some x → (i < length xs → slice_get xs i ≡ Some x) × (length xs ≤ i → (i ≡ length xs) × (last ≡ x))
 last_or_before xs last x i g =
     let within = slice_get_within (xs ++ last ∷ []) i x g in
     let count = length-append xs (last ∷ []) in (

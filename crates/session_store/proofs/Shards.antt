@@ -52,7 +52,7 @@ find_other (e ∷ es) d q row ne = other_by e es d q row (is_at (nat_cmp d) e.0)
 pub in_same : (rows : List (ℕ × RowState)) (d : ℕ) (row : RowState) → IsSome (find_row rows d) → row_in (with_row rows d row) d ≡ row
 in_same rows d row has = ap (λ o. unwrap_or o opening_row) (find_same rows d row has)
 
-in_other : (rows : List (ℕ × RowState)) (d q : ℕ) (row : RowState) → (d ≡ q → ⊥) → row_in (with_row rows d row) q ≡ row_in rows q
+pub in_other : (rows : List (ℕ × RowState)) (d q : ℕ) (row : RowState) → (d ≡ q → ⊥) → row_in (with_row rows d row) q ≡ row_in rows q
 in_other rows d q row ne = ap (λ o. unwrap_or o opening_row) (find_other rows d q row ne)
 
 -- a row that was found

@@ -1,0 +1,9 @@
+pub mod Columns
+pub mod Histories
+pub mod Items
+pub mod Offers
+pub mod PeerTurns
+pub mod StoreCalls
+pub mod StoreTurns
+pub mod Turns
+mod Worked

@@ -1,0 +1,22 @@
+use Rattle.std.proofs.Common.{◌≡◌, ◌<◌, ℕ, ◌∙◌, subst}
+use Rattle.front_lock.specs.declared.front.Front.{Front}
+use Rattle.front_lock.specs.Front.{basis_of, seats_of}
+use Rattle.store_shared.specs.declared.basis.ShardBasis.{ShardBasis}
+use Rattle.store_shared.specs.declared.store_shard.StoreShard.{StoreShard}
+use Rattle.store_shared.specs.declared.turn.Turn.{Turn}
+use Rattle.store_shared.specs.StoreBases.{store_basis}
+use Rattle.store_shared.specs.FrontRow.{SpeaksOnAll}
+use Rattle.store_shared.proofs.Columns.{all_of}
+use Rattle.store_shared.proofs.Turns.{closed_bases}
+use Rattle.store_shared.proofs.shared_store.SharedStore.close.Goals as goal
+
+pub returns-in-Ok-clause-charter : goal.returns-in-Ok-clause-charter
+returns-in-Ok-clause-charter g c =
+    let S = StoreShard g.row.L.Denot g.L.RowLaw in
+    let basis = store_basis {L = g.row.L.Denot} {h = g.L.RowLaw} in
+    closed_bases _ (λ (p : Front S Turn ShardBasis). basis_of basis p) basis (λ f s y closed. closed.basis_is) c.args.self.fronts.fronts.items c.args.seat.seats.items c.in-Ok.values.items c.in-Ok.ensures.ok ∙ c.args.self.based
+
+pub close-requires-clause-all : goal.close-requires-clause-all
+close-requires-clause-all g c =
+    all_of (λ (f : Front (StoreShard g.row.L.Denot g.L.RowLaw) Turn ShardBasis). seats_of f ≡ c.args.self.seats) (λ (f : Front (StoreShard g.row.L.Denot g.L.RowLaw) Turn ShardBasis). (n : ℕ) → n < seats_of f → SpeaksOnAll n c.args.seat.seats.items) c.args.self.fronts.fronts.items
+    (λ f e n lt. c.requires.all n (subst (λ (m : ℕ). n < m) e lt)) c.args.self.seated

@@ -1,0 +1,24 @@
+//! The rows of all devices, and their peers, in shards at which threads take turns. Each call is one turn, and is answered as a
+//! store, or as peers, of one thread would answer at its place of one history of the shard.
+#![tactic(auto)]
+
+mod basis;
+mod front_row;
+mod fronts;
+mod offer_job;
+mod peer_shard;
+mod peers;
+mod shared_peers;
+mod shared_store;
+mod store_jobs;
+mod store_shard;
+mod turn;
+
+pub use basis::{PeerBasis, ShardBasis};
+pub use front_row::{Fronts, FrontsSeat};
+pub use peer_shard::PeerShard;
+pub use peers::Peers;
+pub use shared_peers::{PeerSeat, SharedPeers};
+pub use shared_store::{SharedStore, StoreSeat};
+pub use store_shard::StoreShard;
+pub use turn::{Turn, TurnAnswer, TurnCall};
