@@ -1,0 +1,4 @@
+mod Crash
+mod Images
+mod Moments
+mod Runs

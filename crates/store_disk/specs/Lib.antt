@@ -1,0 +1,5 @@
+pub mod Disk
+pub mod Fuse
+pub mod FuseLaws
+pub mod Gate
+pub mod Moments
