@@ -250,11 +250,16 @@ fn tell_steps(alloc: Global, row: &mut Row<2>, told: &mut String) -> Result<(), 
     Ok(())
 }
 
+/// Does so with a new row.
+fn tell_new_steps(alloc: Global, told: &mut String) -> Result<(), Fail> {
+    let mut row = Row::new(alloc)?;
+    tell_steps(alloc, &mut row, told)
+}
+
 #[test]
 fn goes_on_from_its_versions(rt: HostRuntime) -> Result<(), Fail> {
-    let mut row = Row::new(rt.alloc())?;
     let mut told = String::new(rt.alloc());
-    tell_steps(rt.alloc(), &mut row, &mut told)?;
+    tell_new_steps(rt.alloc(), &mut told)?;
     assert_eq!(rt; told.as_str(), STEPS);
     Ok(())
 }
@@ -282,26 +287,48 @@ fn idle<const W: u64>(row: &Row<W>) -> Result<Session, AllocError>
     Ok(session)
 }
 
+/// The session of a new row.
+fn opening(alloc: Global) -> Result<Session, AllocError>
+    ensures { IfOk result IsSession }
+{
+    Row::<2>::new(alloc)?.session()
+}
+
+/// Writes message 1 for version 0, with that session.
+fn tell_session(
+    alloc: Global,
+    row: &mut Row<2>,
+    session: Session,
+    told: &mut String,
+) -> Result<(), AllocError>
+    requires { IsSession session }
+{
+    let effects = effects(alloc, "plain")?;
+    tell_step(row, 0, message(1), Step { session, effects }, told)
+}
+
+/// The octets before and behind a write of an idle session, and behind a stale one of the opening session.
+fn tell_lent(alloc: Global, row: &mut Row<2>, told: &mut String) -> Result<(), AllocError> {
+    tell_octets(row, told)?;
+    let session = idle(row)?;
+    tell_session(alloc, row, session, told)?;
+    tell_octets(row, told)?;
+    tell_session(alloc, row, opening(alloc)?, told)?;
+    tell_octets(row, told)
+}
+
+/// The octets that a new row lends.
+fn tell_new_lent(alloc: Global, told: &mut String) -> Result<(), AllocError> {
+    let mut row = Row::new(alloc)?;
+    tell_lent(alloc, &mut row, told)
+}
+
 /// The octets of the opening session, of one that a write made idle and registered (stage 14, at place 1; registered, at place 87),
 /// and of that one behind a stale write of another (`docs/FORMATS.md`, "Sessions").
 #[test]
 fn lends_the_octets_of_its_session(rt: HostRuntime) -> Result<(), Fail> {
-    let alloc = rt.alloc();
-    let mut row: Row<2> = Row::new(alloc)?;
-    let mut told = String::new(alloc);
-    tell_octets(&row, &mut told)?;
-    let opening = Step {
-        session: row.session()?,
-        effects: effects(alloc, "plain")?,
-    };
-    let step = Step {
-        session: idle(&row)?,
-        effects: effects(alloc, "plain")?,
-    };
-    tell_step(&mut row, 0, message(1), step, &mut told)?;
-    tell_octets(&row, &mut told)?;
-    tell_step(&mut row, 0, message(1), opening, &mut told)?;
-    tell_octets(&row, &mut told)?;
+    let mut told = String::new(rt.alloc());
+    tell_new_lent(rt.alloc(), &mut told)?;
     let wanted = "\
 96 octets 0:1
 Committed(1)
@@ -316,25 +343,40 @@ Stale { read: 0, current: 1 }
 /// How many messages the row takes whose memory is measured (README of `session_row`).
 const MANY: u64 = 100_000;
 
+/// The row takes so many messages, each of whose effects is settled three messages later. Told is what came of the last one.
+fn take_many(alloc: Global, row: &mut Row<4>, told: &mut String) -> Result<(), AllocError> {
+    for version in 0..MANY {
+        told.clear();
+        let effects = effects(alloc, "plain")?;
+        tell_write(row, version, message(version + 1), effects, told)?;
+        tell_settled(row, version.saturating_sub(2), told)?;
+    }
+    Ok(())
+}
+
+/// The last replies, whether each effect is there, and the octets.
+fn tell_last(row: &Row<4>, told: &mut String) -> Result<(), AllocError> {
+    for n in MANY - 4..MANY + 2 {
+        tell_reply(row, n, told)?;
+        let found = row.outbox().at(Lane::Down, n).is_some();
+        writeln!(told, "{found}")?;
+    }
+    tell_octets(row, told)
+}
+
+/// What a new row keeps of so many messages.
+fn tell_kept(alloc: Global, told: &mut String) -> Result<(), AllocError> {
+    let mut row = Row::new(alloc)?;
+    take_many(alloc, &mut row, told)?;
+    tell_last(&row, told)
+}
+
 /// A row that keeps four replies takes 100,000 messages, each of whose effects is settled three messages later: the last four
 /// replies are there, and the last three effects.
 #[test]
 fn keeps_the_last_of_many(rt: HostRuntime) -> Result<(), Fail> {
-    let alloc = rt.alloc();
-    let mut row: Row<4> = Row::new(alloc)?;
-    let mut told = String::new(alloc);
-    for version in 0..MANY {
-        told.clear();
-        let effects = effects(alloc, "plain")?;
-        tell_write(&mut row, version, message(version + 1), effects, &mut told)?;
-        tell_settled(&mut row, version.saturating_sub(2), &mut told)?;
-    }
-    for n in MANY - 4..MANY + 2 {
-        tell_reply(&row, n, &mut told)?;
-        let found = row.outbox().at(Lane::Down, n).is_some();
-        writeln!(told, "{found}")?;
-    }
-    tell_octets(&row, &mut told)?;
+    let mut told = String::new(rt.alloc());
+    tell_kept(rt.alloc(), &mut told)?;
     let wanted = "\
 Committed(100000)
 Upto(99997)

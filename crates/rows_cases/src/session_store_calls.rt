@@ -214,33 +214,51 @@ fn any_law(alloc: Global) -> Result<AnyLaw, AllocError> {
     law.copy()
 }
 
+/// A store of so many devices.
+fn opened(alloc: Global, devices: u32) -> Result<Store<AnyLaw>, AllocError>
+    ensures { IfOk result (λ store. length store.rows ≡ devices) }
+{
+    Store::new(alloc, any_law(alloc)?, devices)
+}
+
+fn write_twice_in_store(alloc: Global, told: &mut String) -> Result<(), AllocError> {
+    let mut store = opened(alloc, 2)?;
+    write_twice(alloc, &mut store, told)
+}
+
+fn write_twice_behind_another(alloc: Global, told: &mut String) -> Result<(), AllocError> {
+    let mut store = Raced {
+        rows: opened(alloc, 2)?,
+    };
+    write_twice(alloc, &mut store, told)
+}
+
+fn write_and_settle(alloc: Global, told: &mut String) -> Result<(), AllocError> {
+    let mut store = opened(alloc, 1)?;
+    write(alloc, &mut store, 1, told)?;
+    settle(&mut store, told)
+}
+
 #[test]
 fn one_of_two_writes_of_a_version_is_made(rt: HostRuntime) -> Result<(), Fail> {
-    let alloc = rt.alloc();
-    let mut store = Store::new(alloc, any_law(alloc)?, 2)?;
-    let mut told = String::new(alloc);
-    write_twice(alloc, &mut store, &mut told)?;
+    let mut told = String::new(rt.alloc());
+    write_twice_in_store(rt.alloc(), &mut told)?;
     assert_eq!(rt; told.as_str(), ONE_IS_MADE);
     Ok(())
 }
 
 #[test]
 fn another_writes_first(rt: HostRuntime) -> Result<(), Fail> {
-    let alloc = rt.alloc();
-    let rows = Store::new(alloc, any_law(alloc)?, 2)?;
-    let mut told = String::new(alloc);
-    write_twice(alloc, &mut Raced { rows }, &mut told)?;
+    let mut told = String::new(rt.alloc());
+    write_twice_behind_another(rt.alloc(), &mut told)?;
     assert_eq!(rt; told.as_str(), BOTH_ARE_STALE);
     Ok(())
 }
 
 #[test]
 fn an_effect_is_there_until_it_is_settled(rt: HostRuntime) -> Result<(), Fail> {
-    let alloc = rt.alloc();
-    let mut store = Store::new(alloc, any_law(alloc)?, 1)?;
-    let mut told = String::new(alloc);
-    write(alloc, &mut store, 1, &mut told)?;
-    settle(&mut store, &mut told)?;
+    let mut told = String::new(rt.alloc());
+    write_and_settle(rt.alloc(), &mut told)?;
     assert_eq!(rt; told.as_str(), SETTLED);
     Ok(())
 }
