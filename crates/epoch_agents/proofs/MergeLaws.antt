@@ -82,7 +82,7 @@ named_push streams turns entry k c named = all_pairs_push (λ x y. x.a ≡ y.a �
 
 -- ---- numbers
 
-range-more : (n a : ℕ) → range_with_len a (suc n) ≡ range_with_len a n ++ (a + n) ∷ []
+pub range-more : (n a : ℕ) → range_with_len a (suc n) ≡ range_with_len a n ++ (a + n) ∷ []
 range-more zero a = let e : a ≡ a + 0 = omega arith in ap (λ x. x ∷ []) e
 range-more (suc n) a = let e : a + 1 + n ≡ a + suc n = omega arith in ap (λ l. a ∷ l) (range-more n (a + 1) ∙ ap (λ x. range_with_len (a + 1) n ++ x ∷ []) e)
 

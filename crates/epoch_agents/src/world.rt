@@ -3,7 +3,7 @@ ghost use Rattle.std.specs.Prelude.{◌≡◌, ◌==◌, ◌<◌, ◌^◌, ◌++
 ghost use Rattle.epoch_agents.specs.declared.event.EpochEvent.{EpochEvent};
 ghost use Rattle.epoch_agents.specs.declared.event.EpochEvent.TheVariants as happens;
 ghost use Rattle.epoch_agents.specs.Answer.{IsEvent};
-ghost use Rattle.epoch_agents.specs.Counts.{merge};
+ghost use Rattle.epoch_agents.specs.Counts.{agent, merge};
 ghost use Rattle.epoch_agents.specs.Kept.{value_or};
 ghost use Rattle.epoch_agents.specs.Merge.{IsMerge};
 ghost use Rattle.epoch_agents.specs.World.{Answers, turns_in};
@@ -116,6 +116,13 @@ impl EpochWorld {
         ensures lawful { IsMerge self.now.streams result.now }
     {
         &self.merged
+    }
+
+    /// The stamp of the name under which the agent of a stream sends now, from 1. It takes no memory.
+    pub fn stamp(&self, a: u32) -> u64
+        ensures { result ≡ (agent a (turns_in self.now)).stamp }
+    {
+        value_or(&self.agents, a, Agent::new()).stamp
     }
 
     /// The agent of a stream puts message `n` on the link. For want of memory the world is as before.
