@@ -3,10 +3,11 @@
 ghost use Rattle.std.specs.Prelude.{◌≡◌, ◌<◌};
 ghost use Rattle.trace_gen.specs.Draws.{next_state, value};
 
-/// Draws from a state of 64 bits, which goes on with each.
+/// Draws from a state of 64 bits, which goes on with each: by a linear congruential generator, of whose states the upper 31 bits are
+/// used. Made cases and the events of streams are drawn so.
 #[derive(Debug, Drop)]
 pub struct Draws {
-    /// The state.
+    /// The state. A number from which something is drawn is the first one.
     pub state: u64,
 }
 
@@ -21,7 +22,7 @@ fn next_state(state: u64) -> u64
 }
 
 impl Draws {
-    /// A number below `m`.
+    /// A number below `m`. It takes no memory.
     pub fn draw(&mut self, m: u64) -> u64
         requires { 0 < m }
         ensures value { result ≡ value m (next_state self.old.state) }

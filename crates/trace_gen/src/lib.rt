@@ -12,4 +12,5 @@ mod script;
 mod subscribers;
 mod trace;
 
+pub use draws::Draws;
 pub use made::make_case;
