@@ -1,4 +1,5 @@
 pub mod Device
+pub mod Epochs
 pub mod Final
 pub mod Lines
 pub mod Session

@@ -6,10 +6,9 @@ ghost use Rattle.device_types.specs.Down.{IsDown};
 ghost use Rattle.device_types.specs.Subscriber.{IsSubscriber};
 ghost use Rattle.report_text.specs.Lines.{ended, numbered, hex_filled};
 ghost use Rattle.report_text.specs.Device.{device_line, down_line, station_of, sent_line, gateway_line, subscriber_line};
-ghost use Rattle.report_text.specs.Session.{session_line};
 ghost use Rattle.report_text.specs.Final.{device_text};
 
-use crate::session::SessionLine;
+use crate::session::{SessionLine, put_session};
 use device_types::{DeviceEnd, Down, GwCall, SubCall, Subscriber};
 use echo_base::OutOfMemory;
 use entry_edge::down_bytes;
@@ -211,13 +210,6 @@ fn put_subscriber(text: &mut String, calls: &[SubCall]) -> Result<(), OutOfMemor
         put_subscriber_line(text, number, *call)?;
     }
     Ok(())
-}
-
-/// Puts the last line of a device behind a text.
-fn put_session(text: &mut String, line: SessionLine) -> Result<(), OutOfMemory>
-    ensures { OnOk result (string_bytes text.new ≡ string_bytes text.old ++ ended (session_line line.entry.0.now)) }
-{
-    writeln!(text, "{line}")
 }
 
 /// Puts what became of a device behind a text.

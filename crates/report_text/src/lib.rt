@@ -2,6 +2,7 @@
 #![tactic(auto)]
 
 mod device;
+mod epochs;
 mod session;
 mod show;
 mod status;
@@ -9,6 +10,8 @@ mod summary;
 mod transcript;
 mod whole;
 
+pub use epochs::{epoch_line, merge_line};
+pub use session::session_line;
 pub use show::show_text;
 pub use status::status_line;
 pub use summary::{Scheduled, Summary, summary_line};

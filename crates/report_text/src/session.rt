@@ -1,10 +1,12 @@
 //! The line of a session.
 
-ghost use Rattle.std.specs.Prelude.{◌≡◌, Some};
-ghost use Rattle.report_text.specs.Lines.{hex_filled};
+ghost use Rattle.std.specs.Prelude.{◌≡◌, ◌++◌, Some, IfOk, OnOk, string_bytes};
+ghost use Rattle.report_text.specs.Lines.{ended, hex_filled};
 ghost use Rattle.report_text.specs.Session.{stage_name, link_text, bearer_name, session_front, session_back, session_line};
 
-use device_types::{Bearer, Link, Session, Stage};
+use device_types::{Bearer, Link, Octets, Session, Stage};
+use echo_base::OutOfMemory;
+use std::alloc::Global;
 use std::fmt;
 
 /// The name of a stage.
@@ -115,4 +117,21 @@ impl fmt::Display for SessionLine<'_> {
         let back = SessionBack(self.0);
         write!(f, "{front} {back}")
     }
+}
+
+/// Puts the line of a session behind a text.
+pub(crate) fn put_session(text: &mut String, line: SessionLine) -> Result<(), OutOfMemory>
+    ensures { OnOk result (string_bytes text.new ≡ string_bytes text.old ++ ended (session_line line.entry.0.now)) }
+{
+    writeln!(text, "{line}")
+}
+
+/// The line of a session, with the LF that ends it: `session STAGE link LINK area PLMN TAC bearer BEARER radio N`, where N is the count of
+/// octets of the radio capability.
+pub fn session_line(alloc: Global, session: &Session) -> Result<Octets, OutOfMemory>
+    ensures { IfOk result (λ line. line ≡ ended (session_line session.now)) }
+{
+    let mut text = String::new(alloc);
+    put_session(&mut text, SessionLine(session))?;
+    Ok(Octets::from(text.into_bytes()))
 }
