@@ -1,0 +1,4 @@
+pub mod StreamLaws
+pub mod CourseLaws
+pub mod TextLaws
+pub mod Worked

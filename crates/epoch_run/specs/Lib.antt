@@ -1,0 +1,4 @@
+pub mod Drawn
+pub mod State
+pub mod Streams
+pub mod Text
