@@ -10,6 +10,8 @@ mod entry_edge_downs;
 #[cfg(test)]
 mod report_text_calls;
 #[cfg(test)]
+mod report_text_epochs;
+#[cfg(test)]
 mod report_text_lines;
 #[cfg(test)]
 mod report_text_summaries;
