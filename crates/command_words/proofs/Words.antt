@@ -13,7 +13,7 @@ use Rattle.std.proofs.lemmas.Str.Parse.{IsNumeralModel, numerals_by_value, parse
 use Rattle.std.proofs.lemmas.Str.{IsUtf8-from_ascii}
 use Rattle.std.proofs.lemmas.Fmt.{IsAscii-from_digits}
 use Rattle.command_words.specs.declared.command.Word.{Word}
-use Rattle.command_words.specs.declared.command.Word.TheVariants.{Plain, Replay, Show, Make}
+use Rattle.command_words.specs.declared.command.Word.TheVariants.{Plain, Replay, Show, Make, Epochs}
 use Rattle.command_words.specs.Command.{are_of, command_by, IsInLimits}
 use Rattle.command_words.specs.Options.{is_value, number_of, number_in, value_in}
 
@@ -64,6 +64,10 @@ unfolding are_of command_by number_in
 in_limits Plain words e = tt
 in_limits Replay words e = number_within 1 16 2 (value_in (codes "replicas") words) (omega arith) (omega arith)
 in_limits Show words e = tt
+in_limits Epochs words e = (
+  number_within 1 4096 1 (value_in (codes "device") words) (omega arith) (omega arith),
+  (number_within 0 100000 100 (value_in (codes "events") words) (omega arith) (omega arith)).1,
+)
 in_limits Make words e = (
   (number_within 1 800 1 (value_in (codes "devices") words) (omega arith) (omega arith)).0,
   leb-true _ _ (and_second _ _ e),

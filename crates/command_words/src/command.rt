@@ -37,6 +37,15 @@ pub enum Command {
         /// Is its text wanted, and not the summary of its replay?
         text: bool,
     },
+    /// What drawn events of the streams of a device come to.
+    Epochs {
+        /// The device, from 1.
+        device: u32,
+        /// The number that the events are drawn from.
+        number: u32,
+        /// How many events are drawn.
+        events: u32,
+    },
 }
 
 /// The first word of a command.
@@ -46,6 +55,7 @@ enum Word {
     Replay,
     Show,
     Make,
+    Epochs,
 }
 
 /// The command of that name.
@@ -57,6 +67,7 @@ fn word_of(name: &str) -> Option<Word>
         "replay" => Some(Word::Replay),
         "show" => Some(Word::Show),
         "make" => Some(Word::Make),
+        "epochs" => Some(Word::Epochs),
         _ => None,
     }
 }
@@ -69,6 +80,7 @@ fn options_of(word: Word) -> &'static [Name]
         Word::Plain | Word::Show => &[],
         Word::Replay => &[Name::Replicas],
         Word::Make => &[Name::Number, Name::Devices, Name::Rounds, Name::Text],
+        Word::Epochs => &[Name::Device, Name::Number, Name::Events],
     }
 }
 
@@ -77,7 +89,7 @@ fn is_small(word: Word, words: &[String]) -> bool
     ensures { result ≡ is_small word (map string_bytes words.now) }
 {
     match word {
-        Word::Plain | Word::Replay | Word::Show => true,
+        Word::Plain | Word::Replay | Word::Show | Word::Epochs => true,
         Word::Make => {
             let devices = u64::from(number_in(words, Name::Devices));
             let rounds = u64::from(number_in(words, Name::Rounds));
@@ -110,6 +122,11 @@ fn command_from(word: Word, matches: &ArgMatches<'_>) -> Command
             devices: number(matches, Name::Devices),
             rounds: number(matches, Name::Rounds),
             text: matches.get_flag(text_of(Name::Text)),
+        },
+        Word::Epochs => Command::Epochs {
+            device: number(matches, Name::Device),
+            number: number(matches, Name::Number),
+            events: number(matches, Name::Events),
         },
     }
 }

@@ -13,7 +13,7 @@ use std::str;
 pub(crate) enum Name {
     /// How many replicas there are.
     Replicas,
-    /// The number that a made case is made from.
+    /// The number that a made case is made from, or events are drawn from.
     Number,
     /// How many devices a made case has.
     Devices,
@@ -21,6 +21,10 @@ pub(crate) enum Name {
     Rounds,
     /// The made case itself is wanted.
     Text,
+    /// The device whose streams are taken.
+    Device,
+    /// How many events are drawn.
+    Events,
 }
 
 /// What an option takes.
@@ -49,6 +53,8 @@ pub(crate) fn text_of(name: Name) -> &'static str
         Name::Devices => "devices",
         Name::Rounds => "rounds",
         Name::Text => "text",
+        Name::Device => "device",
+        Name::Events => "events",
     }
 }
 
@@ -62,6 +68,8 @@ pub(crate) fn takes_of(name: Name) -> Takes
         Name::Devices => (1, 800, None),
         Name::Rounds => (0, 799, None),
         Name::Text => return Takes::Nothing,
+        Name::Device => (1, 4096, None),
+        Name::Events => (0, 100_000, Some(100)),
     };
     Takes::Number {
         least,

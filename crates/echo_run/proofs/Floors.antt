@@ -31,7 +31,7 @@ use Rattle.echo_run.specs.Replay.{setting_of, lines_from, transcript_of, IsRun}
 use Rattle.echo_run.specs.Summary.{made_replicas, scheduled_of, summary_by, summary_of}
 use Rattle.echo_run.specs.Top.{Tells}
 use Rattle.command_words.specs.declared.command.Command.{Command}
-use Rattle.command_words.specs.declared.command.Command.TheVariants.{Plain, Replay, Show, Make}
+use Rattle.command_words.specs.declared.command.Command.TheVariants.{Plain, Replay, Show, Make, Epochs}
 
 -- ---- what was given first is still there first
 
@@ -96,3 +96,4 @@ whole_world words (Make number devices rounds wanted) before after o text is run
     let ran = subst (λ (c : Command). Ran c told.octets true (setting_by o) (given_by o) (ends_by o)) same told.ran (false_from_ne_true wanted runs) in
     let rows = rows_of (lines_of told.octets) in
     whole (setting_of rows (admission.history rows (trace_of (lines_of told.octets))) made_replicas) ran.of_case (ran.exact_ends refl)
+whole_world words (Epochs device number events) before after o text is runs told whole = absurd (runs tt)

@@ -14,11 +14,12 @@ use Rattle.entry_edge.specs.Trace.{Turn, history, book_of, refused_of}
 use Rattle.device_machine.specs.Ends.{finals_of}
 use Rattle.schedule_laws.specs.Counts.{Turn as Answered}
 use Rattle.schedule_laws.specs.Setting.{Setting}
+use Rattle.epoch_run.specs.Text.{device_text}
 use Rattle.link_schedule.specs.World.{IsShort}
 use Rattle.report_text.specs.Show.{show_text}
 use Rattle.report_text.specs.Final.{final_text}
 use Rattle.command_words.specs.declared.command.Command.{Command}
-use Rattle.command_words.specs.declared.command.Command.TheVariants.{Plain, Replay, Show, Make}
+use Rattle.command_words.specs.declared.command.Command.TheVariants.{Plain, Replay, Show, Make, Epochs}
 use Rattle.echo_run.specs.declared.answer.NoText.{NoText}
 use Rattle.echo_run.specs.declared.answer.NoText.TheVariants as no
 use Rattle.echo_run.specs.Replay.{setting_of, transcript_of, told_of, IsRun}
@@ -40,12 +41,17 @@ plain_of rows H = final_text rows (refused_of H) (finals_of rows (book_of (lengt
 abbrev pub replay_of : List Subscriber → List Turn → List Event → ℕ → List ℕ
 replay_of rows H schedule replicas = transcript_of (setting_of rows H replicas) schedule ++ plain_of rows H
 
+-- what events come to that are drawn of the streams of a device
+abbrev pub epochs_of : List Subscriber → List Turn → ℕ → ℕ → ℕ → List ℕ
+epochs_of rows H device number events = device_text rows (book_of (length rows) H) device number events
+
 -- the case text itself is wanted, and not what comes of it
 abbrev pub is_case_wanted : Command → Bool
 is_case_wanted Plain = false
 is_case_wanted (Replay replicas) = false
 is_case_wanted Show = false
 is_case_wanted (Make number devices rounds text) = text
+is_case_wanted (Epochs device number events) = false
 
 -- the text that a command makes of a case
 unfoldable pub text_of : Command → List Subscriber → List TraceLine → List Event → List ℕ
@@ -53,6 +59,7 @@ text_of Plain rows trace schedule = plain_of rows (history rows trace)
 text_of (Replay replicas) rows trace schedule = replay_of rows (history rows trace) schedule replicas
 text_of Show rows trace schedule = show_text trace
 text_of (Make number devices rounds text) rows trace schedule = summary_by rows (history rows trace) schedule
+text_of (Epochs device number events) rows trace schedule = epochs_of rows (history rows trace) device number events
 
 abbrev pub unless_bad : Option (ℕ × Reason) → List ℕ → Result (List ℕ) (ℕ × ℕ)
 unless_bad None text = Ok text
@@ -72,6 +79,7 @@ text_on Plain rows trace schedule given ends = plain_of rows (history rows trace
 text_on (Replay replicas) rows trace schedule given ends = told_of rows (history rows trace) schedule given ends
 text_on Show rows trace schedule given ends = show_text trace
 text_on (Make number devices rounds text) rows trace schedule given ends = summary_on rows (history rows trace) schedule given ends
+text_on (Epochs device number events) rows trace schedule given ends = epochs_of rows (history rows trace) device number events
 
 -- the text of a case that is not refused
 unfoldable pub told_by : Command → List ℕ → List Answered → List DeviceEnd → Result (List ℕ) (ℕ × ℕ)
@@ -85,6 +93,7 @@ RunsOn Plain rows trace schedule exact setting given ends = Unit {0}
 RunsOn (Replay replicas) rows trace schedule exact setting given ends = IsRun rows (history rows trace) schedule replicas exact setting given ends
 RunsOn Show rows trace schedule exact setting given ends = Unit {0}
 RunsOn (Make number devices rounds text) rows trace schedule exact setting given ends = IsRun rows (history rows trace) schedule made_replicas exact setting given ends
+RunsOn (Epochs device number events) rows trace schedule exact setting given ends = Unit {0}
 
 -- `replay`, and `make` where its text is not wanted, ran the schedule of the case; of the other commands it says nothing
 unfoldable pub Ran : Command → List ℕ → Bool → Option Setting → List Answered → List DeviceEnd → Type 0
@@ -98,6 +107,7 @@ IsWithoutFloor Plain = Unit {0}
 IsWithoutFloor (Replay replicas) = ⊥
 IsWithoutFloor Show = Unit {0}
 IsWithoutFloor (Make number devices rounds text) = text ≡ true
+IsWithoutFloor (Epochs device number events) = Unit {0}
 
 -- that answer, unless memory ran out
 abbrev pub IsAnswer : Result (List ℕ) NoText → Result (List ℕ) (ℕ × ℕ) → Type 0

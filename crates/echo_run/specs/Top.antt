@@ -4,7 +4,7 @@ use Rattle.std.specs.Option.{option_or}
 use Rattle.std.specs.declared.alloc.Global.{Global}
 use Rattle.echo_base.specs.Outside.{IsTaken, IsAtEnd}
 use Rattle.command_words.specs.declared.command.Command.{Command}
-use Rattle.command_words.specs.declared.command.Command.TheVariants.{Plain, Replay, Show, Make}
+use Rattle.command_words.specs.declared.command.Command.TheVariants.{Plain, Replay, Show, Make, Epochs}
 use Rattle.command_words.specs.Command.{command_of}
 use Rattle.device_types.specs.declared.finals.DeviceEnd.{DeviceEnd}
 use Rattle.schedule_laws.specs.Counts.{Turn}
@@ -24,6 +24,7 @@ made_by Plain = None
 made_by (Replay replicas) = None
 made_by Show = None
 made_by (Make number devices rounds text) = Some (made_case number devices rounds)
+made_by (Epochs device number events) = None
 
 abbrev pub IsMaking : Command → Type 0
 IsMaking command = is_some (made_by command) ≡ true

@@ -4,7 +4,7 @@ ghost use Rattle.std.specs.Prelude.{◌≡◌, ◌≢◌, ◌≤◌, ℕ, length
 ghost use Rattle.echo_base.specs.Reason.{reason_number};
 ghost use Rattle.device_types.specs.Numbers.{IsWithin};
 ghost use Rattle.entry_edge.specs.Trace.{history};
-ghost use Rattle.echo_run.specs.Answer.{IsAdmitted, plain_of, replay_of, is_case_wanted, text_of, answer_of, text_on, told_by, RunsOn, Ran, IsWithoutFloor, IsAnswer, IsOfLine};
+ghost use Rattle.echo_run.specs.Answer.{IsAdmitted, plain_of, replay_of, epochs_of, is_case_wanted, text_of, answer_of, text_on, told_by, RunsOn, Ran, IsWithoutFloor, IsAnswer, IsOfLine};
 ghost use Rattle.command_words.specs.Command.{IsInLimits};
 ghost use Rattle.echo_run.specs.Replay.{told_of, IsRun};
 ghost use Rattle.echo_run.specs.Summary.{made_replicas, summary_by, summary_on};
@@ -20,6 +20,7 @@ use command_words::Command;
 use device_types::{Finals, Octets};
 use echo_base::{OutOfMemory, Reason};
 use entry_edge::{Admitted, admit};
+use epoch_run::device_text;
 use link_schedule::Floor;
 use report_text::{final_text, show_text};
 use std::alloc::Global;
@@ -147,6 +148,24 @@ fn summary<F: Floor>(alloc: Global, case: &Case, floor: &mut F) -> Result<Octets
     Ok(text)
 }
 
+/// What events come to that are drawn of the streams of a device. For a device that is no row the text is empty.
+fn epochs(
+    alloc: Global,
+    case: &Case,
+    device: u32,
+    number: u32,
+    events: u32,
+) -> Result<Octets, OutOfMemory>
+    requires device { 1 ≤ device }
+    requires few { events ≤ 100000 }
+    ensures { let turns = history case.now.table case.now.trace in
+        IfOk result (λ text. text ≡ epochs_of case.now.table turns device number events) }
+{
+    let table = case.table();
+    let admitted = admitted(alloc, case)?;
+    device_text(alloc, table.rows(), &admitted.book, device, number, events)
+}
+
 /// Is the case text itself wanted, and not what comes of it?
 fn is_case_wanted(command: Command) -> bool
     ensures { result ≡ is_case_wanted command }
@@ -175,6 +194,11 @@ fn text_of<F: Floor>(
         Command::Replay { replicas } => replay(alloc, case, replicas, floor),
         Command::Show => show_text(alloc, case.trace()),
         Command::Make { .. } => summary(alloc, case, floor),
+        Command::Epochs {
+            device,
+            number,
+            events,
+        } => epochs(alloc, case, device, number, events),
     }
 }
 

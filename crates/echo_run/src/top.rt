@@ -33,7 +33,7 @@ fn case_text<S: Source>(alloc: Global, command: Command, input: &mut S) -> Resul
     ensures no_fault { IsMaking command → (result ≢ Err ReadAll.ReadFault) × (result ≢ Err ReadAll.TooLong) }
 {
     match command {
-        Command::Plain | Command::Replay { .. } | Command::Show => {
+        Command::Plain | Command::Replay { .. } | Command::Show | Command::Epochs { .. } => {
             let octets = read_all(alloc, input, MOST_OCTETS)?;
             Ok(Octets::from(octets))
         }
@@ -66,7 +66,8 @@ fn put_text<K: Sink>(out: &mut K, text: &Octets) -> Status
 /// Makes a text of a case text, and writes it to the sink. The words, without the program's name, are the command: `plain` tells which
 /// lines of the trace are refused, and what becomes of the devices, whose calls are answered at once; `replay` first tells what each
 /// event of the schedule comes to, with two replicas, or as many as `--replicas` says, 1 to 16; `show` tells what the lines of the trace
-/// are. They read the case text from the source. `make` makes it, of `--number`, `--devices` and `--rounds`, and reads nothing: with
+/// are; `epochs` tells what events come to that are drawn of the streams of `--device` from `--number`, 100 or as many as `--events`
+/// says, and what its session is then. They read the case text from the source. `make` makes it, of `--number`, `--devices` and `--rounds`, and reads nothing: with
 /// `--text` it is the text itself, and else a line that sums up its replay with two replicas.
 ///
 /// The statuses, in the order in which they are found: `Usage`, before anything is read; `ReadFault`, where the source failed;

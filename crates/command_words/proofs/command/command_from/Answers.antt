@@ -1,6 +1,6 @@
 use Rattle.std.proofs.Common.{◌∙◌, ap}
 use Rattle.clap.specs.Matches.{found_of, one_text}
-use Rattle.command_words.proofs.Commands.{replay_read, make_read}
+use Rattle.command_words.proofs.Commands.{replay_read, make_read, epochs_read}
 use Rattle.command_words.proofs.command.command_from.Goals as goal
 
 pub returns-in-Replay : goal.returns-in-Replay
@@ -8,3 +8,6 @@ returns-in-Replay c = λ words read. replay_read c.args.word words c.args.matche
 
 pub returns-in-Make : goal.returns-in-Make
 returns-in-Make c = λ words read. make_read c.args.word words c.args.matches.now c.number-in-Make.result c.number-in-Make-2.result c.number-in-Make-3.result c.text_of.result.now c.get_flag.result c.in-Make.is read c.number-in-Make.ensures c.number-in-Make-2.ensures c.number-in-Make-3.ensures c.text_of.ensures c.get_flag.ensures.value c.get_flag.ensures.other
+
+pub returns-in-Epochs : goal.returns-in-Epochs
+returns-in-Epochs c = λ words read. epochs_read c.args.word words c.args.matches.now c.number-in-Epochs.result c.number-in-Epochs-2.result c.number-in-Epochs-3.result c.in-Epochs.is read c.number-in-Epochs.ensures c.number-in-Epochs-2.ensures c.number-in-Epochs-3.ensures
