@@ -106,6 +106,8 @@ plain = [subscribers]|row-without-gateway = echo: case refused 21 BadColumn line
 show = [subscribers]|{ = echo: case refused 19 BadJson line 2
 show = [subscribers]|row|[schedule]|take 1 2 1 = echo: case refused 26 BadLine line 4
 plain = [schedule]|[trace] = echo: case refused 25 BadSection line 2
+epochs --device=1 --number=22830 --events=40 = [subscribers]|row|[trace]|1 attach|1 response|1 secured|2 service|2 request|1 service = event 1: void link|event 2: sent|event 3: sent|event 4: committed 1|event 5: sent|event 6: low 1|event 7: renamed 2|event 8: sent|event 9: sent|event 10: ahead 0|event 11: old|event 12: void link|event 13: void link|event 14: sent|event 15: sent|event 16: committed 2|event 17: committed 3|event 18: repeat 1|event 19: over 1|event 20: sent|event 21: void link|event 22: sent|event 23: repeat 1|event 24: sent|event 25: sent|event 26: void link|event 27: acked 1|event 28: void link|event 29: old|event 30: sent|event 31: void link|event 32: void link|event 33: sent|event 34: over|event 35: void link|event 36: void window|event 37: sent|event 38: void link|event 39: old|event 40: void link|merge 1 2 1 1|merge 2 1 1 1|merge 1 1 2 1|session authenticating link 1/1 area 02f839 1 bearer none radio 0
+epochs --events 14 --number 999 --device 2 = [subscribers]|row|second-row|[trace]|1 service|1 other|2 other|1 service = event 1: void link|event 2: sent|event 3: sent|event 4: sent|event 5: committed 1|event 6: low 1|event 7: sent|event 8: void link|event 9: repeat 1|event 10: void link|event 11: sent|event 12: void link|event 13: void link|event 14: low 1|merge 2 1 1 1|session authenticating link 2/1 area 02f839 1 bearer none radio 0
 ";
 
 /// The messages of the first subscriber from base station 1, and what becomes of the device: each row of the step table
@@ -234,6 +236,14 @@ fn no_text_gives_none(rt: HostRuntime) -> Result<(), Fail> {
     let mut told = String::new(alloc);
     tell_run(&mut told, alloc, "plain", b"", &[], &[])?;
     tell_run(&mut told, alloc, "replay", b"", &[], &[])?;
+    let (words, other) = (
+        "epochs --device=1 --number=1",
+        "epochs --device=2 --number=1",
+    );
+    let text = lines(alloc, "[subscribers]|row|[trace]")?;
+    tell_run(&mut told, alloc, words, text.as_bytes(), &[], &[])?;
+    let text = lines(alloc, "[subscribers]|row|[trace]|1 service")?;
+    tell_run(&mut told, alloc, other, text.as_bytes(), &[], &[])?;
     assert_eq!(rt; told.as_str(), "");
     Ok(())
 }

@@ -27,6 +27,11 @@ make --number=4294967295 --devices=1 --rounds=799: Make { number: 4294967295, de
 make --number=0000000001 --devices 0800 --rounds 00: Make { number: 1, devices: 800, rounds: 0, text: false }
 make --number=1 --devices=400 --rounds=1: Make { number: 1, devices: 400, rounds: 1, text: false }
 make --number=1 --devices=266 --rounds=2: Make { number: 1, devices: 266, rounds: 2, text: false }
+epochs --device=3 --number=7: Epochs { device: 3, number: 7, events: 100 }
+epochs --number 7 --events=40 --device 3: Epochs { device: 3, number: 7, events: 40 }
+epochs --events 0 --device=1 --number=0: Epochs { device: 1, number: 0, events: 0 }
+epochs --device=4096 --events=100000 --number 4294967295: Epochs { device: 4096, number: 4294967295, events: 100000 }
+epochs --number=08 --device 0000000009 --events=010: Epochs { device: 9, number: 8, events: 10 }
 ";
 
 /// Words that are no command, a line each. The first line has none.
@@ -135,6 +140,30 @@ make --Number=7 --devices=40 --rounds=19
 make -number=7 --devices=40 --rounds=19
 make 7 40 19
 --number=7 make --devices=40 --rounds=19
+make --number=7 --devices=40 --rounds=19 --events=1
+make --number=7 --device=40 --rounds=19
+plain --device=1
+replay --events=100
+epochs
+epochs --events=100
+epochs --device=1
+epochs --number=7 --events=100
+epochs --device=1 --number=7 --device=1
+epochs --device=1 --number=7 --number 7
+epochs --events=1 --device=1 --number=7 --events=1
+epochs --device=0 --number=7
+epochs --device=4097 --number=7
+epochs --device=1 --number=4294967296
+epochs --device=1 --number=7 --events=100001
+epochs --device=1 --number=7 --events=-1
+epochs --device=1 --number=7 --events=
+epochs --device=1 --number=7 --events
+epochs --devices=1 --number=7
+epochs --device=1 --number=7 --rounds=1
+epochs --device=1 --number=7 --text
+epochs --device=1 --number=7 100
+epochs 1 7
+--device=1 epochs --number=7
 ";
 
 /// The words of a line. A space parts the words, and an empty line has none.
