@@ -1,5 +1,5 @@
 -- Events that are drawn are events of the streams; and a course goes on by one event.
-use Rattle.std.proofs.Common.{◌≡◌, ◌==◌, ℕ, zero, suc, ◌+◌, ◌-◌, ◌*◌, ◌/◌, ◌%◌, ◌^◌, ◌≤◌, ◌<◌, Bool, true, false, cond, List, [], ◌∷◌, ◌++◌, length, Option, Some, None, refl, sym, ap, subst, ◌∙◌, arith}
+use Rattle.std.proofs.Common.{◌≡◌, ◌==◌, ℕ, zero, suc, ◌+◌, ◌/◌, ◌^◌, ◌≤◌, Bool, true, false, cond, List, [], ◌∷◌, ◌++◌, length, refl, sym, ap, subst, ◌∙◌, arith}
 use Rattle.std.specs.Prelude.{All}
 use Rattle.std.proofs.lemmas.List.{length-append}
 use Rattle.std.proofs.lemmas.List.Elements.{All-nil, All-push, All-get_or}
@@ -13,13 +13,11 @@ use Rattle.epoch_agents.specs.declared.stream.Merged.{Merged}
 use Rattle.epoch_agents.specs.declared.stream.Stream.{Stream}
 use Rattle.epoch_agents.specs.Answer.{answer, turn, history, IsEvent, Lawful}
 use Rattle.epoch_agents.specs.Counts.{Turn, is_committed, agent, merge}
-use Rattle.epoch_agents.specs.Streams.{no_stream, message_count}
-use Rattle.epoch_agents.specs.World.{WorldState, Answers, turns_in}
+use Rattle.epoch_agents.specs.World.{WorldState, turns_in}
 use Rattle.epoch_agents.proofs.HistoryLaws.{history_more}
 use Rattle.trace_gen.specs.Draws.{next_state, value}
-use Rattle.epoch_run.specs.Drawn.{Drawn, Course, arrival_of, and_some, arrivals, send_drawn, first_arrival, arrival_drawn, learn_drawn, event_by, event_drawn, next_drawn, and_event, course_of}
-use Rattle.epoch_run.specs.State.{AreDrawable, IsCourse, Takes, Steps, IsTold, next_of}
-use Rattle.epoch_run.specs.Streams.{IsNew}
+use Rattle.epoch_run.specs.Drawn.{Drawn, Course, arrival_of, and_some, arrivals, send_drawn, first_arrival, arrival_drawn, learn_drawn, event_by, event_drawn, next_drawn, course_of}
+use Rattle.epoch_run.specs.State.{AreDrawable, IsCourse, Takes, IsTold, next_of}
 use Rattle.epoch_run.specs.Text.{answers_text}
 use Rattle.report_text.specs.Epochs.{epoch_line}
 

@@ -3,11 +3,8 @@ use Rattle.std.proofs.Common.{◌≡◌, ℕ, true, false, List, [], ◌∷◌, 
 use Rattle.device_types.specs.declared.message.Body.{Body}
 use Rattle.device_types.specs.declared.message.Body.TheVariants as bodies
 use Rattle.device_types.specs.declared.message.Message.{Message}
-use Rattle.epoch_agents.specs.declared.event.EpochAnswer.{EpochAnswer}
 use Rattle.epoch_agents.specs.declared.event.EpochAnswer.TheVariants as told
-use Rattle.epoch_agents.specs.declared.event.EpochEvent.{EpochEvent}
 use Rattle.epoch_agents.specs.declared.event.EpochEvent.TheVariants.{Send, Arrive, Learn}
-use Rattle.epoch_agents.specs.declared.stream.Merged.{Merged}
 use Rattle.epoch_agents.specs.declared.stream.Stream.{Stream}
 use Rattle.epoch_agents.specs.Counts.{merge}
 use Rattle.trace_gen.specs.Draws.{next_state}

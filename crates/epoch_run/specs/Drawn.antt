@@ -1,6 +1,5 @@
 -- Events of streams that are drawn, each by the answers to those before it.
 use Rattle.std.specs.Prelude.{ℕ, zero, suc, ◌+◌, ◌==◌, List, [], ◌∷◌, ◌++◌, length, slice_index_or, Option, Some, None, if◌then◌else◌}
-use Rattle.epoch_agents.specs.declared.event.EpochAnswer.{EpochAnswer}
 use Rattle.epoch_agents.specs.declared.event.EpochAnswer.TheVariants as told
 use Rattle.epoch_agents.specs.declared.event.EpochEvent.{EpochEvent}
 use Rattle.epoch_agents.specs.declared.event.EpochEvent.TheVariants.{Send, Arrive, Learn}

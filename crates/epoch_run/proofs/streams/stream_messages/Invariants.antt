@@ -1,4 +1,4 @@
-use Rattle.std.proofs.Common.{◌≡◌, [], ◌∷◌, drop}
+use Rattle.std.proofs.Common.{◌≡◌, ◌∷◌, drop}
 use Rattle.std.specs.Prelude.{fold}
 use Rattle.epoch_run.specs.Streams.{and_message, numbered, onward}
 use Rattle.epoch_run.proofs.streams.stream_messages.Given as goal
