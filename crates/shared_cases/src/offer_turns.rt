@@ -1,0 +1,231 @@
+//! Offers of two seats at the peers of one device, whose messages are those of an attach up to the session.
+ghost use Rattle.std.specs.Prelude.{◌≡◌, ◌≤◌, ◌-◌, ◌∷◌, [], true, All, IfOk, IfSome, Some, slice_get};
+ghost use Rattle.std.specs.Arc.{arc_value};
+ghost use Rattle.device_machine.specs.Ends.{end_of};
+ghost use Rattle.device_types.specs.Alone.{alone_of};
+ghost use Rattle.device_types.specs.Journal.{effects_of};
+ghost use Rattle.device_types.specs.Line.{IsLine};
+ghost use Rattle.device_types.specs.Subscriber.{IsSubscriber};
+ghost use Rattle.session_store.specs.Charter.{IsShort};
+ghost use Rattle.store_shared.specs.FrontRow.{AreSeatsOf};
+ghost use Rattle.store_shared.specs.Legal.{is_call, lane_of};
+ghost use Rattle.store_shared.specs.PeerBases.{peer_basis};
+ghost use Rattle.store_shared.specs.PeerShards.{IsOffered};
+
+use device_machine::{end_has_the_lanes, end_of};
+use device_types::{
+    Answer, Body, Book, DeviceEnd, DeviceId, Effect, Lane, Message, Messages, Octets, Offer,
+    Subscriber, TryCopy,
+};
+use session_store::EchoLaw;
+use std::alloc::{AllocError, Global};
+use std::sync::Wait;
+use std::test::Fail;
+use store_shared::{PeerSeat, PeerShard, SharedPeers, TurnAnswer};
+use subs_table::{SubsTable, read_row};
+
+const ROW: &str =
+    r#"{"imsi":"208930000000001","tmsi":1,"rand":"000102030405060708090a0b0c0d0e0f","autn":"101112131415161718191a1b1c1d1e1f","res":"a0a1a2a3","key":"1111111111111111111111111111111111111111111111111111111111111111","apn":"internet","ip":"0a2d0001","sgw":"c0a80001","teid":1,"ambr_dl":1000000000,"ambr_ul":2000000000,"forbidden":[9]}"#;
+
+/// Seat 0 is ahead; seat 1 offers the first call, and seat 0 the same; then both calls that are next, each on its lane. Shard 1 has
+/// these five turns.
+const OFFERED: &str = "\
+seat 0 2: ahead of 0
+seat 1 1: accepted vectors
+seat 0 1: repeat vectors
+seat 0 2: accepted Located(1000000000, 2000000000)
+seat 1 1: accepted Created(3232235521, 1, 170721281)
+shard 1: seat 0 ahead of 0
+shard 1: seat 1 accepted vectors
+shard 1: seat 0 repeat vectors
+shard 1: seat 0 accepted Located(1000000000, 2000000000)
+shard 1: seat 1 accepted Created(3232235521, 1, 170721281)
+";
+
+fn message(number: u64, body: Body) -> Message {
+    Message {
+        number,
+        station: 1,
+        enb: 7,
+        body,
+    }
+}
+
+/// An attach, the response to the challenge, and that its security mode is complete.
+fn attach_line(alloc: Global) -> Result<Messages, AllocError>
+    ensures line { IfOk result IsLine }
+    ensures short { IfOk result IsShort }
+{
+    let res = Octets::from(Vec::from_array(alloc, [0xa0, 0xa1, 0xa2, 0xa3])?);
+    let mut line = Messages::new(alloc);
+    line.push(message(
+        1,
+        Body::Attach {
+            plmn: 31,
+            tac: 1,
+            eea: 32,
+            eia: 33,
+            pti: 34,
+        },
+    ))?;
+    line.push(message(2, Body::Response { res }))?;
+    line.push(message(3, Body::Secured))?;
+    Ok(line)
+}
+
+/// The peers of one device, and two seats.
+fn opened(
+    alloc: Global,
+    row: &Subscriber,
+    line: &Messages,
+) -> Result<(SharedPeers, Vec<PeerSeat>), Fail>
+    requires number { row.now.number ≡ 1 }
+    requires range { IsSubscriber row.now }
+    requires line { IsLine line.now }
+    requires short { IsShort line.now }
+    ensures charter { IfOk result (λ made. arc_value made.0.law.charter ≡ record { rows = row.now ∷ []; lines = line.now ∷ [] }) }
+    ensures seats { IfOk result (λ made. All (λ s. AreSeatsOf peer_basis made.0.fronts.fronts.items s.seats.items) made.1.items) }
+{
+    let mut table = SubsTable::new(alloc);
+    table.add(row.copy()?)?;
+    let mut book = Book::new(alloc);
+    book.push(line.copy()?)?;
+    let law = EchoLaw::new(alloc, &table, &book)?;
+    Ok(SharedPeers::new(alloc, law, &table, 2)?)
+}
+
+fn tell_answer(answer: &Answer, told: &mut String) -> Result<(), AllocError> {
+    match answer {
+        Answer::Vectors(_, _, _, _) => writeln!(told, "vectors"),
+        other => writeln!(told, "{other:?}"),
+    }
+}
+
+fn tell_offer(offer: &Offer, told: &mut String) -> Result<(), AllocError> {
+    match offer {
+        Offer::Accepted(answer) => {
+            write!(told, "accepted ")?;
+            tell_answer(answer, told)
+        }
+        Offer::Repeat(answer) => {
+            write!(told, "repeat ")?;
+            tell_answer(answer, told)
+        }
+        Offer::Ahead(last) => writeln!(told, "ahead of {last}"),
+    }
+}
+
+/// Call `k` of the device on a lane of a peer, if it has one.
+fn call_of(row: &Subscriber, line: &Messages, end: &DeviceEnd, lane: Lane, k: u64) -> Option<Effect>
+    requires end { end.now ≡ end_of row.now line.now }
+    requires number { 1 ≤ k }
+    ensures called { IfSome result (λ call. is_call call ≡ true) }
+    ensures law { IfSome result (λ call. slice_get (effects_of (lane_of call) (alone_of row.now line.now)) (k - 1) ≡ Some call) }
+{
+    end_has_the_lanes(row, line.items());
+    let place = k as usize - 1;
+    match lane {
+        Lane::Gateway => {
+            let call = end.gateway.items().get(place)?;
+            Some(Effect::Gateway(*call))
+        }
+        Lane::Subscriber => {
+            let call = end.subscriber.items().get(place)?;
+            Some(Effect::Subscriber(*call))
+        }
+        Lane::Down => None,
+    }
+}
+
+/// Offers call `k` of the device on a lane of a peer, if it has one, and tells what is said.
+fn offer<R: Wait>(
+    rt: &R,
+    peers: &SharedPeers,
+    seat: &mut PeerSeat,
+    k: u64,
+    call: Option<Effect>,
+    told: &mut String,
+) -> Result<(), AllocError>
+    requires seat { AreSeatsOf peer_basis peers.now.fronts.fronts.items seat.old.seats.items }
+    requires called { IfSome call (λ call. IsOffered (arc_value peers.now.law.charter) 1 1 k call) }
+    ensures { AreSeatsOf peer_basis peers.now.fronts.fronts.items seat.new.seats.items }
+{
+    let Some(call) = call else {
+        return Ok(());
+    };
+    let offer = peers.offer(rt, seat, DeviceId(1), k, call)?;
+    write!(told, "seat {} {k}: ", seat.number())?;
+    tell_offer(&offer, told)
+}
+
+/// The calls of the two seats.
+fn call_both<R: Wait>(
+    rt: &R,
+    peers: &SharedPeers,
+    first: &mut PeerSeat,
+    second: &mut PeerSeat,
+    row: &Subscriber,
+    line: &Messages,
+    told: &mut String,
+) -> Result<(), AllocError>
+    requires first { AreSeatsOf peer_basis peers.now.fronts.fronts.items first.old.seats.items }
+    requires second { AreSeatsOf peer_basis peers.now.fronts.fronts.items second.old.seats.items }
+    requires charter { arc_value peers.now.law.charter ≡ record { rows = row.now ∷ []; lines = line.now ∷ [] } }
+    requires range { IsSubscriber row.now }
+    requires short { IsShort line.now }
+    ensures first { AreSeatsOf peer_basis peers.now.fronts.fronts.items first.new.seats.items }
+    ensures second { AreSeatsOf peer_basis peers.now.fronts.fronts.items second.new.seats.items }
+{
+    let end = end_of(row, line.items())?;
+    let located = call_of(row, line, &end, Lane::Subscriber, 2);
+    offer(rt, peers, first, 2, located, told)?;
+    let vectors = call_of(row, line, &end, Lane::Subscriber, 1);
+    offer(rt, peers, second, 1, vectors, told)?;
+    let vectors = call_of(row, line, &end, Lane::Subscriber, 1);
+    offer(rt, peers, first, 1, vectors, told)?;
+    let located = call_of(row, line, &end, Lane::Subscriber, 2);
+    offer(rt, peers, first, 2, located, told)?;
+    let created = call_of(row, line, &end, Lane::Gateway, 1);
+    offer(rt, peers, second, 1, created, told)
+}
+
+/// Joins the two seats of the peers, and closes them. `None` where they are not their two.
+fn closed(peers: SharedPeers, mut into: PeerSeat, from: PeerSeat) -> Option<Vec<PeerShard>>
+    requires into { AreSeatsOf peer_basis peers.fronts.fronts.items into.seats.items }
+    requires from { AreSeatsOf peer_basis peers.fronts.fronts.items from.seats.items }
+{
+    if peers.seats() != 2 || into.number() != 0 || from.number() != 1 {
+        return None;
+    }
+    peers.join(&mut into, from).ok()?;
+    peers.close(into).ok()
+}
+
+/// All turns of all shards.
+fn tell_turns(shards: &[PeerShard], told: &mut String) -> Result<(), AllocError> {
+    for (number, shard) in shards.iter().enumerate() {
+        for turn in shard.turns() {
+            if let TurnAnswer::Offer(offer) = &turn.answer {
+                write!(told, "shard {number}: seat {} ", turn.seat)?;
+                tell_offer(offer, told)?;
+            }
+        }
+    }
+    Ok(())
+}
+
+#[test]
+fn an_offer_is_accepted_once(rt: HostRuntime) -> Result<(), Fail> {
+    let alloc = rt.alloc();
+    let mut told = String::new(alloc);
+    let row = read_row(alloc, ROW.as_bytes(), 1)?;
+    let line = attach_line(alloc)?;
+    let (peers, mut seats) = opened(alloc, &row, &line)?;
+    let mut second = seats.pop().ok_or("no seat 1")?;
+    let mut first = seats.pop().ok_or("no seat 0")?;
+    call_both(&rt, &peers, &mut first, &mut second, &row, &line, &mut told)?;
+    let shards = closed(peers, first, second).ok_or("not closed")?;
+    tell_turns(&shards, &mut told)?;
+    assert_eq!(rt; told.as_str(), OFFERED);
+    Ok(())
+}

@@ -1,0 +1,225 @@
+//! Turns at the shards of a store of 32 devices, in one thread and in two.
+ghost use Rattle.std.specs.Prelude.{◌≡◌, ◌≤◌, ◌<◌, All, IfOk, IfSome};
+ghost use Rattle.session_store.specs.Rows.{IsDevice};
+ghost use Rattle.store_shared.specs.FrontRow.{AreSeatsOf};
+ghost use Rattle.store_shared.specs.StoreBases.{store_basis};
+
+use crate::any_law::{AnyLaw, any_law, first_entry};
+use device_types::{DeviceId, Lane};
+use session_row::Commit;
+use session_store::Asked;
+use std::alloc::{AllocError, Global};
+use std::sync::Wait;
+use std::test::Fail;
+use std::thread;
+use std::thread::Threads;
+use store_shared::{SharedStore, StoreSeat, StoreShard, Turn, TurnAnswer};
+
+/// Both seats look at device 1, at version 0; seat 1 writes first, and seat 0 is stale: shard 1 has these four turns and no other.
+/// Devices 2 and 18 share shard 2: the write of one is not seen at the other. No other shard has a turn.
+const TURNS: &str = "\
+seat 0 read 1: 0 Ready
+seat 1 read 1: 0 Ready
+seat 1 write 1: Committed(1)
+seat 0 write 1: Stale { read: 0, current: 1 }
+seat 0 write 18: Committed(1)
+seat 0 peek 18: 1 Repeat(1)
+seat 1 peek 2: 0 Ready
+seat 0 push 18: true
+seat 0 settle 18: Old(0)
+shard 1: seat 0 on 1 read 0
+shard 1: seat 1 on 1 read 0
+shard 1: seat 1 on 1 Committed(1)
+shard 1: seat 0 on 1 Stale { read: 0, current: 1 }
+shard 2: seat 0 on 18 Committed(1)
+shard 2: seat 0 on 18 peeked 1
+shard 2: seat 1 on 2 peeked 0
+shard 2: seat 0 on 18 pushed true
+shard 2: seat 0 on 18 Old(0)
+";
+
+/// Two threads write version 0 of each of 32 devices, and peek at it: of each shard, how many turns it has, and how many writes were
+/// made.
+const THREADS: &str = "8 2;8 2;8 2;8 2;8 2;8 2;8 2;8 2;8 2;8 2;8 2;8 2;8 2;8 2;8 2;8 2;";
+
+/// Makes a call of the seat on a device, and tells what comes: of an input its message 1, of an effect its first down.
+fn call<R: Wait>(
+    rt: &R,
+    alloc: Global,
+    store: &SharedStore<AnyLaw>,
+    seat: &mut StoreSeat<AnyLaw>,
+    what: &str,
+    d: DeviceId,
+    told: &mut String,
+) -> Result<(), AllocError>
+    requires seat { AreSeatsOf store_basis store.now.fronts.fronts.items seat.old.seats.items }
+    requires device { IsDevice store.now.devices d.0 }
+    ensures { AreSeatsOf store_basis store.now.fronts.fronts.items seat.new.seats.items }
+{
+    write!(told, "seat {} {what} {}: ", seat.number(), d.0)?;
+    match what {
+        "read" => {
+            let seen = store.read(rt, seat, d, Asked::Message(1))?;
+            writeln!(told, "{} {:?}", seen.version, seen.look)
+        }
+        "peek" => {
+            let peeked = store.peek(rt, seat, d, Asked::Message(1))?;
+            writeln!(told, "{} {:?}", peeked.version, peeked.look)
+        }
+        "write" => {
+            let Ok(commit) = store.commit(rt, seat, d, 0, first_entry(alloc)?) else {
+                return Err(AllocError);
+            };
+            writeln!(told, "{commit:?}")
+        }
+        "push" => {
+            let effect = store.push(rt, seat, d, Lane::Down, 1)?;
+            writeln!(told, "{}", effect.is_some())
+        }
+        _ => {
+            let settled = store.settle(rt, seat, d, Lane::Down, 0)?;
+            writeln!(told, "{settled:?}")
+        }
+    }
+}
+
+/// Joins the two seats of a store, and closes it. `None` where they are not its two.
+fn closed(
+    store: SharedStore<AnyLaw>,
+    mut into: StoreSeat<AnyLaw>,
+    from: StoreSeat<AnyLaw>,
+) -> Option<Vec<StoreShard<AnyLaw>>>
+    requires into { AreSeatsOf store_basis store.fronts.fronts.items into.seats.items }
+    requires from { AreSeatsOf store_basis store.fronts.fronts.items from.seats.items }
+{
+    if store.seats() != 2 || into.number() != 0 || from.number() != 1 {
+        return None;
+    }
+    store.join(&mut into, from).ok()?;
+    store.close(into).ok()
+}
+
+fn tell_turn(turn: &Turn, told: &mut String) -> Result<(), AllocError> {
+    write!(told, "seat {} on {} ", turn.seat, turn.device.0)?;
+    match &turn.answer {
+        TurnAnswer::Read(seen) => writeln!(told, "read {}", seen.version),
+        TurnAnswer::Peek(peeked) => writeln!(told, "peeked {}", peeked.version),
+        TurnAnswer::Commit(commit) => writeln!(told, "{commit:?}"),
+        TurnAnswer::Push(effect) => writeln!(told, "pushed {}", effect.is_some()),
+        TurnAnswer::Settle(settled) => writeln!(told, "{settled:?}"),
+        TurnAnswer::Offer(offer) => writeln!(told, "{offer:?}"),
+    }
+}
+
+/// All turns of all shards.
+fn tell_turns(shards: &[StoreShard<AnyLaw>], told: &mut String) -> Result<(), AllocError> {
+    for (number, shard) in shards.iter().enumerate() {
+        for turn in shard.turns() {
+            write!(told, "shard {number}: ")?;
+            tell_turn(turn, told)?;
+        }
+    }
+    Ok(())
+}
+
+/// Both seats read version 0 of device 1, and write it; then each call at shard 2, where devices 2 and 18 lie.
+fn call_all<R: Wait>(
+    rt: &R,
+    alloc: Global,
+    store: &SharedStore<AnyLaw>,
+    first: &mut StoreSeat<AnyLaw>,
+    second: &mut StoreSeat<AnyLaw>,
+    told: &mut String,
+) -> Result<(), AllocError>
+    requires devices { store.now.devices ≡ 32 }
+    requires first { AreSeatsOf store_basis store.now.fronts.fronts.items first.old.seats.items }
+    requires second { AreSeatsOf store_basis store.now.fronts.fronts.items second.old.seats.items }
+    ensures first { AreSeatsOf store_basis store.now.fronts.fronts.items first.new.seats.items }
+    ensures second { AreSeatsOf store_basis store.now.fronts.fronts.items second.new.seats.items }
+{
+    call(rt, alloc, store, first, "read", DeviceId(1), told)?;
+    call(rt, alloc, store, second, "read", DeviceId(1), told)?;
+    call(rt, alloc, store, second, "write", DeviceId(1), told)?;
+    call(rt, alloc, store, first, "write", DeviceId(1), told)?;
+    call(rt, alloc, store, first, "write", DeviceId(18), told)?;
+    call(rt, alloc, store, first, "peek", DeviceId(18), told)?;
+    call(rt, alloc, store, second, "peek", DeviceId(2), told)?;
+    call(rt, alloc, store, first, "push", DeviceId(18), told)?;
+    call(rt, alloc, store, first, "settle", DeviceId(18), told)
+}
+
+#[test]
+fn two_seats_take_turns(rt: HostRuntime) -> Result<(), Fail> {
+    let alloc = rt.alloc();
+    let mut told = String::new(alloc);
+    let (store, mut seats) = SharedStore::new(alloc, any_law(alloc)?, 32, 2)?;
+    let mut second = seats.pop().ok_or("no seat 1")?;
+    let mut first = seats.pop().ok_or("no seat 0")?;
+    call_all(&rt, alloc, &store, &mut first, &mut second, &mut told)?;
+    let shards = closed(store, first, second).ok_or("not closed")?;
+    tell_turns(&shards, &mut told)?;
+    assert_eq!(rt; told.as_str(), TURNS);
+    Ok(())
+}
+
+/// Writes version 0 of each device, and peeks at it. `None` where memory ran out.
+fn work<R: Wait>(
+    rt: &R,
+    alloc: Global,
+    store: &SharedStore<AnyLaw>,
+    mut seat: StoreSeat<AnyLaw>,
+) -> Option<StoreSeat<AnyLaw>>
+    requires devices { store.now.devices ≡ 32 }
+    requires seat { AreSeatsOf store_basis store.now.fronts.fronts.items seat.seats.items }
+    ensures { IfSome result (λ s. AreSeatsOf store_basis store.now.fronts.fronts.items s.seats.items) }
+{
+    for index in 0..32 {
+        let d = DeviceId(index + 1);
+        let entry = first_entry(alloc).ok()?;
+        store.commit(rt, &mut seat, d, 0, entry).ok()?;
+        store.peek(rt, &mut seat, d, Asked::Message(1)).ok()?;
+    }
+    Some(seat)
+}
+
+/// The seats at work, each in a thread of its own where one can be made.
+fn work_in_threads<R: Threads + Wait + Sync>(
+    rt: &R,
+    alloc: Global,
+    store: &SharedStore<AnyLaw>,
+    seats: Vec<StoreSeat<AnyLaw>>,
+) -> Result<Vec<Option<StoreSeat<AnyLaw>>>, AllocError>
+    requires devices { store.now.devices ≡ 32 }
+    requires seats { All (λ s. AreSeatsOf store_basis store.now.fronts.fronts.items s.seats.items) seats.items }
+    ensures { IfOk result (λ left. All (λ o. IfSome o (λ s. AreSeatsOf store_basis store.now.fronts.fronts.items s.seats.items)) left.items) }
+{
+    thread::map_vec(rt, seats, &|seat| work(rt, alloc, store, seat))
+}
+
+/// Of each shard, how many turns it has, and how many writes were made.
+fn tell_counts(shards: &[StoreShard<AnyLaw>], told: &mut String) -> Result<(), AllocError> {
+    for shard in shards {
+        let mut made = 0u32;
+        for turn in shard.turns() {
+            if let TurnAnswer::Commit(Commit::Committed(_)) = turn.answer {
+                made = made.saturating_add(1);
+            }
+        }
+        write!(told, "{} {made};", shard.turns().len())?;
+    }
+    Ok(())
+}
+
+#[test]
+fn two_threads_take_turns(rt: HostRuntime) -> Result<(), Fail> {
+    let alloc = rt.alloc();
+    let mut told = String::new(alloc);
+    let (store, seats) = SharedStore::new(alloc, any_law(alloc)?, 32, 2)?;
+    let mut left = work_in_threads(&rt, alloc, &store, seats)?;
+    let second = left.pop().ok_or("no seat 1")?.ok_or("no memory")?;
+    let first = left.pop().ok_or("no seat 0")?.ok_or("no memory")?;
+    let shards = closed(store, first, second).ok_or("not closed")?;
+    tell_counts(&shards, &mut told)?;
+    assert_eq!(rt; told.as_str(), THREADS);
+    Ok(())
+}
