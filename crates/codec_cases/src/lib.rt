@@ -22,8 +22,6 @@ mod s1ap_messages_refused;
 #[cfg(test)]
 mod s1ap_messages_refused_ies;
 #[cfg(test)]
-mod s1ap_messages_tables;
-#[cfg(test)]
 mod s1ap_messages_uplink;
 #[cfg(test)]
 mod s1ap_messages_usual;

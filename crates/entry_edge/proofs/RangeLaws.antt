@@ -16,14 +16,14 @@ use Rattle.device_types.specs.Line.{number_of, IsLine}
 use Rattle.device_types.specs.Message.{IsBody, IsMessage}
 use Rattle.device_types.specs.Numbers.{IsWithin}
 use Rattle.case_form.specs.declared.case.TraceLine.{TraceLine}
-use Rattle.s1ap_ies.specs.Names as names
+use Rattle.s1ap_ies.specs.declared.names.TheConstants as names
 use Rattle.s1ap_ies.specs.declared.tai.Tai.{Tai}
 use Rattle.s1ap_ies.specs.declared.stmsi.Stmsi.{Stmsi}
 use Rattle.s1ap_ies.specs.declared.erab_done.ErabDone.{ErabDone}
 use Rattle.s1ap_ies.specs.Run.{IsTai, IsErabDone}
 use Rattle.s1ap_ies.proofs.Items.{dones_right}
 use Rattle.s1ap_pdu.specs.declared.pdu.Pdu.{Pdu}
-use Rattle.s1ap_pdu.specs.declared.pdu.Pdu.TheVariants.{InitialUeMessage, UplinkNasTransport, DownlinkNasTransport, InitialContextSetupRequest, InitialContextSetupResponse, InitialContextSetupFailure, UeContextReleaseRequest, UeContextReleaseCommand, UeContextReleaseComplete, UeCapabilityInfoIndication}
+use Rattle.s1ap_pdu.specs.declared.pdu.Pdu.TheVariants.{InitialUeMessage, UplinkNasTransport, InitialContextSetupResponse, InitialContextSetupFailure, UeContextReleaseRequest, UeContextReleaseComplete, UeCapabilityInfoIndication}
 use Rattle.s1ap_pdu.specs.Built.{message_at}
 use Rattle.s1ap_pdu.specs.Run.{IsRight, HasOctets}
 use Rattle.s1ap_pdu.proofs.Exact.{found_message}
@@ -105,14 +105,12 @@ sent_right : (end : ℕ) (p : Pdu) (s : Sent) → IsRight p → HasOctets p → 
 unfolding sent_of
 sent_right end (InitialUeMessage enb nas tai cgi rrc stmsi) s r o e = initial_right end enb tai stmsi (nas_of nas) s (omega (arith, r.0.0.0)) r.0.1.1.0.0 (nas_right nas (All-from_recursion (λ octet. octet < 256) nas o.1.0.1)) e
 sent_right end (UplinkNasTransport mme enb nas cgi tai) s r o e = uplink_right mme enb tai (nas_of nas) s (omega (arith, r.0.1.0.0)) r.0.1.1.1.1.0.0 (nas_right nas (All-from_recursion (λ octet. octet < 256) nas o.1.1.0.1)) e
-sent_right end (InitialContextSetupResponse mme enb done) s r o e = is_sent _ s (omega (arith, r.0.1.0.0), context_right (find (λ item. item.id == names.default_erab) done) (find_right IsErabDone (λ item. item.id == names.default_erab) done (dones_right (λ octets. Unit {0}) done r.0.1.1.0.0).2)) e
+sent_right end (InitialContextSetupResponse mme enb done) s r o e = is_sent _ s (omega (arith, r.0.1.0.0), context_right (find (λ item. item.id == names.DEFAULT_ERAB) done) (find_right IsErabDone (λ item. item.id == names.DEFAULT_ERAB) done (dones_right (λ octets. Unit {0}) done r.0.1.1.0.0).2)) e
 sent_right end (InitialContextSetupFailure mme enb cause) s r o e = is_sent _ s (omega (arith, r.0.1.0.0), tt) e
 sent_right end (UeContextReleaseRequest mme enb cause) s r o e = is_sent _ s (omega (arith, r.0.1.0.0), cause_left (code_of cause) r.0.1.1.0.0) e
 sent_right end (UeContextReleaseComplete mme enb) s r o e = is_sent _ s (omega (arith, r.0.1.0.0), tt) e
 sent_right end (UeCapabilityInfoIndication mme enb radio) s r o e = is_sent _ s (omega (arith, r.0.1.0.0), All-from_recursion (λ octet. octet < 256) radio o.1.1.0.1) e
-sent_right end (DownlinkNasTransport mme enb nas) s r o e = absurd (cc e)
-sent_right end (InitialContextSetupRequest mme enb rates bearers caps key) s r o e = absurd (cc e)
-sent_right end (UeContextReleaseCommand ids cause) s r o e = absurd (cc e)
+sent_right end _ s r o e = absurd (cc e)
 
 -- ---- what a line says
 

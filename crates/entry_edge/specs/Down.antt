@@ -7,7 +7,7 @@ use Rattle.device_types.specs.declared.down.Accept.{Accept}
 use Rattle.device_types.specs.declared.down.Accept.TheVariants as accept
 use Rattle.device_types.specs.declared.down.Down.{Down}
 use Rattle.device_types.specs.declared.down.Down.TheVariants.{Nas, Setup, Release}
-use Rattle.s1ap_ies.specs.Names as names
+use Rattle.s1ap_ies.specs.declared.names.TheConstants as names
 use Rattle.s1ap_ies.specs.declared.cause.Cause.{Cause}
 use Rattle.s1ap_ies.specs.declared.ue_ids.UeIds.TheVariants.{Pair}
 use Rattle.s1ap_ies.specs.declared.erab_to_setup.ErabToSetup.{ErabToSetup}
@@ -29,7 +29,7 @@ accept_of row (accept.Yes plmn tac pti ip) = Some (nas_written (AttachAccept plm
 
 -- the default bearer: QCI 9, priority 8, which neither pre-empts nor is pre-empted
 abbrev pub bearer_of : ℕ → ℕ → Option (List ℕ) → ErabToSetup
-bearer_of sgw teid nas = record { id = names.default_erab; qci = 9; arp = 32; address = sgw; teid = teid; nas = nas }
+bearer_of sgw teid nas = record { id = names.DEFAULT_ERAB; qci = 9; arp = 32; address = sgw; teid = teid; nas = nas }
 
 -- the message of a down; the device's MME UE S1AP ID is its row's number
 abbrev pub message_of : Subscriber → Down → Pdu

@@ -10,13 +10,13 @@ use Rattle.echo_base.specs.Answer.{◌>>=◌, refused}
 use Rattle.device_types.specs.declared.message.Body.{Body}
 use Rattle.device_types.specs.declared.message.Body.TheVariants.{Attach, Service, Area, Detach, Response, Secured, SecurityRefused, AttachDone, ContextDone, ContextFailed, ReleaseAsked, Released, Capability}
 use Rattle.device_types.specs.declared.cause.CauseCode.{CauseCode}
-use Rattle.s1ap_ies.specs.Names as names
+use Rattle.s1ap_ies.specs.declared.names.TheConstants as names
 use Rattle.s1ap_ies.specs.declared.cause.Cause.{Cause}
 use Rattle.s1ap_ies.specs.declared.tai.Tai.{Tai}
 use Rattle.s1ap_ies.specs.declared.stmsi.Stmsi.{Stmsi}
 use Rattle.s1ap_ies.specs.declared.erab_done.ErabDone.{ErabDone}
 use Rattle.s1ap_pdu.specs.declared.pdu.Pdu.{Pdu}
-use Rattle.s1ap_pdu.specs.declared.pdu.Pdu.TheVariants.{InitialUeMessage, UplinkNasTransport, DownlinkNasTransport, InitialContextSetupRequest, InitialContextSetupResponse, InitialContextSetupFailure, UeContextReleaseRequest, UeContextReleaseCommand, UeContextReleaseComplete, UeCapabilityInfoIndication}
+use Rattle.s1ap_pdu.specs.declared.pdu.Pdu.TheVariants.{InitialUeMessage, UplinkNasTransport, InitialContextSetupResponse, InitialContextSetupFailure, UeContextReleaseRequest, UeContextReleaseComplete, UeCapabilityInfoIndication}
 use Rattle.s1ap_pdu.specs.Built.{message_at}
 use Rattle.nas_kinds.specs.declared.nas_in.NasIn.{NasIn}
 use Rattle.nas_kinds.specs.declared.nas_in.NasIn.TheVariants.{AttachRequest, AttachComplete, DetachRequest, AreaRequest, AuthResponse, SecurityComplete, SecurityReject, ServiceRequest}
@@ -40,7 +40,7 @@ octets_of text = some_octets (decode_of text)
 
 -- An INITIAL UE MESSAGE carries a request, which says which device it is from. A SERVICE REQUEST says it by the S-TMSI; at the end of the PDU that is missing.
 abbrev pub service_from : ℕ → Option Stmsi → Result (Identity × Body) Refusal
-service_from end None = Err (record { reason = MissingIe names.stmsi; place = end })
+service_from end None = Err (record { reason = MissingIe names.STMSI; place = end })
 service_from end (Some stmsi) = Ok (Tmsi stmsi.tmsi, Service)
 
 abbrev pub request_of : ℕ → Tai → Option Stmsi → NasIn → Result (Identity × Body) Refusal
@@ -66,7 +66,7 @@ context_from None = ContextFailed
 context_from (Some done) = ContextDone done.address done.teid
 
 abbrev pub context_of : List ErabDone → Body
-context_of done = context_from (find (λ item. item.id == names.default_erab) done)
+context_of done = context_from (find (λ item. item.id == names.DEFAULT_ERAB) done)
 
 abbrev pub code_of : Cause → CauseCode
 code_of cause = record { group = cause.group; extended = cause.extended; index = cause.index }
@@ -90,9 +90,7 @@ sent_of end (InitialContextSetupFailure mme enb cause) = numbered mme enb Contex
 sent_of end (UeContextReleaseRequest mme enb cause) = numbered mme enb (ReleaseAsked (code_of cause))
 sent_of end (UeContextReleaseComplete mme enb) = numbered mme enb Released
 sent_of end (UeCapabilityInfoIndication mme enb radio) = numbered mme enb (Capability radio)
-sent_of end (DownlinkNasTransport mme enb nas) = wrong_direction
-sent_of end (InitialContextSetupRequest mme enb rates bearers caps key) = wrong_direction
-sent_of end (UeContextReleaseCommand ids cause) = wrong_direction
+sent_of end _ = wrong_direction
 
 -- What a line says, whatever came before it: its text, its PDU, and what the message says.
 unfoldable pub said_by : List ℕ → Result Sent Refusal

@@ -125,7 +125,7 @@ fn setup_message(
 }
 
 /// The message of a down.
-#[tactic(auto, unfolding(s1ap_ies::specs::Values::erabs_to_setup, s1ap_ies::specs::Values::erab_to_setup, s1ap_ies::specs::Values::erab_id, s1ap_ies::specs::Values::qos, s1ap_ies::specs::Values::arp, s1ap_ies::specs::Values::address))]
+#[tactic(auto, unfolding(s1ap_ies::specs::Values::erab_to_setup, s1ap_ies::specs::Values::erab_id, s1ap_ies::specs::Values::qos, s1ap_ies::specs::Values::arp, s1ap_ies::specs::Values::address))]
 fn message_of(alloc: Global, row: &Subscriber, down: &Down) -> Result<Pdu, OutOfMemory>
     requires row { IsSubscriber row.now }
     requires down { IsDown down.now }

@@ -3,7 +3,7 @@
 ghost use Rattle.std.specs.Prelude.{◌≡◌, ◌==◌, length, find};
 ghost use Rattle.echo_base.specs.Answer.{IsAnswer};
 ghost use Rattle.nas_kinds.specs.Reading.{nas_of};
-ghost use Rattle.s1ap_ies.specs.Names as named;
+ghost use Rattle.s1ap_ies.specs.declared.names.TheConstants as named;
 ghost use Rattle.entry_edge.specs.Sent.{request_of, onward_of, context_of, code_of, sent_of};
 
 use device_types::{Body, CauseCode};
@@ -119,7 +119,7 @@ fn onward_of(tai: Tai, nas: NasIn) -> Result<Body, Refusal>
 
 /// The default bearer among the E-RABs that were set up: the first with its E-RAB ID.
 fn default_bearer(done: &[ErabDone]) -> Option<ErabDone>
-    ensures { result ≡ find (λ item. item.id == named.default_erab) done.now }
+    ensures { result ≡ find (λ item. item.id == named.DEFAULT_ERAB) done.now }
 {
     done.iter()
         .copied()
@@ -188,8 +188,6 @@ pub fn sent_of(alloc: Global, end: u64, pdu: Pdu) -> Result<Sent, Bad>
         Pdu::UeCapabilityInfoIndication { mme, enb, radio } => {
             Ok(numbered(mme, enb, Body::Capability { octets: radio }))
         }
-        Pdu::DownlinkNasTransport { .. } | Pdu::InitialContextSetupRequest { .. } | Pdu::UeContextReleaseCommand { .. } => {
-            Err(Bad::Refused(Refusal { reason: Reason::WrongDirection, place: 1 }))
-        }
+        _ => Err(Bad::Refused(Refusal { reason: Reason::WrongDirection, place: 1 })),
     }
 }

@@ -1,9 +1,10 @@
 -- The items of lists in their ranges, as their types and as their callers say it.
-use Rattle.std.proofs.Common.{ℕ, ◌*◌, ◌≤◌, List, [], ◌∷◌, length, Option, Some, None, IfSome, refl, arith}
+use Rattle.std.proofs.Common.{ℕ, ◌*◌, ◌≤◌, List, [], ◌∷◌, length, Option, Some, None, IfSome, arith}
 use Rattle.s1ap_ies.specs.declared.erab_to_setup.ErabToSetup.{ErabToSetup}
 use Rattle.s1ap_ies.specs.declared.erab_done.ErabDone.{ErabDone}
 use Rattle.std.specs.List.{AllByRecursion}
-use Rattle.aper_fields.specs.Asn1.{AsnType, Fits, CanBeWritten, IsItem, IsSound, most_bits}
+use Rattle.aper_fields.specs.Asn1.{AsnType, Fits, CanBeWritten, run}
+use Rattle.s1ap_ies.specs.Types.{IsItemSound}
 use Rattle.s1ap_ies.specs.Values.{erab_id, address, arp, qos, erab_done, erab_to_setup, erabs_done, erabs_to_setup}
 use Rattle.s1ap_ies.specs.Run.{IsNas, IsErabDone, IsErabToSetup}
 use Rattle.aper_fields.proofs.Types.{each_of}
@@ -39,31 +40,7 @@ setup_right S v fits =
     let behind = fits.1.1.1 in
     (omega (arith, fits.0), omega (arith, quality.0), quality.1.0, endpoint.1, behind.0, few_of S v.nas behind.1)
 
-pub done_sound : IsSound erab_done
-unfolding erab_done erab_id address
-done_sound = (tt, ((tt, λ size. (refl, omega arith)), refl))
-
-pub setup_sound : IsSound erab_to_setup
-unfolding erab_to_setup erab_id address qos arp
-setup_sound = (tt, ((tt, (refl, tt)), ((tt, λ size. (refl, omega arith)), (refl, tt))))
-
-few_done : most_bits erab_done ≤ 8 * 16383
-unfolding erab_done erab_id address
-few_done = omega arith
-
-few_setup : most_bits erab_to_setup ≤ 8 * 16383
-unfolding erab_to_setup erab_id address qos arp
-few_setup = omega arith
-
 -- ---- lists
-
-pub dones_sound : IsSound erabs_done
-unfolding erabs_done erab_done erab_id address
-dones_sound = (refl, few_done, done_sound)
-
-pub setups_sound : IsSound erabs_to_setup
-unfolding erabs_to_setup erab_to_setup erab_id address qos arp
-setups_sound = (refl, few_setup, setup_sound)
 
 each_setup_fits : (S : List ℕ → Type 0) (xs : List ErabToSetup) → AllByRecursion IsErabToSetup xs → AllByRecursion (λ (b : ErabToSetup). IfSome b.nas S) xs → AllByRecursion (λ a. Fits S erab_to_setup a) xs
 each_setup_fits S [] all strings = tt
@@ -74,28 +51,19 @@ abbrev AreMany : {A : Type 0} → (A → Type 0) → List A → Type 0
 AreMany In xs = (1 ≤ length xs) × (length xs ≤ 256) × AllByRecursion In xs
 
 pub dones_fit : (S : List ℕ → Type 0) (xs : List ErabDone) → AreMany IsErabDone xs → Fits S erabs_done xs
-unfolding erabs_done
 dones_fit S xs right = (right.0, right.1, each_of IsErabDone (λ a. Fits S erab_done a) (done_fits S) xs right.2)
 
 pub dones_right : (S : List ℕ → Type 0) (xs : List ErabDone) → Fits S erabs_done xs → AreMany IsErabDone xs
-unfolding erabs_done
 dones_right S xs fits = (fits.0, fits.1, each_of (λ a. Fits S erab_done a) IsErabDone (done_right S) xs fits.2)
 
 pub setups_fit : (S : List ℕ → Type 0) (xs : List ErabToSetup) → AreMany IsErabToSetup xs → AllByRecursion (λ (b : ErabToSetup). IfSome b.nas S) xs → Fits S erabs_to_setup xs
-unfolding erabs_to_setup
 setups_fit S xs right strings = (right.0, right.1, each_setup_fits S xs right.2 strings)
 
 pub setups_right : (S : List ℕ → Type 0) (xs : List ErabToSetup) → Fits S erabs_to_setup xs → AreMany IsErabToSetup xs
-unfolding erabs_to_setup
 setups_right S xs fits = (fits.0, fits.1, each_of (λ a. Fits S erab_to_setup a) IsErabToSetup (setup_right S) xs fits.2)
 
 -- ---- items that are written
 
-items : {A : Type 0} (s : AsnType A) → IsSound s → most_bits s ≤ 8 * 16383 → (xs : List A) → AllByRecursion (λ a. CanBeWritten s a) xs → AllByRecursion (λ a. IsItem s a) xs
-items s sound few = each_of (λ a. CanBeWritten s a) (λ a. IsItem s a) (λ a right. (right, omega (arith, takes (λ octets. Unit {0}) s sound a right 0, few)))
-
-pub done_items : (xs : List ErabDone) → AllByRecursion (λ a. CanBeWritten erab_done a) xs → AllByRecursion (λ a. IsItem erab_done a) xs
-done_items xs right = items erab_done done_sound few_done xs right
-
-pub setup_items : (xs : List ErabToSetup) → AllByRecursion (λ a. CanBeWritten erab_to_setup a) xs → AllByRecursion (λ a. IsItem erab_to_setup a) xs
-setup_items xs right = items erab_to_setup setup_sound few_setup xs right
+-- an item that can be written fits into an open type of its own
+pub item_short : {A : Type 0} (s : AsnType A) → IsItemSound s → (v : A) → CanBeWritten s v → length (run s v 0) ≤ 8 * 16383
+item_short s sound v right = omega (arith, takes (λ octets. Unit {0}) s sound.2 v right 0, sound.1)

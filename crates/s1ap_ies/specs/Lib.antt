@@ -1,4 +1,5 @@
-pub mod Names
+pub mod Criticalities
+pub mod Types
 pub mod Values
 pub mod Run
 pub mod Lent

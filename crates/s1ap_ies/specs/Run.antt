@@ -10,7 +10,7 @@ use Rattle.s1ap_ies.specs.declared.ue_ids.UeIds.{UeIds}
 use Rattle.s1ap_ies.specs.declared.erab_done.ErabDone.{ErabDone}
 use Rattle.s1ap_ies.specs.declared.erab_to_setup.ErabToSetup.{ErabToSetup}
 use Rattle.aper_fields.specs.Asn1.{CanBeWritten}
-use Rattle.s1ap_ies.specs.Names.{most_octets_of_nas}
+use Rattle.s1ap_ies.specs.declared.names.TheConstants as names
 use Rattle.s1ap_ies.specs.Values.{tai, cgi, stmsi, bit_rates, sec_caps, cause, ue_ids}
 
 abbrev pub IsTai : Tai → Type 0
@@ -36,7 +36,7 @@ IsUeIds v = CanBeWritten ue_ids v
 
 -- an octet string that is taken as a NAS-PDU
 abbrev pub IsNas : List ℕ → Type 0
-IsNas octets = length octets ≤ most_octets_of_nas
+IsNas octets = length octets ≤ names.MOST_OCTETS_OF_NAS
 
 -- the items of lists, in one line for their callers
 abbrev pub IsErabDone : ErabDone → Type 0

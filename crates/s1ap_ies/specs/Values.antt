@@ -1,10 +1,13 @@
 -- The values of IEs (TS 36.413, 9.2).
 use Rattle.std.specs.Prelude.{◌≡◌, ℕ, ◌==◌, nat_le, nat_lt, ◌^◌, ◌&&◌, Bool, true, false, if◌then◌else◌, refl, ◌⊎◌, List}
 use Rattle.std.proofs.Common.{inl, inr}
+use Rattle.std.proofs.lemmas.Bool.{leb-true}
 use Rattle.echo_base.specs.declared.reason.Reason.TheVariants as reasons
 use Rattle.device_types.specs.Cause.{cause_roots}
-use Rattle.aper_fields.specs.Asn1.{AsnType, bit_string, integer, only, octet_string, enumerated, choice_index, extensible, on, choice, sequence, needed, optional, absent, also, named, container, sequence_of}
-use Rattle.s1ap_ies.specs.Names.{most_octets_of_nas, most_erabs, most_bit_rate, most_mme_ue_s1ap_id, most_enb_ue_s1ap_id, erab_to_setup_item, erab_setup_item, reject, ignore}
+use Rattle.aper_fields.specs.Asn1.{AsnType, bit_string, integer, only, octet_string, enumerated, choice_index, extensible, on, choice, sequence, needed, optional, absent, also, named, container, sequence_of, is_head, IsSound}
+use Rattle.s1ap_ies.specs.Types.{IsItemSound}
+use Rattle.s1ap_ies.specs.Criticalities.{reject, ignore}
+use Rattle.s1ap_ies.specs.declared.names.TheConstants as names
 use Rattle.s1ap_ies.specs.declared.tai.Tai.{Tai}
 use Rattle.s1ap_ies.specs.declared.cgi.Cgi.{Cgi}
 use Rattle.s1ap_ies.specs.declared.stmsi.Stmsi.{Stmsi}
@@ -39,7 +42,7 @@ stmsi = named (record { make = λ v. record { mmec = v.0; tmsi = v.1 }; parts = 
 -- UE Aggregate Maximum Bit Rate (9.2.1.20): downlink, then uplink, in bit/s
 abbrev pub bit_rates : AsnType BitRates
 bit_rates = named (record { make = λ v. record { dl = v.0; ul = v.1 }; parts = λ v. (v.dl, v.ul); back = λ v. refl; again = λ v. refl })
-    (sequence (also (needed (integer 0 most_bit_rate refl)) (needed (integer 0 most_bit_rate refl))))
+    (sequence (also (needed (integer 0 names.MOST_BIT_RATE refl)) (needed (integer 0 names.MOST_BIT_RATE refl))))
 
 -- algorithms: BIT STRING (SIZE (16, ...))
 abbrev pub algorithms : AsnType ℕ
@@ -66,6 +69,9 @@ abbrev pub cause : AsnType Cause
 cause = named (record { make = λ v. record { group = v.0; extended = v.1.extended; index = v.1.index }; parts = λ v. (v.group, record { extended = v.extended; index = v.index }); back = λ v. refl; again = λ v. refl })
     (on (choice_index 5 3 refl) 75 (λ group. enumerated (cause_roots group) true (some_roots group)))
 
+pub cause_sound : IsSound cause
+cause_sound = (tt, λ group. (tt, leb-true 75 75 refl))
+
 abbrev pub ids_of : (ℕ × ℕ) ⊎ ℕ → UeIds
 ids_of (inl both) = Pair both.0 both.1
 ids_of (inr mme) = Mme mme
@@ -85,7 +91,11 @@ ids_again (Mme mme) = refl
 -- UE S1AP IDs (9.1.4.6): a CHOICE of both identities (9.2.3.18), and that of the MME alone
 abbrev pub ue_ids : AsnType UeIds
 ue_ids = named (record { make = ids_of; parts = parts_of; back = ids_back; again = ids_again })
-    (choice (sequence (also (needed (integer 0 most_mme_ue_s1ap_id refl)) (needed (integer 0 most_enb_ue_s1ap_id refl)))) (integer 0 most_mme_ue_s1ap_id refl))
+    (choice (sequence (also (needed (integer 0 names.MOST_MME_UE_S1AP_ID refl)) (needed (integer 0 names.MOST_ENB_UE_S1AP_ID refl)))) (integer 0 names.MOST_MME_UE_S1AP_ID refl))
+
+-- ---- lists (9.1): of 1 to 256 items, each in an open type of its own with an id and a criticality
+abbrev pub list_of : {A : Type 0} (id criticality : ℕ) → is_head id criticality ≡ true → AsnType A → AsnType (List A)
+list_of id criticality head item = sequence_of 1 256 refl (container id criticality head item)
 
 -- E-RAB ID (9.2.1.2): INTEGER (0..15, ...)
 unfoldable pub erab_id : AsnType ℕ
@@ -109,19 +119,27 @@ unfoldable pub erab_done : AsnType ErabDone
 erab_done = named (record { make = λ v. record { id = v.0; address = v.1.0; teid = v.1.1 }; parts = λ v. (v.id, (v.address, v.teid)); back = λ v. refl; again = λ v. refl })
     (sequence (also (needed erab_id) (also (needed address) (needed (bit_string 32)))))
 
+pub done_sound : IsItemSound erab_done
+unfolding erab_done erab_id address
+done_sound = (refl, leb-true _ _ refl, (tt, ((tt, λ size. (refl, leb-true 39 39 refl)), refl)))
+
 -- NAS-PDU (9.2.3.5)
 abbrev pub nas_pdu : AsnType (List ℕ)
-nas_pdu = octet_string most_octets_of_nas refl
+nas_pdu = octet_string names.MOST_OCTETS_OF_NAS refl
 
 -- E-RAB to Be Setup Item of a request (9.1.4.1): the NAS-PDU is optional
 unfoldable pub erab_to_setup : AsnType ErabToSetup
 erab_to_setup = named (record { make = λ v. record { id = v.0; qci = v.1.0.qci; arp = v.1.0.arp; address = v.1.1.0; teid = v.1.1.1.0; nas = v.1.1.1.1 }; parts = λ v. (v.id, (record { qci = v.qci; arp = v.arp }, (v.address, (v.teid, v.nas)))); back = λ v. refl; again = λ v. refl })
     (sequence (also (needed erab_id) (also (needed qos) (also (needed address) (also (needed (bit_string 32)) (optional nas_pdu))))))
 
+pub setup_sound : IsItemSound erab_to_setup
+unfolding erab_to_setup erab_id address qos arp
+setup_sound = (refl, leb-true _ _ refl, (tt, ((tt, (refl, tt)), ((tt, λ size. (refl, leb-true 39 39 refl)), (refl, tt)))))
+
 -- E-RAB to Be Setup List (9.1.4.1)
-unfoldable pub erabs_to_setup : AsnType (List ErabToSetup)
-erabs_to_setup = sequence_of 1 most_erabs refl (container erab_to_setup_item reject refl erab_to_setup)
+abbrev pub erabs_to_setup : AsnType (List ErabToSetup)
+erabs_to_setup = list_of names.ERAB_TO_SETUP_ITEM reject refl erab_to_setup
 
 -- E-RAB Setup List (9.1.4.3)
-unfoldable pub erabs_done : AsnType (List ErabDone)
-erabs_done = sequence_of 1 most_erabs refl (container erab_setup_item ignore refl erab_done)
+abbrev pub erabs_done : AsnType (List ErabDone)
+erabs_done = list_of names.ERAB_SETUP_ITEM ignore refl erab_done

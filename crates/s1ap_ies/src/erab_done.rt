@@ -3,11 +3,13 @@
 ghost use Rattle.std.specs.Prelude.{◌≡◌, OnOk, OnErr};
 
 use crate::bearer::{read_address, read_erab_id, write_address, write_erab_id};
+use crate::list::Item;
 use aper_fields::{
     BitReader, BitWriter, PlainValue, read_bits_fixed, read_present, read_zero_bit,
     skip_extensions, write_bits_fixed, write_preamble,
 };
-use echo_base::{OutOfMemory, Reason, Refusal};
+use echo_base::{Bad, OutOfMemory, Reason, Refusal};
+use std::alloc::Global;
 
 /// An E-RAB that was set up: the E-RAB Setup Item of a response (TS 36.413, 9.1.4.3).
 #[derive(Clone, Copy, Debug, PartialEq, Eq)]
@@ -53,4 +55,25 @@ impl PlainValue for ErabDone {
         write_address(w, self.address)?;
         write_bits_fixed(w, u64::from(self.teid), 32)
     }
+}
+
+impl Item for ErabDone {
+    ghost use Rattle.s1ap_ies.specs.Values.{erab_done, done_sound};
+
+    ghost asn1 = { erab_done };
+
+    fn skip_item(r: &mut BitReader) -> Result<(), Refusal> {
+        <ErabDone as PlainValue>::read(r)?;
+        Ok(())
+    }
+
+    fn read_item(_alloc: Global, r: &mut BitReader) -> Result<ErabDone, Bad> {
+        Ok(<ErabDone as PlainValue>::read(r)?)
+    }
+
+    fn write_item(&self, w: &mut BitWriter) -> Result<(), OutOfMemory> {
+        PlainValue::write(*self, w)
+    }
+
+    ghost sound = { done_sound };
 }

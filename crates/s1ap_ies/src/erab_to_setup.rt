@@ -9,6 +9,7 @@ ghost use Rattle.s1ap_ies.specs.Values.{erab_to_setup, qos, address, nas_pdu};
 ghost use Rattle.s1ap_ies.specs.Lent.{item_of};
 
 use crate::bearer::{Qos, read_address, read_erab_id, write_address, write_erab_id};
+use crate::list::Item;
 use crate::names::MOST_OCTETS_OF_NAS;
 use aper_fields::{
     BitReader, BitWriter, OwnedValue, PlainValue, read_bits_fixed, read_octet_string, read_present,
@@ -163,4 +164,24 @@ impl OwnedValue for ErabToSetup {
         write_erab_id(w, self.id)?;
         write_bearer(w, self)
     }
+}
+
+impl Item for ErabToSetup {
+    ghost use Rattle.s1ap_ies.specs.Values.{erab_to_setup, setup_sound};
+
+    ghost asn1 = { erab_to_setup };
+
+    fn skip_item(r: &mut BitReader) -> Result<(), Refusal> {
+        ErabToSetup::skip(r)
+    }
+
+    fn read_item(alloc: Global, r: &mut BitReader) -> Result<ErabToSetup, Bad> {
+        ErabToSetup::read(alloc, r)
+    }
+
+    fn write_item(&self, w: &mut BitWriter) -> Result<(), OutOfMemory> {
+        self.write(w)
+    }
+
+    ghost sound = { setup_sound };
 }

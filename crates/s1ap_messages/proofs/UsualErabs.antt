@@ -113,11 +113,11 @@ each_setup [] right = tt
 each_setup (x ∷ xs) right = ((setup_is x right.0, setup_few x right.0), each_setup xs right.1)
 
 pub dones_are : (xs : List ErabDone) → AllByRecursion IsErabDone xs → Contains (run types.erabs_done xs 0) (erabs_octets 50 1 done_octets xs)
-unfolding run types.erabs_done
+unfolding run
 dones_are xs right = erabs_are 50 1 (run types.erab_done) done_octets xs (omega arith) (each_done xs right)
 
 pub setups_are : (xs : List ErabToSetup) → AllByRecursion IsErabToSetup xs → Contains (run types.erabs_to_setup xs 0) (erabs_octets 52 0 setup_octets xs)
-unfolding run types.erabs_to_setup
+unfolding run
 setups_are xs right = erabs_are 52 0 (run types.erab_to_setup) setup_octets xs (omega arith) (each_setup xs right)
 
 -- ---- their strings are octets

@@ -15,7 +15,9 @@ use Rattle.s1ap_ies.specs.declared.erab_to_setup.ErabToSetup.{ErabToSetup}
 use Rattle.s1ap_pdu.specs.declared.tables.IeRow.{IeRow}
 use Rattle.s1ap_pdu.specs.declared.tables.MessageKind.{MessageKind}
 use Rattle.s1ap_pdu.specs.Messages.{rows_of}
-use Rattle.s1ap_ies.specs.Names as names
+use Rattle.s1ap_ies.specs.Criticalities as level
+use Rattle.s1ap_ies.specs.Criticalities.{criticality_number}
+use Rattle.s1ap_ies.specs.declared.names.TheConstants as names
 use Rattle.s1ap_pdu.specs.declared.header.Header.{Header}
 use Rattle.s1ap_pdu.specs.declared.pdu.Pdu.{Pdu}
 use Rattle.s1ap_pdu.specs.declared.value.IeValue.TheVariants as value
@@ -112,9 +114,9 @@ abbrev pub octets_of : Option FieldValue → Option (List ℕ)
 octets_of (Some (value.Mme mme)) = Some (number_octets 0 64 mme)
 octets_of (Some (value.Cause cause)) = Some (cause_octets cause)
 octets_of (Some (value.Enb enb)) = Some (number_octets 0 64 enb)
-octets_of (Some (value.Bearers bearers)) = Some (erabs_octets names.erab_to_setup_item names.reject setup_octets bearers)
+octets_of (Some (value.Bearers bearers)) = Some (erabs_octets names.ERAB_TO_SETUP_ITEM level.reject setup_octets bearers)
 octets_of (Some (value.Nas nas)) = Some (counted nas)
-octets_of (Some (value.Done done)) = Some (erabs_octets names.erab_setup_item names.ignore done_octets done)
+octets_of (Some (value.Done done)) = Some (erabs_octets names.ERAB_SETUP_ITEM level.ignore done_octets done)
 octets_of (Some (value.Rates rates)) = Some (rates_octets rates)
 octets_of (Some (value.Tai tai)) = Some (tai_octets tai)
 octets_of (Some (value.Key key)) = Some key
@@ -148,7 +150,7 @@ abbrev pub fields_octets : List IeRow → List (Option FieldValue) → List ℕ
 fields_octets [] values = []
 fields_octets (row ∷ rows) [] = []
 fields_octets (row ∷ rows) (None ∷ values) = fields_octets rows values
-fields_octets (row ∷ rows) (Some v ∷ values) = ie_octets row.id (names.criticality_number row.criticality) (value_octets v) ++ fields_octets rows values
+fields_octets (row ∷ rows) (Some v ∷ values) = ie_octets row.id (criticality_number row.criticality) (value_octets v) ++ fields_octets rows values
 
 -- ---- the message
 
@@ -157,14 +159,14 @@ body_octets p = 0 ∷ 0 ∷ count_of (values_of p) ∷ fields_octets (rows_of (k
 
 -- a header, and an open type
 abbrev pub message_octets : Header → List ℕ → List ℕ
-message_octets header body = 32 * outcome_index header.outcome ∷ header.code ∷ 64 * names.criticality_number header.criticality ∷ counted body
+message_octets header body = 32 * outcome_index header.outcome ∷ header.code ∷ 64 * criticality_number header.criticality ∷ counted body
 
 unfoldable pub usual_octets : Pdu → List ℕ
 usual_octets p = message_octets (header_of (kind_of p)) (body_octets p)
 
 -- what stands before the IEs of a message, with an octet of zeros in place of the length of its body
 abbrev pub beginning : MessageKind → ℕ → List ℕ
-beginning kind count = 32 * outcome_index (header_of kind).outcome ∷ (header_of kind).code ∷ 64 * names.criticality_number (header_of kind).criticality ∷ 0 ∷ 0 ∷ 0 ∷ count ∷ []
+beginning kind count = 32 * outcome_index (header_of kind).outcome ∷ (header_of kind).code ∷ 64 * criticality_number (header_of kind).criticality ∷ 0 ∷ 0 ∷ 0 ∷ count ∷ []
 
 -- a message with an octet of zeros in place of the length of its body
 unfoldable pub unfinished_octets : Pdu → List ℕ
@@ -192,4 +194,4 @@ AreAllFieldsOf kind octets p = AreFieldsOf kind octets (length (rows_of kind)) p
 
 -- the octets of the header of a kind of message
 abbrev pub BeginsAs : MessageKind → ℕ → ℕ → ℕ → Type 0
-BeginsAs kind outcome code criticality = (outcome ≡ 32 * outcome_index (header_of kind).outcome) × (code ≡ (header_of kind).code) × (criticality ≡ 64 * names.criticality_number (header_of kind).criticality)
+BeginsAs kind outcome code criticality = (outcome ≡ 32 * outcome_index (header_of kind).outcome) × (code ≡ (header_of kind).code) × (criticality ≡ 64 * criticality_number (header_of kind).criticality)

@@ -1,19 +1,17 @@
 -- A value that is spelled under an id is in the range of its type, and what is written for it spells it, is something, and ends no later.
-use Rattle.std.proofs.Common.{◌≡◌, ℕ, ◌<◌, Bool, true, eqb, List, [], ◌∷◌, length, refl, sym, subst, inl, inr, arith}
+use Rattle.std.proofs.Common.{◌≡◌, ℕ, ◌<◌, Bool, true, false, eqb, List, [], ◌∷◌, length, refl, sym, subst, inl, inr}
 use Rattle.std.proofs.lemmas.Bool.{cases_Bool}
 use Rattle.aper_fields.specs.Spelling.{IsOctets}
 use Rattle.aper_fields.specs.Format.{IsExactly, IsSpelledBy}
 use Rattle.aper_fields.proofs.Periodic.{IsPeriodic}
-use Rattle.aper_fields.specs.Asn1.{format, reading, takes_some, IsSound}
-use Rattle.s1ap_ies.specs.Values as types
-use Rattle.s1ap_ies.proofs.Items.{dones_sound, setups_sound}
+use Rattle.aper_fields.specs.Asn1.{AsnType, format, reading, by_test, takes_some, IsSound}
 use Rattle.aper_fields.proofs.Types.{exactly, periodic, fits_by}
 use Rattle.aper_fields.proofs.Sizes.{some}
 use Rattle.aper_fields.proofs.Spelled.{spelled}
 use Rattle.aper_fields.proofs.Least.{least}
 use Rattle.aper_fields.proofs.Room.{IsLeast}
 use Rattle.s1ap_pdu.specs.declared.value.IeValue.TheVariants as value
-use Rattle.s1ap_pdu.specs.Values.{FieldValue, IeType, type_of, among, ies_before_last, rrc_cause, value_type, id_of, asn1_of}
+use Rattle.s1ap_pdu.specs.Values.{FieldValue, IeType, IsOwn, Listed, type_of, by_ie, one_of, found_among, ie_with, among, ies_before_last, last_ie, value_type, id_of, asn1_of}
 use Rattle.s1ap_pdu.specs.Run.{value_run, IsRightValue, HasOctetsIn}
 
 pub value_exactly : (id : ℕ) → IsExactly (format (value_type id)) (reading (value_type id))
@@ -21,55 +19,59 @@ value_exactly id = exactly (value_type id)
 
 -- ---- each value is one of its IE
 
--- the values of an IE have its type
-abbrev IsOwn : IeType → Type 0
-IsOwn e = (a : e.Value) (at : ℕ) (run : List Bool) → (format (type_of e)).Spells at (e.kind.make a) run → (format (asn1_of (e.kind.make a))).Spells at (e.kind.make a) run
-
-abbrev AreOwn : List IeType → Type 0
-AreOwn [] = Unit {0}
-AreOwn (e ∷ others) = IsOwn e × AreOwn others
-
-each_own : AreOwn ies_before_last
-each_own = (λ a at run s. s, (λ a at run s. s, (λ a at run s. s, (λ a at run s. s, (λ a at run s. s, (λ a at run s. s, (λ a at run s. s, (λ a at run s. s, (λ a at run s. s, (λ a at run s. s, (λ a at run s. s, (λ a at run s. s, (λ a at run s. s, (λ a at run s. s, tt))))))))))))))
-
 one_own : (e : IeType) → IsOwn e → (at : ℕ) (v : FieldValue) (run : List Bool) → (format (type_of e)).Spells at v run → (format (asn1_of v)).Spells at v run
 unfolding format
-one_own e own at v run s = subst (λ w. (format (asn1_of w)).Spells at w run) (sym s.1) (own s.0 at run (s.0, refl, s.2))
+one_own e own at v run s = subst (λ w. (format (asn1_of w)).Spells at w run) (sym s.1) (own.spelled s.0 at run (s.0, refl, s.2))
 
-among_own : (es : List IeType) (last : IeType) → AreOwn es → IsOwn last → (id at : ℕ) (v : FieldValue) (run : List Bool) → (format (among es last id)).Spells at v run → (format (asn1_of v)).Spells at v run
+among_own : (es : List Listed) (last : IeType) → IsOwn last → (id at : ℕ) (v : FieldValue) (run : List Bool) → (format (among es last id)).Spells at v run → (format (asn1_of v)).Spells at v run
 unfolding format
-among_own [] last own own_last id at v run s = one_own last own_last at v run s
-among_own (e ∷ others) last own own_last id at v run s =
-    elim (cases_Bool (eqb id e.id)) [
-      | inl t ↦ one_own e own.0 at v run (rw t at s)
-      | inr f ↦ among_own others last own.1 own_last id at v run (rw f at s)
+among_own [] last own_last id at v run s = one_own last own_last at v run s
+among_own (e ∷ others) last own_last id at v run s =
+    elim (cases_Bool (eqb id e.ie.id)) [
+      | inl t ↦ one_own e.ie e.own at v run (rw t at s)
+      | inr f ↦ among_own others last own_last id at v run (rw f at s)
     ]
 
 by_type : (id at : ℕ) (v : FieldValue) (run : List Bool) → (format (value_type id)).Spells at v run → (format (asn1_of v)).Spells at v run
 unfolding value_type
-by_type id at v run s = among_own ies_before_last rrc_cause each_own (λ a at run s. s) id at v run s
+by_type id at v run s = among_own ies_before_last last_ie.ie last_ie.own id at v run s
+
+-- what is spelled under an id is spelled as the IE with that id
+one_known : (b : Bool) (e rest : IeType) (p : AsnType FieldValue) (at : ℕ) (v : FieldValue) (run : List Bool) → ((format p).Spells at v run → (format (type_of rest)).Spells at v run) → (format (by_test b (type_of e) p)).Spells at v run → (format (type_of (one_of b e rest))).Spells at v run
+unfolding format
+one_known true e rest p at v run step s = s
+one_known false e rest p at v run step s = step s
+
+known_among : (es : List Listed) (last : IeType) (id at : ℕ) (v : FieldValue) (run : List Bool) → (format (among es last id)).Spells at v run → (format (type_of (found_among es last id))).Spells at v run
+known_among [] last id at v run s = s
+known_among (e ∷ others) last id at v run s = one_known (eqb id e.ie.id) e.ie (found_among others last id) (among others last id) at v run (λ t. known_among others last id at v run t) s
+
+pub known : (id at : ℕ) (v : FieldValue) (run : List Bool) → (format (value_type id)).Spells at v run → (format (type_of (ie_with id))).Spells at v run
+unfolding value_type
+known id at v run s = known_among ies_before_last last_ie.ie id at v run s
+
+-- values of the IE with an id are of its id
+own_among : (es : List Listed) (last : IeType) → IsOwn last → (id : ℕ) → (a : (found_among es last id).Value) → id_of ((found_among es last id).kind.make a) ≡ (found_among es last id).id
+own_among [] last own_last id = own_last.id
+own_among (e ∷ others) last own_last id =
+    elim (cases_Bool (eqb id e.ie.id)) [
+      | inl t ↦ rw t (e.own.id)
+      | inr f ↦ rw f (own_among others last own_last id)
+    ]
+
+pub own_id : (id : ℕ) (a : (ie_with id).Value) → id_of ((ie_with id).kind.make a) ≡ (ie_with id).id
+own_id id a = own_among ies_before_last last_ie.ie last_ie.own id a
 
 -- ---- what is spelled is right, and what is written spells it
 
 pub value_sound : (v : FieldValue) → IsSound (asn1_of v)
-value_sound (value.Mme mme) = tt
-value_sound (value.Cause cause) = (tt, λ group. (tt, omega arith))
-value_sound (value.Enb enb) = tt
-value_sound (value.Bearers bearers) = setups_sound
-value_sound (value.Nas nas) = tt
-value_sound (value.Done done) = dones_sound
-value_sound (value.Key key) = tt
-value_sound (value.Radio radio) = tt
-value_sound (value.Ids ids) = ((tt, tt), tt)
-value_sound (value.Rrc rrc) = tt
-value_sound (value.Rates rates) = (tt, tt)
-value_sound _ = (refl, refl)
+value_sound (value.Mme mme) = (by_ie (λ e. e) (value.Mme mme)).sound
+value_sound v = (by_ie (λ e. e) v).sound
 
 -- each value is written in something
 each_some : (v : FieldValue) → takes_some (asn1_of v) ≡ true
-unfolding types.erabs_to_setup types.erabs_done
-each_some (value.Mme mme) = refl
-each_some _ = refl
+each_some (value.Mme mme) = (by_ie (λ e. e) (value.Mme mme)).some
+each_some v = (by_ie (λ e. e) v).some
 
 pub right_value : (v : FieldValue) → HasOctetsIn v → IsRightValue v
 right_value v fits = fits_by IsOctets (λ octets. Unit {0}) (λ octets s. tt) (asn1_of v) v fits

@@ -11,13 +11,14 @@ use Rattle.s1ap_pdu.specs.declared.tables.MessageKind.{MessageKind}
 use Rattle.s1ap_pdu.specs.declared.tables.MessageKind.TheVariants as kind
 use Rattle.s1ap_pdu.specs.declared.pdu.Pdu.{Pdu}
 use Rattle.s1ap_pdu.specs.declared.pdu.Pdu.TheVariants as pdus
-use Rattle.s1ap_pdu.specs.Values.{FieldValue, IeType, type_of, value_type}
+use Rattle.s1ap_pdu.specs.Values.{FieldValue, ie_with, value_type}
 use Rattle.s1ap_pdu.specs.Rows.{Rows, last, ◌▸◌, taken, Slots, table, values}
-use Rattle.s1ap_pdu.specs.Messages.{Message, by_kind, message_of, kind_of, rows_of, values_of, made, made_from, message_from}
+use Rattle.s1ap_pdu.specs.Messages.{Message, message_of, kind_of, rows_of, values_of, made, made_from, message_from}
 use Rattle.s1ap_pdu.specs.Grammar.{Ie, Named, Other, found, has_ie, ie_in, fields_of, missing}
 use Rattle.s1ap_pdu.specs.Reading.{lacking}
+use Rattle.s1ap_pdu.proofs.Ies.{known}
 use Rattle.s1ap_pdu.proofs.Kept.{slots_of}
-use Rattle.s1ap_pdu.proofs.RowLaws.{ie_of, IsOf, AreOf, front, MakesFields, makes_fields, message_back, message_whole}
+use Rattle.s1ap_pdu.proofs.RowLaws.{row_id, ie_of, IsOf, AreOf, front, MakesFields, makes_fields, message_back, message_whole}
 
 -- ---- values under their ids
 
@@ -57,38 +58,19 @@ typed_under id (Other n ∷ ies) typed = typed_under id ies typed.1
 
 -- ---- the IEs of rows
 
--- what is spelled under its id is spelled as it
-abbrev IsKnown : IeType → Type 0
-IsKnown e = (at : ℕ) (v : FieldValue) (run : List Bool) → (format (value_type e.id)).Spells at v run → (format (type_of e)).Spells at v run
-
-abbrev AreKnown : {A : Type 0} → Rows A → Type 0
-AreKnown last = Unit {0}
-AreKnown (row ▸ rest) = IsKnown (ie_of row) × AreKnown rest
-
-each_known : (kind : MessageKind) → by_kind (λ m. AreKnown m.rows) kind
-unfolding format value_type
-each_known kind.InitialUeMessage = (λ at v run s. s, (λ at v run s. s, (λ at v run s. s, (λ at v run s. s, (λ at v run s. s, (λ at v run s. s, tt))))))
-each_known kind.UplinkNasTransport = (λ at v run s. s, (λ at v run s. s, (λ at v run s. s, (λ at v run s. s, (λ at v run s. s, tt)))))
-each_known kind.InitialContextSetupRequest = (λ at v run s. s, (λ at v run s. s, (λ at v run s. s, (λ at v run s. s, (λ at v run s. s, (λ at v run s. s, tt))))))
-each_known kind.UeContextReleaseCommand = (λ at v run s. s, (λ at v run s. s, tt))
-each_known kind.UeContextReleaseComplete = (λ at v run s. s, (λ at v run s. s, tt))
-each_known _ = (λ at v run s. s, (λ at v run s. s, (λ at v run s. s, tt)))
-
 -- under each id stands a value of its IE, or none
 abbrev AreUnder : {A : Type 0} → Rows A → (ℕ → Option FieldValue) → Type 0
 AreUnder last under = Unit {0}
-AreUnder (row ▸ rest) under = IsOf (ie_of row) (under (ie_of row).id) × AreUnder rest under
+AreUnder (row ▸ rest) under = IsOf (ie_of row) (under (row_id row)) × AreUnder rest under
 
-one_under : (e : IeType) → IsKnown e → (o : Option FieldValue) → IfSome o (IsSpelled e.id) → IsOf e o
+one_under : (id : ℕ) (o : Option FieldValue) → IfSome o (IsSpelled id) → IsOf (ie_with id) o
 unfolding format
-one_under e known None s = tt
-one_under e known (Some v) s = let x = known s.0 v s.1 s.2 in (x.0, x.1)
+one_under id None s = tt
+one_under id (Some v) s = let x = known id s.0 v s.1 s.2 in (x.0, x.1)
 
-are_under : {A : Type 0} (rows : Rows A) → AreKnown rows → (ies : List Ie) → AreTyped ies → AreUnder rows (λ id. found id ies)
-are_under last known ies typed = tt
-are_under (row ▸ rest) known ies typed =
-    let id = (ie_of row).id in
-    (one_under (ie_of row) known.0 (found id ies) (typed_under id ies typed), are_under rest known.1 ies typed)
+are_under : {A : Type 0} (rows : Rows A) (ies : List Ie) → AreTyped ies → AreUnder rows (λ id. found id ies)
+are_under last ies typed = tt
+are_under (row ▸ rest) ies typed = (one_under (row_id row) (found (row_id row) ies) (typed_under (row_id row) ies typed), are_under rest ies typed)
 
 -- ---- messages
 
@@ -110,8 +92,8 @@ of_message m kind has rows slots are = of_fields m kind has rows (front m.rows 0
 
 pub makes : (kind : MessageKind) (ies : List Ie) → AreTyped ies → Makes kind (fields_of kind ies) (message_from kind (slots_of kind ies))
 unfolding message_from front AreOf
-makes kind.InitialUeMessage ies typed = of_message (message_of kind.InitialUeMessage) kind.InitialUeMessage (λ fields. (refl, refl)) refl (slots_of kind.InitialUeMessage ies) (are_under (message_of kind.InitialUeMessage).rows (each_known kind.InitialUeMessage) ies typed)
-makes kind ies typed = of_message (message_of kind) kind (λ fields. (refl, refl)) refl (slots_of kind ies) (are_under (message_of kind).rows (each_known kind) ies typed)
+makes kind.InitialUeMessage ies typed = of_message (message_of kind.InitialUeMessage) kind.InitialUeMessage (λ fields. (refl, refl)) refl (slots_of kind.InitialUeMessage ies) (are_under (message_of kind.InitialUeMessage).rows ies typed)
+makes kind ies typed = of_message (message_of kind) kind (λ fields. (refl, refl)) refl (slots_of kind ies) (are_under (message_of kind).rows ies typed)
 
 -- ---- and back
 

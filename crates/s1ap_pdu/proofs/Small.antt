@@ -7,11 +7,9 @@ use Rattle.s1ap_pdu.specs.declared.tables.IeRow.{IeRow}
 use Rattle.s1ap_pdu.specs.declared.tables.MessageKind.{MessageKind}
 use Rattle.aper_fields.specs.Asn1.{run}
 use Rattle.s1ap_pdu.specs.Messages.{rows_of}
-use Rattle.s1ap_ies.specs.Values as types
-use Rattle.aper_fields.proofs.Sizes.{item_takes, most_of, takes_of}
-use Rattle.s1ap_ies.specs.Names.{criticality_number}
+use Rattle.aper_fields.proofs.Sizes.{item_takes, takes_of, most_of}
+use Rattle.s1ap_ies.specs.Criticalities.{criticality_number}
 use Rattle.s1ap_pdu.specs.declared.pdu.Pdu.{Pdu}
-use Rattle.s1ap_pdu.specs.declared.value.IeValue.TheVariants as value
 use Rattle.s1ap_pdu.specs.Values.{FieldValue, asn1_of}
 use Rattle.s1ap_pdu.specs.Messages.{kind_of, values_of}
 use Rattle.s1ap_pdu.specs.Run.{value_run, ie_run, fields_run, count_of, ies_run, IsRight, IsRightField, IsShort}
@@ -22,18 +20,9 @@ use Rattle.s1ap_pdu.specs.Small.{IsSmallValue, IsSmall}
 
 -- ---- values
 
--- its type says how much it takes at most, but for strings and lists, whose lengths say it
-few_bits : (v : FieldValue) → IsSmallValue v → most_of (asn1_of v) v ≤ 17000
-unfolding types.erabs_to_setup types.erab_to_setup types.erabs_done types.erab_done types.erab_id types.qos types.arp types.address
-few_bits (value.Bearers bearers) small = omega (arith, small.1)
-few_bits (value.Done done) small = omega (arith, small.1)
-few_bits (value.Nas nas) small = omega (arith, small.0.0)
-few_bits (value.Radio radio) small = omega (arith, small.1)
-few_bits _ small = omega arith
-
 value_takes : (v : FieldValue) → IsSmallValue v → Takes 17000 (value_run v)
 unfolding value_run
-value_takes v small = more_takes (most_of (asn1_of v) v) 17000 (run (asn1_of v) v) (few_bits v small) (takes_of (λ octets. Unit {0}) (asn1_of v) (value_sound v) v small.0)
+value_takes v small = more_takes (most_of (asn1_of v) v) 17000 (run (asn1_of v) v) small.1 (takes_of (λ octets. Unit {0}) (asn1_of v) (value_sound v) v small.0)
 
 -- ---- the message
 

@@ -18,15 +18,16 @@ use Rattle.aper_fields.specs.Asn1.{index_run, format, item_run}
 use Rattle.aper_fields.specs.Format.{IsSpelledBy}
 use Rattle.s1ap_pdu.proofs.Distinct.{ids_distinct, few_rows}
 use Rattle.aper_fields.proofs.Spelled.{choice_spelled}
-use Rattle.s1ap_ies.specs.Names.{criticality_number}
+use Rattle.s1ap_ies.specs.Criticalities.{criticality_number}
 use Rattle.s1ap_pdu.specs.declared.pdu.Pdu.{Pdu}
 use Rattle.s1ap_pdu.specs.declared.pdu.Pdu.TheVariants as pdus
 use Rattle.aper_fields.specs.Many.{InOrder}
 use Rattle.s1ap_pdu.specs.Values.{FieldValue, value_type, id_of}
-use Rattle.s1ap_pdu.specs.Messages.{outcome_index, header_of, kind_of, values_of}
+use Rattle.s1ap_pdu.specs.Messages.{outcome_index, header_of, message_of, kind_of, values_of}
 use Rattle.s1ap_pdu.specs.Grammar.{Ie, Named, found, has_ie, or_other, kind_with, kind_among, header_in, ie_in, ies_in, pdu_in, Spells}
 use Rattle.s1ap_pdu.specs.Run.{value_run, ie_run, fields_run, count_of, ies_run, header_run, pdu_run, written, IsRightField, HasOctetsIn, IsRight, HasOctets}
 use Rattle.s1ap_pdu.proofs.Kept.{found-append}
+use Rattle.s1ap_pdu.proofs.RowLaws.{are_of, message_of_rows}
 use Rattle.s1ap_pdu.proofs.Frame.{pdu_some}
 use Rattle.aper_fields.proofs.Opens.{open_holds, closing_some}
 use Rattle.s1ap_pdu.proofs.Ies.{value_periodic, value_some, value_spelled}
@@ -54,19 +55,9 @@ each_is_row : (kind : MessageKind) → list_all (is_row kind) (rows_of kind) ≡
 each_is_row kind.InitialUeMessage = refl
 each_is_row _ = refl
 
--- each value is one of its row
-unfoldable are_of : List IeRow → List Slot → Bool
-are_of [] [] = true
-are_of [] (v ∷ values) = false
-are_of (row ∷ rows) [] = false
-are_of (row ∷ rows) (None ∷ values) = are_of rows values
-are_of (row ∷ rows) (Some v ∷ values) = eqb (id_of v) row.id && are_of rows values
-
 of_values : (p : Pdu) → are_of (rows_of (kind_of p)) (values_of p) ≡ true
-unfolding are_of
-of_values (pdus.InitialUeMessage enb nas tai cgi rrc None) = refl
-of_values (pdus.InitialUeMessage enb nas tai cgi rrc (Some stmsi)) = refl
-of_values _ = refl
+of_values (pdus.UeContextReleaseCommand ids cause) = message_of_rows (message_of kind.UeContextReleaseCommand) (pdus.UeContextReleaseCommand ids cause) _ refl refl
+of_values p = message_of_rows (message_of (kind_of p)) p _ refl refl
 
 -- no IE before has the id of a row
 abbrev AreFree : List Ie → List IeRow → Type 0

@@ -8,7 +8,7 @@ use Rattle.s1ap_pdu.specs.declared.pdu.Pdu.{Pdu}
 use Rattle.s1ap_pdu.specs.declared.pdu.Pdu.TheVariants as pdus
 use Rattle.s1ap_pdu.specs.Values.{FieldValue}
 use Rattle.s1ap_pdu.specs.Messages.{kind_of, values_of}
-use Rattle.s1ap_pdu.specs.Lent.{LentValue, all_seen}
+use Rattle.s1ap_pdu.specs.Values.{LentValue, all_seen}
 use Rattle.s1ap_pdu.specs.Run.{ies_run}
 
 -- a message has a value, or none, for each row of its table

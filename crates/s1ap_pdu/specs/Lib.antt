@@ -1,6 +1,5 @@
 pub mod Built
 pub mod Grammar
-pub mod Lent
 pub mod Memory
 pub mod Messages
 pub mod Reading

@@ -1,25 +1,21 @@
 -- Messages that take memory where they are read, and what a reader of messages gave.
-use Rattle.std.specs.Prelude.{◌≡◌, ℕ, Bool, true, false, Option, Some, Result, Ok, Err, IsOkAnd}
+use Rattle.std.specs.Prelude.{◌≡◌, ℕ, Bool, true, false, Option, Some, None, Result, Ok, Err, IsOkAnd}
 use Rattle.std.specs.List.{list_any}
 use Rattle.echo_base.specs.declared.refusal.Refusal.{Refusal}
 use Rattle.echo_base.specs.declared.refusal.Bad.{Bad}
 use Rattle.echo_base.specs.Answer.{IsAnswerTaking}
 use Rattle.s1ap_pdu.specs.declared.tables.MessageKind.{MessageKind}
 use Rattle.s1ap_pdu.specs.declared.pdu.Pdu.{Pdu}
-use Rattle.s1ap_pdu.specs.declared.value.IeValue.TheVariants as value
-use Rattle.s1ap_pdu.specs.Values.{FieldValue}
+use Rattle.s1ap_ies.specs.Types as types
+use Rattle.s1ap_pdu.specs.Values.{FieldValue, asn1_of}
 use Rattle.s1ap_pdu.specs.Messages.{kind_of, values_of}
 use Rattle.s1ap_pdu.specs.Rows.{Slots}
 use Rattle.s1ap_pdu.specs.Messages.{message_from}
 
--- the fields that take memory: NAS-PDUs, keys, radio capabilities and lists of E-RABs
+-- a field whose type takes memory: strings and lists
 abbrev pub is_kept : Option FieldValue → Bool
-is_kept (Some (value.Nas nas)) = true
-is_kept (Some (value.Key key)) = true
-is_kept (Some (value.Radio radio)) = true
-is_kept (Some (value.Bearers bearers)) = true
-is_kept (Some (value.Done done)) = true
-is_kept _ = false
+is_kept None = false
+is_kept (Some v) = types.takes_memory (asn1_of v)
 
 -- does a message have such a field
 abbrev pub takes_memory : Pdu → Bool

@@ -1,6 +1,6 @@
 -- The messages (TS 36.413, 9.1): how each begins, who sends it, and its IEs in order.
 use Rattle.std.specs.Prelude.{ℕ, codes, Bool, true, false, List, [], ◌∷◌, Option, Some, None, Result, Ok, Err}
-use Rattle.s1ap_ies.specs.Names as names
+use Rattle.s1ap_ies.specs.declared.names.TheConstants as names
 use Rattle.s1ap_ies.specs.declared.criticality.Criticality.{Criticality}
 use Rattle.s1ap_ies.specs.declared.criticality.Criticality.TheVariants.{Reject, Ignore}
 use Rattle.s1ap_pdu.specs.declared.tables.IeRow.{IeRow}
@@ -11,7 +11,6 @@ use Rattle.s1ap_pdu.specs.declared.header.Outcome.{Outcome}
 use Rattle.s1ap_pdu.specs.declared.header.Outcome.TheVariants.{Initiating, Successful, Unsuccessful}
 use Rattle.s1ap_pdu.specs.declared.pdu.Pdu.{Pdu}
 use Rattle.s1ap_pdu.specs.declared.pdu.Pdu.TheVariants as pdus
-use Rattle.s1ap_pdu.specs.Values as ies
 use Rattle.s1ap_pdu.specs.Values.{FieldValue}
 use Rattle.s1ap_pdu.specs.Rows.{Rows, last, ◌▸◌, must, may, Taking, taken, Slots, table, values, fields_from}
 
@@ -48,16 +47,16 @@ initial_ue_message = record {
   Fields = _;
   name = codes "InitialUEMessage";
   outcome = Initiating;
-  code = names.initial_ue_message;
+  code = names.INITIAL_UE_MESSAGE;
   criticality = Ignore;
   downlink = false;
   rows =
-      must ies.enb Reject ▸
-      must ies.nas_pdu Reject ▸
-      must ies.tai Reject ▸
-      must ies.cgi Ignore ▸
-      must ies.rrc_cause Ignore ▸
-      may ies.stmsi Reject ▸
+      must names.ENB_UE_S1AP_ID Reject ▸
+      must names.NAS_PDU Reject ▸
+      must names.TAI Reject ▸
+      must names.CGI Ignore ▸
+      must names.RRC_CAUSE Ignore ▸
+      may names.STMSI Reject ▸
       last;
   make = pdus.InitialUeMessage;
   part = elim [ pdus.InitialUeMessage enb nas tai cgi rrc stmsi ↦ Some (enb, (nas, (tai, (cgi, (rrc, (stmsi, tt)))))) | _ ↦ None ];
@@ -69,15 +68,15 @@ uplink_nas_transport = record {
   Fields = _;
   name = codes "UplinkNASTransport";
   outcome = Initiating;
-  code = names.uplink_nas_transport;
+  code = names.UPLINK_NAS_TRANSPORT;
   criticality = Ignore;
   downlink = false;
   rows =
-      must ies.mme Reject ▸
-      must ies.enb Reject ▸
-      must ies.nas_pdu Reject ▸
-      must ies.cgi Ignore ▸
-      must ies.tai Ignore ▸
+      must names.MME_UE_S1AP_ID Reject ▸
+      must names.ENB_UE_S1AP_ID Reject ▸
+      must names.NAS_PDU Reject ▸
+      must names.CGI Ignore ▸
+      must names.TAI Ignore ▸
       last;
   make = pdus.UplinkNasTransport;
   part = elim [ pdus.UplinkNasTransport mme enb nas cgi tai ↦ Some (mme, (enb, (nas, (cgi, (tai, tt))))) | _ ↦ None ];
@@ -89,13 +88,13 @@ downlink_nas_transport = record {
   Fields = _;
   name = codes "DownlinkNASTransport";
   outcome = Initiating;
-  code = names.downlink_nas_transport;
+  code = names.DOWNLINK_NAS_TRANSPORT;
   criticality = Ignore;
   downlink = true;
   rows =
-      must ies.mme Reject ▸
-      must ies.enb Reject ▸
-      must ies.nas_pdu Reject ▸
+      must names.MME_UE_S1AP_ID Reject ▸
+      must names.ENB_UE_S1AP_ID Reject ▸
+      must names.NAS_PDU Reject ▸
       last;
   make = pdus.DownlinkNasTransport;
   part = elim [ pdus.DownlinkNasTransport mme enb nas ↦ Some (mme, (enb, (nas, tt))) | _ ↦ None ];
@@ -107,16 +106,16 @@ initial_context_setup_request = record {
   Fields = _;
   name = codes "InitialContextSetupRequest";
   outcome = Initiating;
-  code = names.initial_context_setup;
+  code = names.INITIAL_CONTEXT_SETUP;
   criticality = Reject;
   downlink = true;
   rows =
-      must ies.mme Reject ▸
-      must ies.enb Reject ▸
-      must ies.bit_rates Reject ▸
-      must ies.erabs_to_setup Reject ▸
-      must ies.sec_caps Reject ▸
-      must ies.security_key Reject ▸
+      must names.MME_UE_S1AP_ID Reject ▸
+      must names.ENB_UE_S1AP_ID Reject ▸
+      must names.BIT_RATES Reject ▸
+      must names.ERABS_TO_SETUP Reject ▸
+      must names.SEC_CAPS Reject ▸
+      must names.SECURITY_KEY Reject ▸
       last;
   make = pdus.InitialContextSetupRequest;
   part = elim [ pdus.InitialContextSetupRequest mme enb rates bearers caps key ↦ Some (mme, (enb, (rates, (bearers, (caps, (key, tt)))))) | _ ↦ None ];
@@ -128,13 +127,13 @@ initial_context_setup_response = record {
   Fields = _;
   name = codes "InitialContextSetupResponse";
   outcome = Successful;
-  code = names.initial_context_setup;
+  code = names.INITIAL_CONTEXT_SETUP;
   criticality = Reject;
   downlink = false;
   rows =
-      must ies.mme Ignore ▸
-      must ies.enb Ignore ▸
-      must ies.erabs_done Ignore ▸
+      must names.MME_UE_S1AP_ID Ignore ▸
+      must names.ENB_UE_S1AP_ID Ignore ▸
+      must names.ERABS_DONE Ignore ▸
       last;
   make = pdus.InitialContextSetupResponse;
   part = elim [ pdus.InitialContextSetupResponse mme enb done ↦ Some (mme, (enb, (done, tt))) | _ ↦ None ];
@@ -146,13 +145,13 @@ initial_context_setup_failure = record {
   Fields = _;
   name = codes "InitialContextSetupFailure";
   outcome = Unsuccessful;
-  code = names.initial_context_setup;
+  code = names.INITIAL_CONTEXT_SETUP;
   criticality = Reject;
   downlink = false;
   rows =
-      must ies.mme Ignore ▸
-      must ies.enb Ignore ▸
-      must ies.cause Ignore ▸
+      must names.MME_UE_S1AP_ID Ignore ▸
+      must names.ENB_UE_S1AP_ID Ignore ▸
+      must names.CAUSE Ignore ▸
       last;
   make = pdus.InitialContextSetupFailure;
   part = elim [ pdus.InitialContextSetupFailure mme enb cause ↦ Some (mme, (enb, (cause, tt))) | _ ↦ None ];
@@ -164,13 +163,13 @@ ue_context_release_request = record {
   Fields = _;
   name = codes "UEContextReleaseRequest";
   outcome = Initiating;
-  code = names.ue_context_release_request;
+  code = names.UE_CONTEXT_RELEASE_REQUEST;
   criticality = Ignore;
   downlink = false;
   rows =
-      must ies.mme Reject ▸
-      must ies.enb Reject ▸
-      must ies.cause Ignore ▸
+      must names.MME_UE_S1AP_ID Reject ▸
+      must names.ENB_UE_S1AP_ID Reject ▸
+      must names.CAUSE Ignore ▸
       last;
   make = pdus.UeContextReleaseRequest;
   part = elim [ pdus.UeContextReleaseRequest mme enb cause ↦ Some (mme, (enb, (cause, tt))) | _ ↦ None ];
@@ -182,12 +181,12 @@ ue_context_release_command = record {
   Fields = _;
   name = codes "UEContextReleaseCommand";
   outcome = Initiating;
-  code = names.ue_context_release;
+  code = names.UE_CONTEXT_RELEASE;
   criticality = Reject;
   downlink = true;
   rows =
-      must ies.ue_ids Reject ▸
-      must ies.cause Ignore ▸
+      must names.UE_IDS Reject ▸
+      must names.CAUSE Ignore ▸
       last;
   make = pdus.UeContextReleaseCommand;
   part = elim [ pdus.UeContextReleaseCommand ids cause ↦ Some (ids, (cause, tt)) | _ ↦ None ];
@@ -199,12 +198,12 @@ ue_context_release_complete = record {
   Fields = _;
   name = codes "UEContextReleaseComplete";
   outcome = Successful;
-  code = names.ue_context_release;
+  code = names.UE_CONTEXT_RELEASE;
   criticality = Reject;
   downlink = false;
   rows =
-      must ies.mme Ignore ▸
-      must ies.enb Ignore ▸
+      must names.MME_UE_S1AP_ID Ignore ▸
+      must names.ENB_UE_S1AP_ID Ignore ▸
       last;
   make = pdus.UeContextReleaseComplete;
   part = elim [ pdus.UeContextReleaseComplete mme enb ↦ Some (mme, (enb, tt)) | _ ↦ None ];
@@ -216,13 +215,13 @@ ue_capability_info_indication = record {
   Fields = _;
   name = codes "UECapabilityInfoIndication";
   outcome = Initiating;
-  code = names.ue_capability_info_indication;
+  code = names.UE_CAPABILITY_INFO_INDICATION;
   criticality = Ignore;
   downlink = false;
   rows =
-      must ies.mme Reject ▸
-      must ies.enb Reject ▸
-      must ies.radio_capability Ignore ▸
+      must names.MME_UE_S1AP_ID Reject ▸
+      must names.ENB_UE_S1AP_ID Reject ▸
+      must names.RADIO_CAPABILITY Ignore ▸
       last;
   make = pdus.UeCapabilityInfoIndication;
   part = elim [ pdus.UeCapabilityInfoIndication mme enb radio ↦ Some (mme, (enb, (radio, tt))) | _ ↦ None ];

@@ -3,12 +3,12 @@ use Rattle.std.specs.Prelude.{ℕ, suc, true, false, List, [], ◌∷◌, Option
 use Rattle.s1ap_pdu.specs.declared.tables.IeRow.{IeRow}
 use Rattle.echo_base.specs.Answer.{◌>>=◌}
 use Rattle.s1ap_ies.specs.declared.criticality.Criticality.{Criticality}
-use Rattle.s1ap_pdu.specs.Values.{FieldValue, IeType}
+use Rattle.s1ap_pdu.specs.Values.{FieldValue, IeType, ie_with}
 
--- an IE that a message has to have, or may have, with its criticality; A is the field's type
+-- an IE that a message has to have, or may have, by its id, with its criticality; A is the field's type
 pub data Row : Type 0 → Type 1 where
-  must : (e : IeType) → Criticality → Row e.Value
-  may : (e : IeType) → Criticality → Row (Option e.Value)
+  must : (id : ℕ) → Criticality → Row (ie_with id).Value
+  may : (id : ℕ) → Criticality → Row (Option (ie_with id).Value)
 
 -- the rows of a message in order; A are the values of its fields, a pair of the first and the others
 infixr 10 ◌▸◌
@@ -18,8 +18,8 @@ pub data Rows : Type 0 → Type 1 where
 
 -- a row as the program keeps it
 abbrev pub row_of : {A : Type 0} → Row A → IeRow
-row_of (must e criticality) = record { id = e.id; criticality = criticality; needed = true }
-row_of (may e criticality) = record { id = e.id; criticality = criticality; needed = false }
+row_of (must id criticality) = record { id = id; criticality = criticality; needed = true }
+row_of (may id criticality) = record { id = id; criticality = criticality; needed = false }
 
 -- the rows as the program keeps them
 abbrev pub table : {A : Type 0} → Rows A → List IeRow
@@ -31,19 +31,19 @@ table (row ▸ rest) = row_of row ∷ table rest
 -- a function of the fields, one after another, as a variant of an enum is
 abbrev pub Taking : {A : Type 0} → Rows A → Type 0 → Type 0
 Taking last P = P
-Taking (must e criticality ▸ rest) P = e.Value → Taking rest P
-Taking (may e criticality ▸ rest) P = Option e.Value → Taking rest P
+Taking (must id criticality ▸ rest) P = (ie_with id).Value → Taking rest P
+Taking (may id criticality ▸ rest) P = Option (ie_with id).Value → Taking rest P
 
 -- what it makes of them
 abbrev pub taken : {A P : Type 0} → (rows : Rows A) → Taking rows P → A → P
 taken last make fields = make
-taken (must e criticality ▸ rest) make fields = taken rest (make fields.0) fields.1
-taken (may e criticality ▸ rest) make fields = taken rest (make fields.0) fields.1
+taken (must id criticality ▸ rest) make fields = taken rest (make fields.0) fields.1
+taken (may id criticality ▸ rest) make fields = taken rest (make fields.0) fields.1
 
 -- a field as the value of its IE, where it has one
 abbrev pub value_of : {A : Type 0} → Row A → A → Option FieldValue
-value_of (must e criticality) field = Some (e.kind.make field)
-value_of (may e criticality) field = option_map e.kind.make field
+value_of (must id criticality) field = Some ((ie_with id).kind.make field)
+value_of (may id criticality) field = option_map (ie_with id).kind.make field
 
 -- the values of the fields, one a row
 abbrev pub values : {A : Type 0} → Rows A → A → List (Option FieldValue)
@@ -68,8 +68,8 @@ needed id (Some v) = Ok v
 
 -- a field of the value in its slot
 abbrev pub field_from : {A : Type 0} → Row A → Option FieldValue → Result A ℕ
-field_from (must e criticality) v = needed e.id (part_of e v)
-field_from (may e criticality) v = Ok (part_of e v)
+field_from (must id criticality) v = needed id (part_of (ie_with id) v)
+field_from (may id criticality) v = Ok (part_of (ie_with id) v)
 
 abbrev pub slot : Slots → ℕ → Option FieldValue
 slot slots place = slice_index_or slots place None

@@ -8,7 +8,8 @@ use Rattle.s1ap_pdu.specs.declared.tables.IeRow.{IeRow}
 use Rattle.s1ap_pdu.specs.declared.tables.MessageKind.{MessageKind}
 use Rattle.s1ap_pdu.specs.Messages.{rows_of}
 use Rattle.aper_fields.specs.Asn1.{index_run, run, item_run, CanBeWritten, Fits}
-use Rattle.s1ap_ies.specs.Names as names
+use Rattle.s1ap_ies.specs.Criticalities.{criticality_number}
+use Rattle.s1ap_ies.specs.declared.names.TheConstants as names
 use Rattle.s1ap_pdu.specs.declared.header.Header.{Header}
 use Rattle.s1ap_pdu.specs.declared.pdu.Pdu.{Pdu}
 use Rattle.s1ap_pdu.specs.Values.{FieldValue, asn1_of}
@@ -21,7 +22,7 @@ value_run v = run (asn1_of v) v
 
 -- an open type has at most 16,383 octets
 abbrev pub IsShort : List Bool → Type 0
-IsShort body = length body ≤ 8 * names.most_octets
+IsShort body = length body ≤ 8 * names.MOST_OCTETS
 
 -- a value in its range
 abbrev pub IsRightValue : FieldValue → Type 0
@@ -36,7 +37,7 @@ HasOctetsIn v = Fits IsOctets (asn1_of v) v
 -- an IE, where the message has it
 unfoldable pub ie_run : IeRow → Option FieldValue → Run
 ie_run row None = nothing_run
-ie_run row (Some v) = item_run row.id (names.criticality_number row.criticality) (value_run v 0)
+ie_run row (Some v) = item_run row.id (criticality_number row.criticality) (value_run v 0)
 
 -- the IEs of a table, with their values
 unfoldable pub fields_run : List IeRow → List (Option FieldValue) → Run
@@ -53,7 +54,7 @@ ies_run kind values = fixed_bits_run 1 0 ▸ number_run 0 65535 (count_of values
 
 -- outcome, in an octet of its own, procedure code, and criticality
 unfoldable pub header_run : Header → Run
-header_run header = index_run 2 (outcome_index header.outcome) ▸ fixed_bits_run 5 0 ▸ number_run 0 255 header.code ▸ fixed_bits_run 2 (names.criticality_number header.criticality)
+header_run header = index_run 2 (outcome_index header.outcome) ▸ fixed_bits_run 5 0 ▸ number_run 0 255 header.code ▸ fixed_bits_run 2 (criticality_number header.criticality)
 
 unfoldable pub pdu_run : MessageKind → List (Option FieldValue) → Run
 pdu_run kind values = header_run (header_of kind) ▸ open_run (ies_run kind values 0)

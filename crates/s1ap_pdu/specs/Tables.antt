@@ -1,7 +1,9 @@
 -- The rows of tables, as the program keeps them.
-use Rattle.std.specs.Prelude.{ℕ, true, false}
+use Rattle.std.specs.Prelude.{ℕ, Bool, true, false}
 use Rattle.s1ap_ies.specs.declared.criticality.Criticality.TheVariants.{Reject, Ignore}
 use Rattle.s1ap_pdu.specs.declared.tables.IeRow.{IeRow}
+use Rattle.s1ap_pdu.specs.declared.tables.Sender.{Sender}
+use Rattle.s1ap_pdu.specs.declared.tables.Sender.TheVariants.{Up, Down}
 
 -- a needed element, whose criticality is reject
 abbrev pub reject : ℕ → IeRow
@@ -18,3 +20,8 @@ optional id = record { id = id; criticality = Reject; needed = false }
 -- the row behind the last element
 abbrev pub no_row : IeRow
 no_row = record { id = 0; criticality = Reject; needed = false }
+
+-- is it the MME that sends?
+abbrev pub by_mme : Sender → Bool
+by_mme Up = false
+by_mme Down = true

@@ -5,7 +5,6 @@
 mod build;
 mod header;
 mod laws;
-mod lists;
 mod pdu;
 mod reading;
 mod slots;

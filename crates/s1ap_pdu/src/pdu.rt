@@ -152,7 +152,7 @@ impl Pdu {
     ghost use Rattle.std.specs.Prelude.{◌++◌, ◌-◌, replicate, None, length};
     ghost use Rattle.s1ap_pdu.specs.Messages.{rows_of};
     ghost use Rattle.s1ap_pdu.specs.Messages.{values_of};
-    ghost use Rattle.s1ap_pdu.specs.Lent.{all_seen};
+    ghost use Rattle.s1ap_pdu.specs.Values.{all_seen};
 
     /// The values of its IEs in the order of its table, and behind them none.
     #[rattlefmt::skip]

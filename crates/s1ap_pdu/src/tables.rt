@@ -3,7 +3,7 @@
 
 ghost use Rattle.std.specs.Prelude.{◌≡◌, ◌≤◌, ◌-◌, ◌++◌, map, length, replicate, eqb};
 ghost use Rattle.std.specs.List.{IsDistinct};
-ghost use Rattle.s1ap_pdu.specs.Tables.{reject, ignore, optional, no_row};
+ghost use Rattle.s1ap_pdu.specs.Tables.{reject, ignore, optional, no_row, by_mme};
 ghost use Rattle.s1ap_pdu.specs.Messages.{outcome_index, rows_of, header_of, is_downlink, name_of};
 ghost use Rattle.s1ap_pdu.specs.Grammar.{kind_with};
 
@@ -111,59 +111,107 @@ macro_rules! table {
     };
 }
 
+/// Who sends a message.
+#[derive(Clone, Copy)]
+enum Sender {
+    /// A base station.
+    Up,
+    /// The MME.
+    Down,
+}
+
+impl Sender {
+    /// Is it the MME?
+    const fn is_mme(self) -> bool
+        ensures { result ≡ by_mme self }
+    {
+        matches!(self, Sender::Down)
+    }
+}
+
+/// What the program keeps of a kind of message.
+#[derive(Clone, Copy)]
+struct MessageRow {
+    /// Its name, as 3GPP TS 36.413, 9.3.3 spells it.
+    name: &'static str,
+    /// Whether an MME sends it, and does not receive it.
+    downlink: bool,
+    /// How it begins.
+    header: Header,
+    /// Its information elements.
+    ies: IeTable,
+}
+
+/// A row of these parts.
+#[inline(always)]
+const fn row(
+    name: &'static str,
+    sender: Sender,
+    outcome: Outcome,
+    code: u8,
+    criticality: Criticality,
+    ies: IeTable,
+) -> MessageRow
+    ensures name { result.name.now ≡ name.now }
+    ensures downlink { result.downlink ≡ by_mme sender }
+    ensures header { result.header ≡ record { outcome = outcome; code = code; criticality = criticality } }
+    ensures ies { result.ies ≡ ies }
+{
+    MessageRow {
+        name,
+        downlink: sender.is_mme(),
+        header: Header {
+            outcome,
+            code,
+            criticality,
+        },
+        ies,
+    }
+}
+
+/// The row of a kind of message: its name, who sends it, how it begins, and its information elements.
+#[inline(always)]
+#[rattlefmt::skip]
+fn row_of(kind: MessageKind) -> MessageRow
+    ensures name { result.name.now ≡ name_of kind }
+    ensures downlink { result.downlink ≡ is_downlink kind }
+    ensures header { result.header ≡ header_of kind }
+    ensures len { result.ies.len ≡ length (rows_of kind) }
+    ensures rows { result.ies.rows ≡ rows_of kind ++ replicate (6 - length (rows_of kind)) no_row }
+{
+    use Criticality::{Ignore, Reject};
+    use MessageKind::*;
+    use Outcome::{Initiating, Successful, Unsuccessful};
+    use Sender::{Down, Up};
+    match kind {
+        InitialUeMessage => row("InitialUEMessage", Up, Initiating, names::INITIAL_UE_MESSAGE, Ignore, table!(reject(names::ENB_UE_S1AP_ID), reject(names::NAS_PDU), reject(names::TAI), ignore(names::CGI), ignore(names::RRC_CAUSE), optional(names::STMSI))),
+        UplinkNasTransport => row("UplinkNASTransport", Up, Initiating, names::UPLINK_NAS_TRANSPORT, Ignore, table!(reject(names::MME_UE_S1AP_ID), reject(names::ENB_UE_S1AP_ID), reject(names::NAS_PDU), ignore(names::CGI), ignore(names::TAI))),
+        DownlinkNasTransport => row("DownlinkNASTransport", Down, Initiating, names::DOWNLINK_NAS_TRANSPORT, Ignore, table!(reject(names::MME_UE_S1AP_ID), reject(names::ENB_UE_S1AP_ID), reject(names::NAS_PDU))),
+        InitialContextSetupRequest => row("InitialContextSetupRequest", Down, Initiating, names::INITIAL_CONTEXT_SETUP, Reject, table!(reject(names::MME_UE_S1AP_ID), reject(names::ENB_UE_S1AP_ID), reject(names::BIT_RATES), reject(names::ERABS_TO_SETUP), reject(names::SEC_CAPS), reject(names::SECURITY_KEY))),
+        InitialContextSetupResponse => row("InitialContextSetupResponse", Up, Successful, names::INITIAL_CONTEXT_SETUP, Reject, table!(ignore(names::MME_UE_S1AP_ID), ignore(names::ENB_UE_S1AP_ID), ignore(names::ERABS_DONE))),
+        InitialContextSetupFailure => row("InitialContextSetupFailure", Up, Unsuccessful, names::INITIAL_CONTEXT_SETUP, Reject, table!(ignore(names::MME_UE_S1AP_ID), ignore(names::ENB_UE_S1AP_ID), ignore(names::CAUSE))),
+        UeContextReleaseRequest => row("UEContextReleaseRequest", Up, Initiating, names::UE_CONTEXT_RELEASE_REQUEST, Ignore, table!(reject(names::MME_UE_S1AP_ID), reject(names::ENB_UE_S1AP_ID), ignore(names::CAUSE))),
+        UeContextReleaseCommand => row("UEContextReleaseCommand", Down, Initiating, names::UE_CONTEXT_RELEASE, Reject, table!(reject(names::UE_IDS), ignore(names::CAUSE))),
+        UeContextReleaseComplete => row("UEContextReleaseComplete", Up, Successful, names::UE_CONTEXT_RELEASE, Reject, table!(ignore(names::MME_UE_S1AP_ID), ignore(names::ENB_UE_S1AP_ID))),
+        UeCapabilityInfoIndication => row("UECapabilityInfoIndication", Up, Initiating, names::UE_CAPABILITY_INFO_INDICATION, Ignore, table!(reject(names::MME_UE_S1AP_ID), reject(names::ENB_UE_S1AP_ID), ignore(names::RADIO_CAPABILITY))),
+    }
+}
+
 /// The information elements of that kind of message.
 #[tactic(auto, using(crate::proofs::Distinct::ids_distinct))]
-#[rattlefmt::skip]
 pub fn ies_of(kind: MessageKind) -> IeTable
     ensures len { result.len ≡ length (rows_of kind) }
     ensures rows { result.rows ≡ rows_of kind ++ replicate (6 - length (rows_of kind)) no_row }
     ensures distinct { IsDistinct eqb (map (λ row. row.id) (rows_of kind)) }
 {
-    use MessageKind::*;
-    match kind {
-        InitialUeMessage => table!(reject(names::ENB_UE_S1AP_ID), reject(names::NAS_PDU), reject(names::TAI), ignore(names::CGI), ignore(names::RRC_CAUSE), optional(names::STMSI)),
-        UplinkNasTransport => table!(reject(names::MME_UE_S1AP_ID), reject(names::ENB_UE_S1AP_ID), reject(names::NAS_PDU), ignore(names::CGI), ignore(names::TAI)),
-        DownlinkNasTransport => table!(reject(names::MME_UE_S1AP_ID), reject(names::ENB_UE_S1AP_ID), reject(names::NAS_PDU)),
-        InitialContextSetupRequest => table!(reject(names::MME_UE_S1AP_ID), reject(names::ENB_UE_S1AP_ID), reject(names::BIT_RATES), reject(names::ERABS_TO_SETUP), reject(names::SEC_CAPS), reject(names::SECURITY_KEY)),
-        InitialContextSetupResponse => table!(ignore(names::MME_UE_S1AP_ID), ignore(names::ENB_UE_S1AP_ID), ignore(names::ERABS_DONE)),
-        InitialContextSetupFailure => table!(ignore(names::MME_UE_S1AP_ID), ignore(names::ENB_UE_S1AP_ID), ignore(names::CAUSE)),
-        UeContextReleaseRequest => table!(reject(names::MME_UE_S1AP_ID), reject(names::ENB_UE_S1AP_ID), ignore(names::CAUSE)),
-        UeContextReleaseCommand => table!(reject(names::UE_IDS), ignore(names::CAUSE)),
-        UeContextReleaseComplete => table!(ignore(names::MME_UE_S1AP_ID), ignore(names::ENB_UE_S1AP_ID)),
-        UeCapabilityInfoIndication => table!(reject(names::MME_UE_S1AP_ID), reject(names::ENB_UE_S1AP_ID), ignore(names::RADIO_CAPABILITY)),
-    }
-}
-
-/// A header of these parts.
-const fn begins(outcome: Outcome, code: u8, criticality: Criticality) -> Header
-    ensures { result ≡ record { outcome = outcome; code = code; criticality = criticality } }
-{
-    Header {
-        outcome,
-        code,
-        criticality,
-    }
+    row_of(kind).ies
 }
 
 /// How a message of that kind begins.
-#[rattlefmt::skip]
 pub fn header_of(kind: MessageKind) -> Header
     ensures { result ≡ header_of kind }
 {
-    use Criticality::{Ignore, Reject};
-    use Outcome::{Initiating, Successful, Unsuccessful};
-    match kind {
-        MessageKind::InitialUeMessage => begins(Initiating, names::INITIAL_UE_MESSAGE, Ignore),
-        MessageKind::UplinkNasTransport => begins(Initiating, names::UPLINK_NAS_TRANSPORT, Ignore),
-        MessageKind::DownlinkNasTransport => begins(Initiating, names::DOWNLINK_NAS_TRANSPORT, Ignore),
-        MessageKind::InitialContextSetupRequest => begins(Initiating, names::INITIAL_CONTEXT_SETUP, Reject),
-        MessageKind::InitialContextSetupResponse => begins(Successful, names::INITIAL_CONTEXT_SETUP, Reject),
-        MessageKind::InitialContextSetupFailure => begins(Unsuccessful, names::INITIAL_CONTEXT_SETUP, Reject),
-        MessageKind::UeContextReleaseRequest => begins(Initiating, names::UE_CONTEXT_RELEASE_REQUEST, Ignore),
-        MessageKind::UeContextReleaseCommand => begins(Initiating, names::UE_CONTEXT_RELEASE, Reject),
-        MessageKind::UeContextReleaseComplete => begins(Successful, names::UE_CONTEXT_RELEASE, Reject),
-        MessageKind::UeCapabilityInfoIndication => begins(Initiating, names::UE_CAPABILITY_INFO_INDICATION, Ignore),
-    }
+    row_of(kind).header
 }
 
 /// The kind of message that begins with that outcome and procedure code.
@@ -192,28 +240,12 @@ pub fn kind_with(outcome: Outcome, code: u8) -> Option<MessageKind>
 pub fn is_downlink(kind: MessageKind) -> bool
     ensures { result ≡ is_downlink kind }
 {
-    matches!(
-        kind,
-        MessageKind::DownlinkNasTransport
-            | MessageKind::InitialContextSetupRequest
-            | MessageKind::UeContextReleaseCommand
-    )
+    row_of(kind).downlink
 }
 
 /// The name of a message, as 3GPP TS 36.413, 9.3.3 spells it.
 pub fn message_name(kind: MessageKind) -> &'static str
     ensures { result.now ≡ name_of kind }
 {
-    match kind {
-        MessageKind::InitialUeMessage => "InitialUEMessage",
-        MessageKind::UplinkNasTransport => "UplinkNASTransport",
-        MessageKind::DownlinkNasTransport => "DownlinkNASTransport",
-        MessageKind::InitialContextSetupRequest => "InitialContextSetupRequest",
-        MessageKind::InitialContextSetupResponse => "InitialContextSetupResponse",
-        MessageKind::InitialContextSetupFailure => "InitialContextSetupFailure",
-        MessageKind::UeContextReleaseRequest => "UEContextReleaseRequest",
-        MessageKind::UeContextReleaseCommand => "UEContextReleaseCommand",
-        MessageKind::UeContextReleaseComplete => "UEContextReleaseComplete",
-        MessageKind::UeCapabilityInfoIndication => "UECapabilityInfoIndication",
-    }
+    row_of(kind).name
 }

@@ -1,18 +1,23 @@
 //! The values of IEs.
 
-ghost use Rattle.std.specs.Prelude.{◌≡◌, IfOk};
+ghost use Rattle.std.specs.Prelude.{◌≡◌, IfOk, OnOk};
 ghost use Rattle.echo_base.specs.Reading.{Gives};
 ghost use Rattle.aper_fields.specs.Reading.{octet_string_at, fixed_octets_at};
 ghost use Rattle.aper_fields.specs.Asn1.{reading};
-ghost use Rattle.s1ap_pdu.specs.Values.{value_type, among, later_ies, rrc_cause};
+ghost use Rattle.s1ap_pdu.specs.Values.{value_type, among, later_ies, last_ie, seen};
+ghost use Rattle.aper_fields.specs.Run.{then_written};
+ghost use Rattle.s1ap_pdu.specs.Run.{value_run, IsRightValue};
 
-use crate::lists::{FoundErabs, find_erabs_done, find_erabs_to_setup};
 use crate::pdu::{ErabsDone, ErabsToSetup};
-use aper_fields::{BitReader, EnumValue, Ranged, read_enum, read_octet_string, read_octets_fixed};
+use aper_fields::{
+    BitReader, BitWriter, EnumValue, Ranged, read_enum, read_octet_string, read_octets_fixed,
+    write_enum, write_octet_string, write_octets_fixed,
+};
 use device_types::Octets;
 use echo_base::{OutOfMemory, Refusal};
 use s1ap_ies::{
-    BitRates, Cause, Cgi, ErabDone, ErabToSetup, PlainValue, SecCaps, Stmsi, Tai, UeIds, names,
+    BitRates, Cause, Cgi, Criticality, ErabDone, ErabToSetup, FoundList, PlainValue, SecCaps,
+    Stmsi, Tai, UeIds, find_list, names, write_list,
 };
 use std::alloc::Global;
 use std::marker::Model;
@@ -79,8 +84,8 @@ impl<'a> FoundOctets<'a> {
 /// A value as it was found.
 pub type FoundValue<'a> = IeValue<
     FoundOctets<'a>,
-    FoundErabs<'a, ErabToSetup>,
-    FoundErabs<'a, ErabDone>,
+    FoundList<'a, ErabToSetup>,
+    FoundList<'a, ErabDone>,
 >;
 
 /// A value as it is written.
@@ -106,7 +111,7 @@ fn find_key<'a>(r: &mut BitReader<'a>) -> Result<FoundOctets<'a>, Refusal>
 #[inline(always)]
 #[tactic(auto, unfolding(aper_fields::specs::Asn1::reading))]
 fn find_later_value<'a>(r: &mut BitReader<'a>, id: u16) -> Result<FoundValue<'a>, Refusal>
-    ensures { Gives result r.old r.new (reading (among later_ies rrc_cause id) r.old) }
+    ensures { Gives result r.old r.new (reading (among later_ies last_ie.ie id) r.old) }
 {
     match id {
         names::SECURITY_KEY => Ok(IeValue::Key(find_key(r)?)),
@@ -133,11 +138,38 @@ pub fn find_value<'a>(r: &mut BitReader<'a>, id: u16) -> Result<FoundValue<'a>, 
         names::ENB_UE_S1AP_ID => Ok(IeValue::Enb(
             Ranged::<0, { names::MOST_ENB_UE_S1AP_ID }>::read(r)? as u32,
         )),
-        names::ERABS_TO_SETUP => Ok(IeValue::Bearers(find_erabs_to_setup(r)?)),
+        names::ERABS_TO_SETUP => Ok(IeValue::Bearers(find_list(r, names::ERAB_TO_SETUP_ITEM)?)),
         names::NAS_PDU => Ok(IeValue::Nas(find_text(r, names::MOST_OCTETS_OF_NAS)?)),
-        names::ERABS_DONE => Ok(IeValue::Done(find_erabs_done(r)?)),
+        names::ERABS_DONE => Ok(IeValue::Done(find_list(r, names::ERAB_SETUP_ITEM)?)),
         names::BIT_RATES => Ok(IeValue::Rates(BitRates::read(r)?)),
         names::TAI => Ok(IeValue::Tai(Tai::read(r)?)),
         _ => find_later_value(r, id),
+    }
+}
+
+/// Writes the value of an IE, which is what its open type contains (TS 36.413, 9.2). It fails for want of memory alone.
+#[tactic(auto, unfolding(crate::specs::Run::value_run, aper_fields::specs::Asn1::run))]
+pub fn write_value(w: &mut BitWriter, value: &LentValue) -> Result<(), OutOfMemory>
+    requires { IsRightValue (seen value.now) }
+    ensures { OnOk result (w.new ≡ then_written w.old (value_run (seen value.now))) }
+{
+    match value {
+        IeValue::Mme(mme) => Ranged::<0, { names::MOST_MME_UE_S1AP_ID }>::write(w, u64::from(*mme)),
+        IeValue::Cause(cause) => cause.write(w),
+        IeValue::Enb(enb) => Ranged::<0, { names::MOST_ENB_UE_S1AP_ID }>::write(w, u64::from(*enb)),
+        IeValue::Bearers(bearers) => {
+            write_list(w, names::ERAB_TO_SETUP_ITEM, Criticality::Reject, bearers)
+        }
+        IeValue::Nas(nas) => write_octet_string(w, nas.items()),
+        IeValue::Done(done) => { write_list(w, names::ERAB_SETUP_ITEM, Criticality::Ignore, done) }
+        IeValue::Rates(rates) => rates.write(w),
+        IeValue::Tai(tai) => tai.write(w),
+        IeValue::Key(key) => write_octets_fixed(w, key.items()),
+        IeValue::Radio(radio) => write_octet_string(w, radio.items()),
+        IeValue::Stmsi(stmsi) => stmsi.write(w),
+        IeValue::Ids(ids) => ids.write(w),
+        IeValue::Cgi(cgi) => cgi.write(w),
+        IeValue::Caps(caps) => caps.write(w),
+        IeValue::Rrc(rrc) => write_enum(w, names::RRC_CAUSE_ROOTS, true, *rrc),
     }
 }

@@ -5,49 +5,19 @@ ghost use Rattle.std.specs.List.{AllByRecursion};
 ghost use Rattle.aper_fields.specs.Run.{then_written};
 ghost use Rattle.s1ap_pdu.specs.Messages.{rows_of};
 ghost use Rattle.s1ap_pdu.specs.Messages.{kind_of, values_of};
-ghost use Rattle.s1ap_pdu.specs.Lent.{seen, all_seen};
-ghost use Rattle.s1ap_pdu.specs.Run.{value_run, ie_run, fields_run, ies_run, written, IsRightValue, IsRightField, IsRight, count_of};
+ghost use Rattle.s1ap_pdu.specs.Values.{seen, all_seen};
+ghost use Rattle.s1ap_pdu.specs.Run.{ie_run, fields_run, ies_run, written, IsRightField, IsRight, count_of};
 
 use crate::header::write_header;
-use crate::lists::{write_erabs_done, write_erabs_to_setup};
 use crate::pdu::Pdu;
 use crate::reading::rows;
 use crate::tables::{IeRow, MessageKind, header_of, ies_of};
-use crate::value::{IeValue, LentValue};
-use aper_fields::{
-    BitWriter, Ranged, begin_open, end_open, write_bits_fixed, write_enum, write_octet_string,
-    write_octets_fixed,
-};
+use crate::value::{LentValue, write_value};
+use aper_fields::{BitWriter, Ranged, begin_open, end_open, write_bits_fixed};
 use device_types::Octets;
 use echo_base::OutOfMemory;
-use s1ap_ies::names::{MOST_ENB_UE_S1AP_ID, MOST_MME_UE_S1AP_ID, RRC_CAUSE_ROOTS};
-use s1ap_ies::{PlainValue, begin_item};
+use s1ap_ies::begin_item;
 use std::alloc::Global;
-
-/// Writes the value of an IE, which is what its open type contains (TS 36.413, 9.2). It fails for want of memory alone.
-#[tactic(auto, unfolding(crate::specs::Run::value_run, aper_fields::specs::Asn1::run))]
-fn write_value(w: &mut BitWriter, value: &LentValue) -> Result<(), OutOfMemory>
-    requires { IsRightValue (seen value.now) }
-    ensures { OnOk result (w.new ≡ then_written w.old (value_run (seen value.now))) }
-{
-    match value {
-        IeValue::Mme(mme) => Ranged::<0, MOST_MME_UE_S1AP_ID>::write(w, u64::from(*mme)),
-        IeValue::Cause(cause) => cause.write(w),
-        IeValue::Enb(enb) => Ranged::<0, MOST_ENB_UE_S1AP_ID>::write(w, u64::from(*enb)),
-        IeValue::Bearers(bearers) => write_erabs_to_setup(w, bearers.items()),
-        IeValue::Nas(nas) => write_octet_string(w, nas.items()),
-        IeValue::Done(done) => write_erabs_done(w, done.items()),
-        IeValue::Rates(rates) => rates.write(w),
-        IeValue::Tai(tai) => tai.write(w),
-        IeValue::Key(key) => write_octets_fixed(w, key.items()),
-        IeValue::Radio(radio) => write_octet_string(w, radio.items()),
-        IeValue::Stmsi(stmsi) => stmsi.write(w),
-        IeValue::Ids(ids) => ids.write(w),
-        IeValue::Cgi(cgi) => cgi.write(w),
-        IeValue::Caps(caps) => caps.write(w),
-        IeValue::Rrc(rrc) => write_enum(w, RRC_CAUSE_ROOTS, true, *rrc),
-    }
-}
 
 /// Writes an IE with the id and criticality of its row, where the message has it.
 #[tactic(auto, unfolding(crate::specs::Run::ie_run))]

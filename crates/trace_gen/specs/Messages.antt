@@ -2,7 +2,7 @@
 use Rattle.std.specs.Prelude.{ℕ, ◌+◌, false, List, [], ◌∷◌, ◌++◌, codes, Option, Some, None}
 use Rattle.hex.specs.Hex.{encode_lower}
 use Rattle.aper_fields.specs.declared.enumerated.EnumValue.{EnumValue}
-use Rattle.s1ap_ies.specs.Names as names
+use Rattle.s1ap_ies.specs.declared.names.TheConstants as names
 use Rattle.s1ap_ies.specs.declared.tai.Tai.{Tai}
 use Rattle.s1ap_ies.specs.declared.cgi.Cgi.{Cgi}
 use Rattle.s1ap_ies.specs.declared.stmsi.Stmsi.{Stmsi}
@@ -39,7 +39,7 @@ uplink device message = UplinkNasTransport device device message cell area
 
 -- the default bearer, and the tunnel's end at the base station: 192.168.0.2, TEID 2
 abbrev pub context_made : ℕ → Pdu
-context_made device = InitialContextSetupResponse device device (record { id = names.default_erab; address = 0xc0a80002; teid = 2 } ∷ [])
+context_made device = InitialContextSetupResponse device device (record { id = names.DEFAULT_ERAB; address = 0xc0a80002; teid = 2 } ∷ [])
 
 -- radio network, user inactivity (9.2.1.3)
 abbrev pub inactivity : Cause

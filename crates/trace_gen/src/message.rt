@@ -85,7 +85,7 @@ fn uplink(alloc: Global, device: u32, message: &[u8]) -> Result<Pdu, OutOfMemory
 }
 
 /// INITIAL CONTEXT SETUP RESPONSE (9.1.4.3) with the default bearer.
-#[tactic(auto, unfolding(s1ap_ies::specs::Values::erabs_done, s1ap_ies::specs::Values::erab_done, s1ap_ies::specs::Values::erab_id, s1ap_ies::specs::Values::address))]
+#[tactic(auto, unfolding(s1ap_ies::specs::Values::erab_done, s1ap_ies::specs::Values::erab_id, s1ap_ies::specs::Values::address))]
 fn context_made(alloc: Global, device: u32) -> Result<Pdu, OutOfMemory>
     requires device { device < 2 ^ 24 }
     ensures message { IfOk result (λ p. p ≡ context_made device) }

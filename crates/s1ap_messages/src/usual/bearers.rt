@@ -3,7 +3,9 @@
 ghost use Rattle.std.specs.Prelude.{◌≡◌, ◌<◌, ◌∷◌, [], IfSome, is_some};
 ghost use Rattle.s1ap_ies.specs.Run.{IsErabDone, IsErabToSetup, IsNas};
 ghost use Rattle.aper_fields.specs.Asn1.{CanBeWritten};
-ghost use Rattle.s1ap_ies.specs.Names as named;
+ghost use Rattle.s1ap_ies.specs.Criticalities as level;
+ghost use Rattle.s1ap_ies.specs.Criticalities.{criticality_number};
+ghost use Rattle.s1ap_ies.specs.declared.names.TheConstants as named;
 ghost use Rattle.s1ap_ies.specs.Values as types;
 ghost use Rattle.s1ap_messages.specs.Usual.{nas_octets, done_octets, setup_octets, erabs_octets, ie_octets};
 
@@ -18,7 +20,7 @@ use std::alloc::Global;
 #[inline(always)]
 fn item(octets: &[u8], id: u16, criticality: Criticality) -> Option<&[u8]>
     requires { id < 256 }
-    ensures { IfSome result (λ x. octets.now ≡ 0 ∷ ie_octets id (named.criticality_number criticality) x.now) }
+    ensures { IfSome result (λ x. octets.now ≡ 0 ∷ ie_octets id (criticality_number criticality) x.now) }
 {
     let (count, items) = one(octets)?;
     let (item, more) = ie(items, id, criticality)?;
@@ -59,9 +61,9 @@ fn done(octets: &[u8]) -> Option<ErabDone>
 }
 
 /// A list of one E-RAB that was set up, where all of the octets are it.
-#[tactic(auto, unfolding(crate::specs::Usual::erabs_octets, crate::specs::Usual::items_octets, s1ap_ies::specs::Values::erabs_done, s1ap_ies::specs::Values::erab_done, s1ap_ies::specs::Values::erab_id, s1ap_ies::specs::Values::address))]
+#[tactic(auto, unfolding(crate::specs::Usual::erabs_octets, crate::specs::Usual::items_octets, s1ap_ies::specs::Values::erab_done, s1ap_ies::specs::Values::erab_id, s1ap_ies::specs::Values::address))]
 pub fn erabs_done(alloc: Global, octets: &[u8]) -> Option<ErabsDone>
-    ensures octets { IfSome result (λ list. octets.now ≡ erabs_octets named.erab_setup_item named.ignore done_octets list) }
+    ensures octets { IfSome result (λ list. octets.now ≡ erabs_octets named.ERAB_SETUP_ITEM level.ignore done_octets list) }
     ensures right { IfSome result (λ list. CanBeWritten types.erabs_done list) }
 {
     let erab = done(item(octets, names::ERAB_SETUP_ITEM, Criticality::Ignore)?)?;
@@ -114,9 +116,9 @@ fn setup(alloc: Global, octets: &[u8]) -> Option<ErabToSetup>
 }
 
 /// A list of one E-RAB that is to be set up, where all of the octets are it.
-#[tactic(auto, unfolding(crate::specs::Usual::erabs_octets, crate::specs::Usual::items_octets, s1ap_ies::specs::Values::erabs_to_setup, s1ap_ies::specs::Values::erab_to_setup, s1ap_ies::specs::Values::erab_id, s1ap_ies::specs::Values::qos, s1ap_ies::specs::Values::arp, s1ap_ies::specs::Values::address))]
+#[tactic(auto, unfolding(crate::specs::Usual::erabs_octets, crate::specs::Usual::items_octets, s1ap_ies::specs::Values::erab_to_setup, s1ap_ies::specs::Values::erab_id, s1ap_ies::specs::Values::qos, s1ap_ies::specs::Values::arp, s1ap_ies::specs::Values::address))]
 pub fn erabs_to_setup(alloc: Global, octets: &[u8]) -> Option<ErabsToSetup>
-    ensures octets { IfSome result (λ list. octets.now ≡ erabs_octets named.erab_to_setup_item named.reject setup_octets list) }
+    ensures octets { IfSome result (λ list. octets.now ≡ erabs_octets named.ERAB_TO_SETUP_ITEM level.reject setup_octets list) }
     ensures right { IfSome result (λ list. CanBeWritten types.erabs_to_setup list) }
 {
     let erab = setup(

@@ -1,7 +1,7 @@
 //! Octets, read from left to right.
 
 ghost use Rattle.std.specs.Prelude.{◌≡◌, ◌+◌, ◌*◌, ◌<◌, ◌≤◌, ◌∷◌, [], ◌++◌, IfSome, length};
-ghost use Rattle.s1ap_ies.specs.Names as named;
+ghost use Rattle.s1ap_ies.specs.Criticalities.{criticality_number};
 ghost use Rattle.s1ap_messages.specs.Usual.{count_octets, counted, least_octets, number_octets, ie_octets};
 
 use s1ap_ies::Criticality;
@@ -76,7 +76,7 @@ pub fn counted(octets: &[u8]) -> Option<(&[u8], &[u8])>
 #[tactic(auto, unfolding(crate::specs::Usual::ie_octets))]
 pub fn ie(octets: &[u8], id: u16, criticality: Criticality) -> Option<(&[u8], &[u8])>
     requires { id < 256 }
-    ensures { IfSome result (λ x. octets.now ≡ ie_octets id (named.criticality_number criticality) x.0.now ++ x.1.now) }
+    ensures { IfSome result (λ x. octets.now ≡ ie_octets id (criticality_number criticality) x.0.now ++ x.1.now) }
 {
     let (high, low, third, rest) = three(octets)?;
     let wanted = 64 * criticality.number();

@@ -1,7 +1,7 @@
 //! Octets that are written one behind another.
 
 ghost use Rattle.std.specs.Prelude.{◌≡◌, ◌+◌, ◌-◌, ◌*◌, ◌^◌, ◌<◌, ◌≤◌, ◌∷◌, ◌++◌, IfOk, IfSome, OnOk, length, take, drop};
-ghost use Rattle.s1ap_ies.specs.Names as named;
+ghost use Rattle.s1ap_ies.specs.Criticalities.{criticality_number};
 ghost use Rattle.s1ap_pdu.specs.Messages.{rows_of};
 ghost use Rattle.s1ap_messages.specs.Usual.{beginning, count_octets, counted, least_octets, number_octets};
 
@@ -93,7 +93,7 @@ pub fn put_ie(
 ) -> Result<(), AllocError>
     requires id { id < 256 }
     requires len { len < 16384 }
-    ensures { OnOk result (out.new.items ≡ out.old.items ++ 0 ∷ id ∷ 64 * named.criticality_number criticality ∷ count_octets len) }
+    ensures { OnOk result (out.new.items ≡ out.old.items ++ 0 ∷ id ∷ 64 * criticality_number criticality ∷ count_octets len) }
 {
     let criticality = 64 * criticality.number();
     if len < 128 {

@@ -2,7 +2,8 @@
 
 ghost use Rattle.std.specs.Prelude.{◌≡◌, ◌+◌, ◌<◌, ◌≤◌, ◌∷◌, [], ◌++◌, OnOk, IfSome, is_some, if◌then◌else◌, length};
 ghost use Rattle.s1ap_ies.specs.Run.{IsErabDone, IsErabToSetup, IsNas};
-ghost use Rattle.s1ap_ies.specs.Names as named;
+ghost use Rattle.s1ap_ies.specs.Criticalities as level;
+ghost use Rattle.s1ap_ies.specs.declared.names.TheConstants as named;
 ghost use Rattle.s1ap_messages.specs.Usual.{done_octets, nas_octets, setup_octets, erabs_octets, ie_octets};
 
 use crate::usual::put::{count_len, counted_len, put_counted, put_ie};
@@ -16,7 +17,7 @@ use std::alloc::AllocError;
 #[rattlefmt::skip]
 pub fn put_done(out: &mut Vec<u8>, erab: &ErabDone) -> Result<(), AllocError>
     requires { IsErabDone erab.now }
-    ensures { OnOk result (out.new.items ≡ out.old.items ++ ie_octets named.erabs_done named.ignore (erabs_octets named.erab_setup_item named.ignore done_octets (erab.now ∷ []))) }
+    ensures { OnOk result (out.new.items ≡ out.old.items ++ ie_octets named.ERABS_DONE level.ignore (erabs_octets named.ERAB_SETUP_ITEM level.ignore done_octets (erab.now ∷ []))) }
 {
     let [a, b, c, d] = four(erab.address);
     let [t, u, v, w] = four(erab.teid);
@@ -82,7 +83,7 @@ fn put_fields(out: &mut Vec<u8>, erab: &ErabToSetup) -> Result<(), AllocError>
 #[tactic(auto, using(crate::proofs::UsualWrite::setups_put))]
 pub fn put_setup(out: &mut Vec<u8>, erab: &ErabToSetup) -> Result<(), AllocError>
     requires { IsErabToSetup erab.now }
-    ensures { OnOk result (out.new.items ≡ out.old.items ++ ie_octets named.erabs_to_setup named.reject (erabs_octets named.erab_to_setup_item named.reject setup_octets (erab.now ∷ []))) }
+    ensures { OnOk result (out.new.items ≡ out.old.items ++ ie_octets named.ERABS_TO_SETUP level.reject (erabs_octets named.ERAB_TO_SETUP_ITEM level.reject setup_octets (erab.now ∷ []))) }
 {
     let len = nas_len(&erab.nas) + 14;
     put_ie(

@@ -259,7 +259,7 @@ fn ue_capability_info_indication(
 
 /// The octets of a message, without the length of its body, where its lists have one item and its radio capability at most 16,000 octets. Any
 /// other goes piece by piece.
-#[tactic(auto, unfolding(s1ap_ies::specs::Values::erabs_to_setup, s1ap_ies::specs::Values::erab_to_setup, s1ap_ies::specs::Values::erabs_done, s1ap_ies::specs::Values::erab_done, s1ap_ies::specs::Values::erab_id, s1ap_ies::specs::Values::qos, s1ap_ies::specs::Values::arp, s1ap_ies::specs::Values::address), using(crate::proofs::UsualForm::stmsi_form))]
+#[tactic(auto, unfolding(s1ap_ies::specs::Values::erab_to_setup, s1ap_ies::specs::Values::erab_done, s1ap_ies::specs::Values::erab_id, s1ap_ies::specs::Values::qos, s1ap_ies::specs::Values::arp, s1ap_ies::specs::Values::address), using(crate::proofs::UsualForm::stmsi_form))]
 #[rattlefmt::skip]
 pub fn unfinished(alloc: Global, p: &Pdu) -> Result<Option<Vec<u8>>, AllocError>
     requires { IsRight p.now }

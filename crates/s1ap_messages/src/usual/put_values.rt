@@ -4,7 +4,9 @@ ghost use Rattle.std.specs.Prelude.{◌≡◌, ◌+◌, ◌^◌, ◌<◌, ◌≤
 ghost use Rattle.aper_fields.specs.Spelling.{IsEnumValue};
 ghost use Rattle.s1ap_ies.specs.declared.ue_ids.UeIds.TheVariants.{Pair, Mme};
 ghost use Rattle.s1ap_ies.specs.Run.{IsTai, IsCgi, IsBitRates, IsCause};
-ghost use Rattle.s1ap_ies.specs.Names as named;
+ghost use Rattle.s1ap_ies.specs.Criticalities as level;
+ghost use Rattle.s1ap_ies.specs.Criticalities.{criticality_number};
+ghost use Rattle.s1ap_ies.specs.declared.names.TheConstants as named;
 ghost use Rattle.s1ap_pdu.specs.Tables.{optional};
 ghost use Rattle.s1ap_pdu.specs.declared.value.IeValue.TheVariants as value;
 ghost use Rattle.s1ap_messages.specs.Usual.{counted, four_octets, number_octets, tai_octets, cgi_octets, stmsi_octets, rates_octets, caps_octets, rrc_octets, cause_octets, ids_octets, ie_octets, fields_octets};
@@ -24,7 +26,7 @@ fn put_wide_id(
 ) -> Result<(), AllocError>
     requires id { id < 256 }
     requires fits { n < 2 ^ 32 }
-    ensures { OnOk result (out.new.items ≡ out.old.items ++ ie_octets id (named.criticality_number criticality) (number_octets 0 64 n)) }
+    ensures { OnOk result (out.new.items ≡ out.old.items ++ ie_octets id (criticality_number criticality) (number_octets 0 64 n)) }
 {
     put_ie(out, id, criticality, octets_in(n) + 1)?;
     put_number(out, 0, 64, n)?;
@@ -41,7 +43,7 @@ pub fn put_id(
     n: u32,
 ) -> Result<(), AllocError>
     requires { id < 256 }
-    ensures { OnOk result (out.new.items ≡ out.old.items ++ ie_octets id (named.criticality_number criticality) (number_octets 0 64 n)) }
+    ensures { OnOk result (out.new.items ≡ out.old.items ++ ie_octets id (criticality_number criticality) (number_octets 0 64 n)) }
 {
     put_wide_id(out, id, criticality, u64::from(n))
 }
@@ -56,7 +58,7 @@ pub fn put_text(
 ) -> Result<(), AllocError>
     requires id { id < 256 }
     requires few { length text.now ≤ 16000 }
-    ensures { OnOk result (out.new.items ≡ out.old.items ++ ie_octets id (named.criticality_number criticality) (counted text.now)) }
+    ensures { OnOk result (out.new.items ≡ out.old.items ++ ie_octets id (criticality_number criticality) (counted text.now)) }
 {
     put_ie(out, id, criticality, counted_len(text))?;
     put_counted(out, text)?;
@@ -69,7 +71,7 @@ pub fn put_text(
 #[tactic(auto, unfolding(crate::specs::Usual::ie_octets, crate::specs::Usual::counted, crate::specs::Usual::count_octets, crate::specs::Usual::tai_octets))]
 pub fn put_tai(out: &mut Vec<u8>, criticality: Criticality, tai: &Tai) -> Result<(), AllocError>
     requires right { IsTai tai.now }
-    ensures { OnOk result (out.new.items ≡ out.old.items ++ ie_octets named.tai (named.criticality_number criticality) (tai_octets tai.now)) }
+    ensures { OnOk result (out.new.items ≡ out.old.items ++ ie_octets named.TAI (criticality_number criticality) (tai_octets tai.now)) }
 {
     out.extend_from_slice(&[
         0,
@@ -91,7 +93,7 @@ pub fn put_tai(out: &mut Vec<u8>, criticality: Criticality, tai: &Tai) -> Result
 #[tactic(auto, unfolding(crate::specs::Usual::ie_octets, crate::specs::Usual::counted, crate::specs::Usual::count_octets, crate::specs::Usual::cgi_octets))]
 pub fn put_cgi(out: &mut Vec<u8>, cgi: &Cgi) -> Result<(), AllocError>
     requires { IsCgi cgi.now }
-    ensures { OnOk result (out.new.items ≡ out.old.items ++ ie_octets named.cgi named.ignore (cgi_octets cgi.now)) }
+    ensures { OnOk result (out.new.items ≡ out.old.items ++ ie_octets named.CGI level.ignore (cgi_octets cgi.now)) }
 {
     out.extend_from_slice(&[
         0,
@@ -115,7 +117,7 @@ pub fn put_cgi(out: &mut Vec<u8>, cgi: &Cgi) -> Result<(), AllocError>
 #[tactic(auto, unfolding(crate::specs::Usual::ie_octets, crate::specs::Usual::counted, crate::specs::Usual::count_octets, crate::specs::Usual::rrc_octets))]
 pub fn put_rrc(out: &mut Vec<u8>, rrc: &EnumValue) -> Result<(), AllocError>
     requires { IsEnumValue 5 true rrc.now }
-    ensures { OnOk result (out.new.items ≡ out.old.items ++ ie_octets named.rrc_cause named.ignore (rrc_octets rrc.now)) }
+    ensures { OnOk result (out.new.items ≡ out.old.items ++ ie_octets named.RRC_CAUSE level.ignore (rrc_octets rrc.now)) }
 {
     let id = names::RRC_CAUSE as u8;
     let criticality = 64 * Criticality::Ignore.number();
@@ -144,7 +146,7 @@ pub fn four(n: u32) -> [u8; 4]
 #[inline(always)]
 #[tactic(auto, unfolding(crate::specs::Usual::ie_octets, crate::specs::Usual::counted, crate::specs::Usual::count_octets, crate::specs::Usual::stmsi_octets, crate::specs::Usual::four_octets))]
 fn put_stmsi(out: &mut Vec<u8>, stmsi: &Stmsi) -> Result<(), AllocError>
-    ensures { OnOk result (out.new.items ≡ out.old.items ++ ie_octets named.stmsi named.reject (stmsi_octets stmsi.now)) }
+    ensures { OnOk result (out.new.items ≡ out.old.items ++ ie_octets named.STMSI level.reject (stmsi_octets stmsi.now)) }
 {
     let [a, b, c, d] = four(stmsi.tmsi);
     let code = stmsi.mmec;
@@ -156,7 +158,7 @@ fn put_stmsi(out: &mut Vec<u8>, stmsi: &Stmsi) -> Result<(), AllocError>
 /// Puts the S-TMSI of an INITIAL UE MESSAGE, where it has one.
 #[inline(always)]
 pub fn put_last_stmsi(out: &mut Vec<u8>, stmsi: &Option<Stmsi>) -> Result<(), AllocError>
-    ensures { OnOk result (out.new.items ≡ out.old.items ++ fields_octets (optional named.stmsi ∷ []) (option_map value.Stmsi stmsi.now ∷ [])) }
+    ensures { OnOk result (out.new.items ≡ out.old.items ++ fields_octets (optional named.STMSI ∷ []) (option_map value.Stmsi stmsi.now ∷ [])) }
 {
     match stmsi {
         Some(stmsi) => put_stmsi(out, stmsi),
@@ -169,7 +171,7 @@ pub fn put_last_stmsi(out: &mut Vec<u8>, stmsi: &Option<Stmsi>) -> Result<(), Al
 #[inline(always)]
 pub fn put_rates(out: &mut Vec<u8>, rates: &BitRates) -> Result<(), AllocError>
     requires { IsBitRates rates.now }
-    ensures { OnOk result (out.new.items ≡ out.old.items ++ ie_octets named.bit_rates named.reject (rates_octets rates.now)) }
+    ensures { OnOk result (out.new.items ≡ out.old.items ++ ie_octets named.BIT_RATES level.reject (rates_octets rates.now)) }
 {
     put_ie(
         out,
@@ -187,7 +189,7 @@ pub fn put_rates(out: &mut Vec<u8>, rates: &BitRates) -> Result<(), AllocError>
 #[inline(always)]
 #[tactic(auto, unfolding(crate::specs::Usual::ie_octets, crate::specs::Usual::counted, crate::specs::Usual::count_octets, crate::specs::Usual::caps_octets))]
 pub fn put_caps(out: &mut Vec<u8>, caps: &SecCaps) -> Result<(), AllocError>
-    ensures { OnOk result (out.new.items ≡ out.old.items ++ ie_octets named.sec_caps named.reject (caps_octets caps.now)) }
+    ensures { OnOk result (out.new.items ≡ out.old.items ++ ie_octets named.SEC_CAPS level.reject (caps_octets caps.now)) }
 {
     out.extend_from_slice(&[
         0,
@@ -207,7 +209,7 @@ pub fn put_caps(out: &mut Vec<u8>, caps: &SecCaps) -> Result<(), AllocError>
 #[tactic(auto, unfolding(crate::specs::Usual::ie_octets, crate::specs::Usual::counted))]
 pub fn put_key(out: &mut Vec<u8>, key: &[u8]) -> Result<(), AllocError>
     requires { length key.now ≡ 32 }
-    ensures { OnOk result (out.new.items ≡ out.old.items ++ ie_octets named.security_key named.reject key.now) }
+    ensures { OnOk result (out.new.items ≡ out.old.items ++ ie_octets named.SECURITY_KEY level.reject key.now) }
 {
     put_ie(out, names::SECURITY_KEY, Criticality::Reject, key.len())?;
     out.extend_from_slice(key)
@@ -219,7 +221,7 @@ pub fn put_key(out: &mut Vec<u8>, key: &[u8]) -> Result<(), AllocError>
 #[tactic(auto, unfolding(crate::specs::Usual::ie_octets, crate::specs::Usual::counted, crate::specs::Usual::count_octets, crate::specs::Usual::cause_octets, device_types::specs::Cause::cause_roots))]
 pub fn put_cause(out: &mut Vec<u8>, cause: &Cause) -> Result<(), AllocError>
     requires { IsCause cause.now }
-    ensures { OnOk result (out.new.items ≡ out.old.items ++ ie_octets named.cause named.ignore (cause_octets cause.now)) }
+    ensures { OnOk result (out.new.items ≡ out.old.items ++ ie_octets named.CAUSE level.ignore (cause_octets cause.now)) }
 {
     let id = names::CAUSE as u8;
     let ignore = 64 * Criticality::Ignore.number();
@@ -251,7 +253,7 @@ pub fn put_cause(out: &mut Vec<u8>, cause: &Cause) -> Result<(), AllocError>
 fn put_pair(out: &mut Vec<u8>, mme: u64, enb: u64) -> Result<(), AllocError>
     requires mme { mme < 2 ^ 32 }
     requires enb { enb < 2 ^ 32 }
-    ensures { OnOk result (out.new.items ≡ out.old.items ++ ie_octets named.ue_ids named.reject (ids_octets (Pair mme enb))) }
+    ensures { OnOk result (out.new.items ≡ out.old.items ++ ie_octets named.UE_IDS level.reject (ids_octets (Pair mme enb))) }
 {
     put_ie(
         out,
@@ -268,7 +270,7 @@ fn put_pair(out: &mut Vec<u8>, mme: u64, enb: u64) -> Result<(), AllocError>
 /// its octets less one and the number in as few octets as it needs, behind the bits 01 of the choice.
 fn put_single(out: &mut Vec<u8>, mme: u64) -> Result<(), AllocError>
     requires { mme < 2 ^ 32 }
-    ensures { OnOk result (out.new.items ≡ out.old.items ++ ie_octets named.ue_ids named.reject (ids_octets (Mme mme))) }
+    ensures { OnOk result (out.new.items ≡ out.old.items ++ ie_octets named.UE_IDS level.reject (ids_octets (Mme mme))) }
 {
     put_ie(out, names::UE_IDS, Criticality::Reject, octets_in(mme) + 1)?;
     put_number(out, 64, 16, mme)?;
@@ -278,7 +280,7 @@ fn put_single(out: &mut Vec<u8>, mme: u64) -> Result<(), AllocError>
 /// Puts the IE of UE S1AP IDs (TS 36.413, 9.1.4.6), with the criticality reject: both identities of a device, or the MME's
 /// alone. It fails for want of memory alone.
 pub fn put_ids(out: &mut Vec<u8>, ids: &UeIds) -> Result<(), AllocError>
-    ensures { OnOk result (out.new.items ≡ out.old.items ++ ie_octets named.ue_ids named.reject (ids_octets ids.now)) }
+    ensures { OnOk result (out.new.items ≡ out.old.items ++ ie_octets named.UE_IDS level.reject (ids_octets ids.now)) }
 {
     match ids {
         UeIds::Pair { mme, enb } => put_pair(out, u64::from(*mme), u64::from(*enb)),

@@ -3,7 +3,9 @@
 ghost use Rattle.std.specs.Prelude.{◌≡◌, ◌+◌, ◌%◌, ◌^◌, ◌<◌, ◌≤◌, true, false, ◌∷◌, [], ◌++◌, IfSome, length, option_map};
 ghost use Rattle.aper_fields.specs.Spelling.{IsEnumValue};
 ghost use Rattle.s1ap_ies.specs.Run.{IsTai, IsCgi, IsStmsi, IsBitRates, IsSecCaps, IsCause, IsUeIds};
-ghost use Rattle.s1ap_ies.specs.Names as named;
+ghost use Rattle.s1ap_ies.specs.Criticalities as level;
+ghost use Rattle.s1ap_ies.specs.Criticalities.{criticality_number};
+ghost use Rattle.s1ap_ies.specs.declared.names.TheConstants as named;
 ghost use Rattle.s1ap_pdu.specs.Tables.{optional};
 ghost use Rattle.s1ap_pdu.specs.declared.value.IeValue.TheVariants as value;
 ghost use Rattle.s1ap_messages.specs.Usual.{counted, four_octets, number_octets, tai_octets, cgi_octets, stmsi_octets, rates_octets, caps_octets, rrc_octets, cause_octets, ids_octets, ie_octets, fields_octets, IsUsualValue};
@@ -17,7 +19,7 @@ use std::alloc::Global;
 /// An MME UE S1AP ID, and what stands behind it.
 #[inline(always)]
 pub fn mme(octets: &[u8], criticality: Criticality) -> Option<(u32, &[u8])>
-    ensures { IfSome result (λ x. octets.now ≡ ie_octets named.mme_ue_s1ap_id (named.criticality_number criticality) (number_octets 0 64 x.0) ++ x.1.now) }
+    ensures { IfSome result (λ x. octets.now ≡ ie_octets named.MME_UE_S1AP_ID (criticality_number criticality) (number_octets 0 64 x.0) ++ x.1.now) }
 {
     let (content, rest) = ie(octets, names::MME_UE_S1AP_ID, criticality)?;
     let (mme, more) = id(content, 0, 64)?;
@@ -30,7 +32,7 @@ pub fn mme(octets: &[u8], criticality: Criticality) -> Option<(u32, &[u8])>
 /// An eNB UE S1AP ID, and what stands behind it.
 #[inline(always)]
 pub fn enb(octets: &[u8], criticality: Criticality) -> Option<(u32, &[u8])>
-    ensures octets { IfSome result (λ x. octets.now ≡ ie_octets named.enb_ue_s1ap_id (named.criticality_number criticality) (number_octets 0 64 x.0) ++ x.1.now) }
+    ensures octets { IfSome result (λ x. octets.now ≡ ie_octets named.ENB_UE_S1AP_ID (criticality_number criticality) (number_octets 0 64 x.0) ++ x.1.now) }
     ensures right { IfSome result (λ x. x.0 < 2 ^ 24) }
 {
     let (content, rest) = ie(octets, names::ENB_UE_S1AP_ID, criticality)?;
@@ -45,7 +47,7 @@ pub fn enb(octets: &[u8], criticality: Criticality) -> Option<(u32, &[u8])>
 #[inline(always)]
 pub fn text(octets: &[u8], id: u16, criticality: Criticality) -> Option<(&[u8], &[u8])>
     requires { id < 256 }
-    ensures octets { IfSome result (λ x. octets.now ≡ ie_octets id (named.criticality_number criticality) (counted x.0.now) ++ x.1.now) }
+    ensures octets { IfSome result (λ x. octets.now ≡ ie_octets id (criticality_number criticality) (counted x.0.now) ++ x.1.now) }
     ensures right { IfSome result (λ x. length x.0.now < 16384) }
 {
     let (content, rest) = ie(octets, id, criticality)?;
@@ -59,7 +61,7 @@ pub fn text(octets: &[u8], id: u16, criticality: Criticality) -> Option<(&[u8], 
 /// A NAS-PDU, and what stands behind it.
 #[inline(always)]
 pub fn nas(octets: &[u8]) -> Option<(&[u8], &[u8])>
-    ensures octets { IfSome result (λ x. octets.now ≡ ie_octets named.nas_pdu named.reject (counted x.0.now) ++ x.1.now) }
+    ensures octets { IfSome result (λ x. octets.now ≡ ie_octets named.NAS_PDU level.reject (counted x.0.now) ++ x.1.now) }
     ensures right { IfSome result (λ x. length x.0.now ≤ 2048) }
 {
     let (nas, rest) = text(octets, names::NAS_PDU, Criticality::Reject)?;
@@ -84,7 +86,7 @@ fn tai_of(a: u8, b: u8, c: u8, d: u8, e: u8) -> Tai
 /// A TAI, and what stands behind it.
 #[inline(always)]
 pub fn tai(octets: &[u8], criticality: Criticality) -> Option<(Tai, &[u8])>
-    ensures octets { IfSome result (λ x. octets.now ≡ ie_octets named.tai (named.criticality_number criticality) (tai_octets x.0) ++ x.1.now) }
+    ensures octets { IfSome result (λ x. octets.now ≡ ie_octets named.TAI (criticality_number criticality) (tai_octets x.0) ++ x.1.now) }
     ensures right { IfSome result (λ x. IsTai x.0) }
 {
     let (content, rest) = ie(octets, names::TAI, criticality)?;
@@ -110,7 +112,7 @@ fn cgi_of(a: u8, b: u8, c: u8, d: u8, e: u8, f: u8, g: u8) -> Cgi
 /// A CGI, and what stands behind it.
 #[inline(always)]
 pub fn cgi(octets: &[u8]) -> Option<(Cgi, &[u8])>
-    ensures octets { IfSome result (λ x. octets.now ≡ ie_octets named.cgi named.ignore (cgi_octets x.0) ++ x.1.now) }
+    ensures octets { IfSome result (λ x. octets.now ≡ ie_octets named.CGI level.ignore (cgi_octets x.0) ++ x.1.now) }
     ensures right { IfSome result (λ x. IsCgi x.0) }
 {
     let (content, rest) = ie(octets, names::CGI, Criticality::Ignore)?;
@@ -127,7 +129,7 @@ pub fn cgi(octets: &[u8]) -> Option<(Cgi, &[u8])>
 #[inline(always)]
 #[tactic(auto, unfolding(crate::specs::Usual::rrc_octets))]
 pub fn rrc(octets: &[u8]) -> Option<(EnumValue, &[u8])>
-    ensures octets { IfSome result (λ x. octets.now ≡ ie_octets named.rrc_cause named.ignore (rrc_octets x.0) ++ x.1.now) }
+    ensures octets { IfSome result (λ x. octets.now ≡ ie_octets named.RRC_CAUSE level.ignore (rrc_octets x.0) ++ x.1.now) }
     ensures right { IfSome result (λ x. IsEnumValue 5 true x.0) }
 {
     let (content, rest) = ie(octets, names::RRC_CAUSE, Criticality::Ignore)?;
@@ -171,7 +173,7 @@ fn stmsi_of(h: u8, m: u8, tmsi: u32) -> Stmsi
 /// An S-TMSI, and what stands behind it.
 #[inline(always)]
 fn stmsi(octets: &[u8]) -> Option<(Stmsi, &[u8])>
-    ensures octets { IfSome result (λ x. octets.now ≡ ie_octets named.stmsi named.reject (stmsi_octets x.0) ++ x.1.now) }
+    ensures octets { IfSome result (λ x. octets.now ≡ ie_octets named.STMSI level.reject (stmsi_octets x.0) ++ x.1.now) }
     ensures right { IfSome result (λ x. IsStmsi x.0) }
 {
     let (content, rest) = ie(octets, names::STMSI, Criticality::Reject)?;
@@ -186,7 +188,7 @@ fn stmsi(octets: &[u8]) -> Option<(Stmsi, &[u8])>
 
 /// The S-TMSI of an INITIAL UE MESSAGE, which is its last IE, where it has one.
 pub fn last_stmsi(octets: &[u8]) -> Option<Option<Stmsi>>
-    ensures octets { IfSome result (λ s. octets.now ≡ fields_octets (optional named.stmsi ∷ []) (option_map value.Stmsi s ∷ [])) }
+    ensures octets { IfSome result (λ s. octets.now ≡ fields_octets (optional named.STMSI ∷ []) (option_map value.Stmsi s ∷ [])) }
     ensures right { IfSome result (λ s. IfSome (option_map value.Stmsi s) IsUsualValue) }
 {
     if octets.is_empty() {
@@ -203,7 +205,7 @@ pub fn last_stmsi(octets: &[u8]) -> Option<Option<Stmsi>>
 #[inline(always)]
 #[tactic(auto, unfolding(crate::specs::Usual::rates_octets))]
 pub fn rates(octets: &[u8]) -> Option<(BitRates, &[u8])>
-    ensures octets { IfSome result (λ x. octets.now ≡ ie_octets named.bit_rates named.reject (rates_octets x.0) ++ x.1.now) }
+    ensures octets { IfSome result (λ x. octets.now ≡ ie_octets named.BIT_RATES level.reject (rates_octets x.0) ++ x.1.now) }
     ensures right { IfSome result (λ x. IsBitRates x.0) }
 {
     let (content, rest) = ie(octets, names::BIT_RATES, Criticality::Reject)?;
@@ -234,7 +236,7 @@ fn caps_of(a: u8, b: u8, c: u8, d: u8, e: u8) -> SecCaps
 /// Security capabilities, and what stands behind them.
 #[inline(always)]
 pub fn caps(octets: &[u8]) -> Option<(SecCaps, &[u8])>
-    ensures octets { IfSome result (λ x. octets.now ≡ ie_octets named.sec_caps named.reject (caps_octets x.0) ++ x.1.now) }
+    ensures octets { IfSome result (λ x. octets.now ≡ ie_octets named.SEC_CAPS level.reject (caps_octets x.0) ++ x.1.now) }
     ensures right { IfSome result (λ x. IsSecCaps x.0) }
 {
     let (content, rest) = ie(octets, names::SEC_CAPS, Criticality::Reject)?;
@@ -250,7 +252,7 @@ pub fn caps(octets: &[u8]) -> Option<(SecCaps, &[u8])>
 /// A security key, and what stands behind it.
 #[inline(always)]
 pub fn key(octets: &[u8]) -> Option<(&[u8], &[u8])>
-    ensures octets { IfSome result (λ x. octets.now ≡ ie_octets named.security_key named.reject x.0.now ++ x.1.now) }
+    ensures octets { IfSome result (λ x. octets.now ≡ ie_octets named.SECURITY_KEY level.reject x.0.now ++ x.1.now) }
     ensures right { IfSome result (λ x. length x.0.now ≡ 32) }
 {
     let (content, rest) = ie(octets, names::SECURITY_KEY, Criticality::Reject)?;
@@ -330,7 +332,7 @@ fn cause_of(octets: &[u8]) -> Option<Cause>
 /// A cause that is a root of its group, and what stands behind it.
 #[inline(always)]
 pub fn cause(octets: &[u8]) -> Option<(Cause, &[u8])>
-    ensures octets { IfSome result (λ x. octets.now ≡ ie_octets named.cause named.ignore (cause_octets x.0) ++ x.1.now) }
+    ensures octets { IfSome result (λ x. octets.now ≡ ie_octets named.CAUSE level.ignore (cause_octets x.0) ++ x.1.now) }
     ensures right { IfSome result (λ x. IsCause x.0) }
 {
     let (content, rest) = ie(octets, names::CAUSE, Criticality::Ignore)?;
@@ -366,7 +368,7 @@ fn single(octets: &[u8]) -> Option<UeIds>
 
 /// UE S1AP IDs, and what stands behind them.
 pub fn ids(octets: &[u8]) -> Option<(UeIds, &[u8])>
-    ensures octets { IfSome result (λ x. octets.now ≡ ie_octets named.ue_ids named.reject (ids_octets x.0) ++ x.1.now) }
+    ensures octets { IfSome result (λ x. octets.now ≡ ie_octets named.UE_IDS level.reject (ids_octets x.0) ++ x.1.now) }
     ensures right { IfSome result (λ x. IsUeIds x.0) }
 {
     let (content, rest) = ie(octets, names::UE_IDS, Criticality::Reject)?;

@@ -1,5 +1,5 @@
 -- The first values, as many as the table has rows, are those of the message, so what is written of them is its SEQUENCE of IEs.
-use Rattle.s1ap_pdu.specs.Lent.{all_seen}
+use Rattle.s1ap_pdu.specs.Values.{all_seen}
 use Rattle.std.proofs.Common.{take}
 use Rattle.s1ap_pdu.proofs.Writes.{values_front, body_is}
 use Rattle.s1ap_pdu.proofs.writing.write_body.Goals as goal

@@ -2,7 +2,7 @@
 use Rattle.std.proofs.Common.{◌≡◌, length, IfSome}
 use Rattle.std.specs.List.{AllByRecursion}
 use Rattle.aper_fields.specs.Run.{then_written}
-use Rattle.s1ap_pdu.specs.Lent.{all_seen}
+use Rattle.s1ap_pdu.specs.Values.{all_seen}
 use Rattle.s1ap_pdu.specs.Run.{fields_run, IsRightField}
 use Rattle.s1ap_pdu.proofs.writing.write_fields.Given as goal
 

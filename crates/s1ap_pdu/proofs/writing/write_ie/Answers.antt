@@ -1,7 +1,7 @@
 -- A value that is written behind the start of its IE, and counted then, gives that IE whole; it is short enough to be counted.
 use Rattle.std.proofs.lemmas.Result.{on_ok_weaker}
-use Rattle.s1ap_ies.specs.Names.{criticality_number}
-use Rattle.s1ap_pdu.specs.Lent.{seen}
+use Rattle.s1ap_ies.specs.Criticalities.{criticality_number}
+use Rattle.s1ap_pdu.specs.Values.{seen}
 use Rattle.s1ap_pdu.specs.Run.{ie_run, value_run, IsRightField}
 use Rattle.s1ap_pdu.proofs.Ies.{value_periodic}
 use Rattle.aper_fields.proofs.InPlace.{content_short, item_in_place}

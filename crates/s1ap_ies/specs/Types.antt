@@ -1,0 +1,16 @@
+-- What is asked of a type of ASN.1, beside what aper_fields says of it.
+use Rattle.std.specs.Prelude.{◌≡◌, ◌*◌, ◌≤◌, ℕ, Bool, true, false}
+use Rattle.aper_fields.specs.Asn1.{AsnType, octet_string, fixed_octets, sequence_of, variant, named, most_bits, takes_some, IsSound}
+
+-- whether its values take memory where they are read: strings and lists
+abbrev pub takes_memory : {A : Type 0} → AsnType A → Bool
+takes_memory (octet_string most few) = true
+takes_memory (fixed_octets n fixed) = true
+takes_memory (sequence_of low high sizes p) = true
+takes_memory (variant kind p) = takes_memory p
+takes_memory (named same p) = takes_memory p
+takes_memory p = false
+
+-- An open type of its own has room for any value, and contains at least a bit.
+abbrev pub IsItemSound : {A : Type 0} → AsnType A → Type 0
+IsItemSound p = (takes_some p ≡ true) × (most_bits p ≤ 8 * 16383) × IsSound p
