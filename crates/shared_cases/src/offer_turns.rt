@@ -5,6 +5,7 @@ ghost use Rattle.device_machine.specs.Ends.{end_of};
 ghost use Rattle.device_types.specs.Alone.{alone_of};
 ghost use Rattle.device_types.specs.Journal.{effects_of};
 ghost use Rattle.device_types.specs.Line.{IsLine};
+ghost use Rattle.device_types.specs.Message.{IsBody, IsMessage};
 ghost use Rattle.device_types.specs.Subscriber.{IsSubscriber};
 ghost use Rattle.session_store.specs.Charter.{IsShort};
 ghost use Rattle.store_shared.specs.FrontRow.{AreSeatsOf};
@@ -42,7 +43,11 @@ shard 1: seat 0 accepted Located(1000000000, 2000000000)
 shard 1: seat 1 accepted Created(3232235521, 1, 170721281)
 ";
 
-fn message(number: u64, body: Body) -> Message {
+fn message(number: u64, body: Body) -> Message
+    requires { IsBody body }
+    ensures number { result.number ≡ number }
+    ensures message { IsMessage result }
+{
     Message {
         number,
         station: 1,
@@ -51,26 +56,39 @@ fn message(number: u64, body: Body) -> Message {
     }
 }
 
+fn attach() -> Body
+    ensures { IsBody result }
+{
+    Body::Attach {
+        plmn: 31,
+        tac: 1,
+        eea: 32,
+        eia: 33,
+        pti: 34,
+    }
+}
+
+/// The right response to the challenge.
+fn response(alloc: Global) -> Result<Body, AllocError>
+    ensures { IfOk result IsBody }
+{
+    let res = [0xa0, 0xa1, 0xa2, 0xa3];
+    Ok(Body::Response {
+        res: Octets::from(Vec::from_array(alloc, res)?),
+    })
+}
+
 /// An attach, the response to the challenge, and that its security mode is complete.
 fn attach_line(alloc: Global) -> Result<Messages, AllocError>
     ensures line { IfOk result IsLine }
     ensures short { IfOk result IsShort }
 {
-    let res = Octets::from(Vec::from_array(alloc, [0xa0, 0xa1, 0xa2, 0xa3])?);
-    let mut line = Messages::new(alloc);
-    line.push(message(
-        1,
-        Body::Attach {
-            plmn: 31,
-            tac: 1,
-            eea: 32,
-            eia: 33,
-            pti: 34,
-        },
-    ))?;
-    line.push(message(2, Body::Response { res }))?;
-    line.push(message(3, Body::Secured))?;
-    Ok(line)
+    let messages = [
+        message(1, attach()),
+        message(2, response(alloc)?),
+        message(3, Body::Secured),
+    ];
+    Ok(Messages::from(Vec::from_array(alloc, messages)?))
 }
 
 /// The peers of one device, and two seats.
@@ -214,6 +232,18 @@ fn tell_turns(shards: &[PeerShard], told: &mut String) -> Result<(), AllocError>
     Ok(())
 }
 
+/// The last of the peers' seats.
+fn last_seat(peers: &SharedPeers, seats: &mut Vec<PeerSeat>) -> Result<PeerSeat, &'static str>
+    requires { All (λ s. AreSeatsOf peer_basis peers.now.fronts.fronts.items s.seats.items) seats.old.items }
+    ensures seat { IfOk result (λ s. AreSeatsOf peer_basis peers.now.fronts.fronts.items s.seats.items) }
+    ensures others { All (λ s. AreSeatsOf peer_basis peers.now.fronts.fronts.items s.seats.items) seats.new.items }
+{
+    let Some(seat) = seats.pop() else {
+        return Err("there is no seat");
+    };
+    Ok(seat)
+}
+
 #[test]
 fn an_offer_is_accepted_once(rt: HostRuntime) -> Result<(), Fail> {
     let alloc = rt.alloc();
@@ -221,8 +251,8 @@ fn an_offer_is_accepted_once(rt: HostRuntime) -> Result<(), Fail> {
     let row = read_row(alloc, ROW.as_bytes(), 1)?;
     let line = attach_line(alloc)?;
     let (peers, mut seats) = opened(alloc, &row, &line)?;
-    let mut second = seats.pop().ok_or("no seat 1")?;
-    let mut first = seats.pop().ok_or("no seat 0")?;
+    let mut second = last_seat(&peers, &mut seats)?;
+    let mut first = last_seat(&peers, &mut seats)?;
     call_both(&rt, &peers, &mut first, &mut second, &row, &line, &mut told)?;
     let shards = closed(peers, first, second).ok_or("not closed")?;
     tell_turns(&shards, &mut told)?;

@@ -148,13 +148,28 @@ fn call_all<R: Wait>(
     call(rt, alloc, store, first, "settle", DeviceId(18), told)
 }
 
+/// The last of the store's seats.
+fn last_seat(
+    store: &SharedStore<AnyLaw>,
+    seats: &mut Vec<StoreSeat<AnyLaw>>,
+) -> Result<StoreSeat<AnyLaw>, &'static str>
+    requires { All (λ s. AreSeatsOf store_basis store.now.fronts.fronts.items s.seats.items) seats.old.items }
+    ensures seat { IfOk result (λ s. AreSeatsOf store_basis store.now.fronts.fronts.items s.seats.items) }
+    ensures others { All (λ s. AreSeatsOf store_basis store.now.fronts.fronts.items s.seats.items) seats.new.items }
+{
+    let Some(seat) = seats.pop() else {
+        return Err("there is no seat");
+    };
+    Ok(seat)
+}
+
 #[test]
 fn two_seats_take_turns(rt: HostRuntime) -> Result<(), Fail> {
     let alloc = rt.alloc();
     let mut told = String::new(alloc);
     let (store, mut seats) = SharedStore::new(alloc, any_law(alloc)?, 32, 2)?;
-    let mut second = seats.pop().ok_or("no seat 1")?;
-    let mut first = seats.pop().ok_or("no seat 0")?;
+    let mut second = last_seat(&store, &mut seats)?;
+    let mut first = last_seat(&store, &mut seats)?;
     call_all(&rt, alloc, &store, &mut first, &mut second, &mut told)?;
     let shards = closed(store, first, second).ok_or("not closed")?;
     tell_turns(&shards, &mut told)?;
@@ -162,7 +177,25 @@ fn two_seats_take_turns(rt: HostRuntime) -> Result<(), Fail> {
     Ok(())
 }
 
-/// Writes version 0 of each device, and peeks at it. `None` where memory ran out.
+/// Writes version 0 of a device, and peeks at it. `None` where memory ran out.
+fn work_on<R: Wait>(
+    rt: &R,
+    alloc: Global,
+    store: &SharedStore<AnyLaw>,
+    seat: &mut StoreSeat<AnyLaw>,
+    d: DeviceId,
+) -> Option<()>
+    requires seat { AreSeatsOf store_basis store.now.fronts.fronts.items seat.old.seats.items }
+    requires device { IsDevice store.now.devices d.0 }
+    ensures { AreSeatsOf store_basis store.now.fronts.fronts.items seat.new.seats.items }
+{
+    let entry = first_entry(alloc).ok()?;
+    store.commit(rt, seat, d, 0, entry).ok()?;
+    store.peek(rt, seat, d, Asked::Message(1)).ok()?;
+    Some(())
+}
+
+/// The same of each device.
 fn work<R: Wait>(
     rt: &R,
     alloc: Global,
@@ -174,10 +207,7 @@ fn work<R: Wait>(
     ensures { IfSome result (λ s. AreSeatsOf store_basis store.now.fronts.fronts.items s.seats.items) }
 {
     for index in 0..32 {
-        let d = DeviceId(index + 1);
-        let entry = first_entry(alloc).ok()?;
-        store.commit(rt, &mut seat, d, 0, entry).ok()?;
-        store.peek(rt, &mut seat, d, Asked::Message(1)).ok()?;
+        work_on(rt, alloc, store, &mut seat, DeviceId(index + 1))?;
     }
     Some(seat)
 }
@@ -194,6 +224,21 @@ fn work_in_threads<R: Threads + Wait + Sync>(
     ensures { IfOk result (λ left. All (λ o. IfSome o (λ s. AreSeatsOf store_basis store.now.fronts.fronts.items s.seats.items)) left.items) }
 {
     thread::map_vec(rt, seats, &|seat| work(rt, alloc, store, seat))
+}
+
+/// The last of the store's seats that were at work.
+fn last_left(
+    store: &SharedStore<AnyLaw>,
+    left: &mut Vec<Option<StoreSeat<AnyLaw>>>,
+) -> Result<StoreSeat<AnyLaw>, &'static str>
+    requires { All (λ o. IfSome o (λ s. AreSeatsOf store_basis store.now.fronts.fronts.items s.seats.items)) left.old.items }
+    ensures seat { IfOk result (λ s. AreSeatsOf store_basis store.now.fronts.fronts.items s.seats.items) }
+    ensures others { All (λ o. IfSome o (λ s. AreSeatsOf store_basis store.now.fronts.fronts.items s.seats.items)) left.new.items }
+{
+    let Some(seat) = left.pop() else {
+        return Err("there is no seat");
+    };
+    seat.ok_or("memory ran out")
 }
 
 /// Of each shard, how many turns it has, and how many writes were made.
@@ -216,8 +261,8 @@ fn two_threads_take_turns(rt: HostRuntime) -> Result<(), Fail> {
     let mut told = String::new(alloc);
     let (store, seats) = SharedStore::new(alloc, any_law(alloc)?, 32, 2)?;
     let mut left = work_in_threads(&rt, alloc, &store, seats)?;
-    let second = left.pop().ok_or("no seat 1")?.ok_or("no memory")?;
-    let first = left.pop().ok_or("no seat 0")?.ok_or("no memory")?;
+    let second = last_left(&store, &mut left)?;
+    let first = last_left(&store, &mut left)?;
     let shards = closed(store, first, second).ok_or("not closed")?;
     tell_counts(&shards, &mut told)?;
     assert_eq!(rt; told.as_str(), THREADS);
