@@ -28,16 +28,11 @@ struct Command {
     turns: u64,
 }
 
-fn read_command(rt: &HostRuntime) -> Result<Command>
+/// Reads the words of the command, the first of which is the program's name.
+fn read_command(words: &[String]) -> Result<Command>
     ensures { IfOk result (λ command. 0 < command.threads) }
 {
-    let mut words = env::args(rt)?.skip(1);
-    let (Some(lock), Some(threads), Some(turns), None) = (
-        words.next(),
-        words.next(),
-        words.next(),
-        words.next(),
-    ) else {
+    let [_, lock, threads, turns] = words else {
         bail!("usage: front_bench LOCK THREADS TURNS");
     };
     let lock = match lock.as_str() {
@@ -101,7 +96,8 @@ fn tally<R: Threads + Wait + Sync>(rt: &R, alloc: Global, command: Command) -> R
 }
 
 fn main(rt: HostRuntime) -> Result<()> {
-    let command = read_command(&rt)?;
+    let words: Vec<String> = env::args(&rt)?.collect(rt.alloc())?;
+    let command = read_command(&words)?;
     let tally = tally(&rt, rt.alloc(), command)?;
     println!(rt; "turns {}", tally.additions.len())?;
     Ok(())

@@ -7,14 +7,14 @@ use front_lock::{Held, Job};
 use std::alloc::{AllocError, Global};
 
 /// A number that a seat added.
-#[derive(Clone, Copy, Debug, PartialEq, Eq)]
+#[derive(Clone, Copy, Debug)]
 pub struct Addition {
     pub seat: u32,
     pub amount: u64,
 }
 
 /// The numbers that were added, in order, each at most `most`.
-#[derive(Debug, Drop)]
+#[derive(Drop)]
 pub struct Tally {
     pub most: u64,
     pub additions: Vec<Addition>,

@@ -1,6 +1,6 @@
 //! The seats of a front at work in threads of their own.
 ghost use Rattle.std.specs.Prelude.{◌≡◌, ◌<◌, ◌≤◌, ℕ, [], All, IfOk, IfSome};
-ghost use Rattle.front_lock.specs.Front.{IsSeatOf, SpeaksForAll, basis_of, seats_of};
+ghost use Rattle.front_lock.specs.Front.{IsSeatOf, SpeaksForAll, basis_of, seats_of, view};
 ghost use Rattle.front_lock.specs.Numbers.{turns_of};
 
 use crate::tally::{Add, Tally};
@@ -75,6 +75,25 @@ pub(crate) fn close_all(
     Some(front.close(seat))
 }
 
+// The last of the seats. `None` where there is none, or one of another number.
+fn last_seat(
+    front: &Front<Tally>,
+    seats: &mut Vec<Option<FrontSeat<Tally>>>,
+    number: u32,
+) -> Option<FrontSeat<Tally>>
+    requires { All (λ o. IfSome o (λ s. IsSeatOf (λ t. t.most) front.now s)) seats.old.items }
+    ensures seat { IfSome result (λ s. IsSeatOf (λ t. t.most) front.now s) }
+    ensures number { IfSome result (λ s. (view s).number ≡ number) }
+    ensures others { All (λ o. IfSome o (λ s. IsSeatOf (λ t. t.most) front.now s)) seats.new.items }
+{
+    let seat = seats.pop()??;
+    if seat.number() == number {
+        Some(seat)
+    } else {
+        None
+    }
+}
+
 // The seat of all numbers below `count`. `None` where a seat is missing.
 fn join_all(
     front: &Front<Tally>,
@@ -87,18 +106,12 @@ fn join_all(
     ensures seat { IfSome result (λ s. IsSeatOf (λ t. t.most) front.now s) }
     ensures all { IfSome result (λ s. SpeaksForAll front.now s) }
 {
-    let mut joined = seats.pop()??;
-    let mut least = joined.number();
-    if least != count - 1 {
-        return None;
-    }
+    let mut least = count - 1;
+    let mut joined = last_seat(front, seats, least)?;
     while least > 0 {
-        let seat = seats.pop()??;
-        if seat.number() != least - 1 {
-            return None;
-        }
-        front.join(&mut joined, seat);
         least -= 1;
+        let seat = last_seat(front, seats, least)?;
+        front.join(&mut joined, seat);
     }
     Some(joined)
 }

@@ -1,11 +1,11 @@
 //! Turns of seats in one thread, and in several.
-ghost use Rattle.std.specs.Prelude.{◌<◌, ◌≤◌, IfOk, IsTrue, length};
-ghost use Rattle.front_lock.specs.Front.{IsSeatOf, basis_of, view};
+ghost use Rattle.std.specs.Prelude.{◌≡◌, ◌<◌, ◌≤◌, All, IfOk, IfSome, IsTrue, OnOk, length};
+ghost use Rattle.front_lock.specs.Front.{IsSeatOf, basis_of, seats_of, view};
 
 use crate::tally::{Add, Addition, Repeat, Tally};
 use crate::threads::{close_all, tally_of_front};
 use front_lock::{Front, FrontSeat};
-use std::alloc::AllocError;
+use std::alloc::{AllocError, Global};
 use std::sync::Wait;
 use std::test::Fail;
 
@@ -66,49 +66,68 @@ fn tell_repeated<R: Wait>(
     writeln!(told, "seat {} {answer:?}", seat.number())
 }
 
+/// The turns of two seats in one thread. It owns nothing: the seats are lent.
+fn tell_turns<R: Wait>(
+    rt: &R,
+    front: &Front<Tally>,
+    first: &mut FrontSeat<Tally>,
+    second: &mut FrontSeat<Tally>,
+    told: &mut String,
+) -> Result<(), AllocError>
+    requires most { basis_of (λ t. t.most) front.now ≡ 9 }
+    requires first { IsSeatOf (λ t. t.most) front.now first.old }
+    requires second { IsSeatOf (λ t. t.most) front.now second.old }
+    ensures first { OnOk result (IsSeatOf (λ t. t.most) front.now first.new) }
+    ensures second { OnOk result (IsSeatOf (λ t. t.most) front.now second.new) }
+{
+    tell_added(rt, front, first, Add { amount: 3, room: 1 }, told)?;
+    if tell_added(rt, front, second, Add { amount: 4, room: 1 }, told)? {
+        tell_repeated(rt, front, second, told)?;
+    }
+    let room = usize::MAX;
+    tell_added(rt, front, first, Add { amount: 5, room }, told)?;
+    tell_added(rt, front, first, Add { amount: 9, room: 1 }, told)?;
+    Ok(())
+}
+
+/// Lets the two seats of a front take their turns, and gives them back.
+fn seats_after<R: Wait>(
+    rt: &R,
+    alloc: Global,
+    front: &Front<Tally>,
+    mut seats: Vec<FrontSeat<Tally>>,
+    told: &mut String,
+) -> Result<Vec<Option<FrontSeat<Tally>>>, Fail>
+    requires most { basis_of (λ t. t.most) front.now ≡ 9 }
+    requires seats { All (λ s. IsSeatOf (λ t. t.most) front.now s) seats.items }
+    ensures { IfOk result (λ left. All (λ o. IfSome o (λ s. IsSeatOf (λ t. t.most) front.now s)) left.items) }
+{
+    let mut second = seats.pop().ok_or("no seat 1")?;
+    let mut first = seats.pop().ok_or("no seat 0")?;
+    tell_turns(rt, front, &mut first, &mut second, told)?;
+    Ok(Vec::from_array(alloc, [Some(first), Some(second)])?)
+}
+
+/// Closes a front of two seats, and tells its history.
+fn tell_closed(
+    front: Front<Tally>,
+    left: Vec<Option<FrontSeat<Tally>>>,
+    told: &mut String,
+) -> Result<(), AllocError>
+    requires count { seats_of front ≡ 2 }
+    requires seats { All (λ o. IfSome o (λ s. IsSeatOf (λ t. t.most) front s)) left.items }
+{
+    let additions = close_all(front, left, 2).map(|tally| tally.additions);
+    writeln!(told, "closed {additions:?}")
+}
+
 #[test]
 fn seats_take_turns(rt: HostRuntime) -> Result<(), Fail> {
     let alloc = rt.alloc();
     let mut told = String::new(alloc);
-    let (front, mut seats) = Front::new(alloc, Tally::new(alloc, 9), 2)?;
-    let mut second = seats.pop().ok_or("no seat 1")?;
-    let mut first = seats.pop().ok_or("no seat 0")?;
-    tell_added(
-        &rt,
-        &front,
-        &mut first,
-        Add { amount: 3, room: 1 },
-        &mut told,
-    )?;
-    if tell_added(
-        &rt,
-        &front,
-        &mut second,
-        Add { amount: 4, room: 1 },
-        &mut told,
-    )? {
-        tell_repeated(&rt, &front, &mut second, &mut told)?;
-    }
-    tell_added(
-        &rt,
-        &front,
-        &mut first,
-        Add {
-            amount: 5,
-            room: usize::MAX,
-        },
-        &mut told,
-    )?;
-    tell_added(
-        &rt,
-        &front,
-        &mut first,
-        Add { amount: 9, room: 1 },
-        &mut told,
-    )?;
-    let left = Vec::from_array(alloc, [Some(first), Some(second)])?;
-    let additions = close_all(front, left, 2).map(|tally| tally.additions);
-    writeln!(told, "closed {additions:?}")?;
+    let (front, seats) = Front::new(alloc, Tally::new(alloc, 9), 2)?;
+    let left = seats_after(&rt, alloc, &front, seats, &mut told)?;
+    tell_closed(front, left, &mut told)?;
     assert_eq!(rt; told.as_str(), TURNS);
     Ok(())
 }
@@ -124,15 +143,21 @@ fn are_in_order(additions: &[Addition], seat: u32, turns: u64) -> bool {
     expected.next().is_none()
 }
 
+/// For each seat of a history, how long the history is and whether the seat's numbers are in its order.
+fn tell_seats(additions: &[Addition], seats: u32, told: &mut String) -> Result<(), AllocError> {
+    for seat in 0..seats {
+        let in_order = are_in_order(additions, seat, 10_000);
+        writeln!(told, "{} seat {seat} {in_order}", additions.len())?;
+    }
+    Ok(())
+}
+
 #[test]
 fn threads_take_turns(rt: HostRuntime) -> Result<(), Fail> {
     let mut told = String::new(rt.alloc());
     for seats in 2..5 {
         let tally = tally_of_front(&rt, rt.alloc(), seats, 10_000)?.ok_or("no memory")?;
-        for seat in 0..seats {
-            let in_order = are_in_order(&tally.additions, seat, 10_000);
-            writeln!(told, "{} seat {seat} {in_order}", tally.additions.len())?;
-        }
+        tell_seats(&tally.additions, seats, &mut told)?;
     }
     assert_eq!(rt; told.as_str(), THREADS);
     Ok(())

@@ -1,12 +1,11 @@
 -- Seats are dealt, joined and compared; how a front begins and ends.
-use Rattle.std.proofs.Common.{◌≡◌, ◌≢◌, ◌⊎◌, ℕ, zero, suc, ◌+◌, ◌<◌, ◌≤◌, ◌==◌, ◌||◌, Bool, true, false, List, [], ◌∷◌, ◌++◌, length, set, map, reverse, take, drop, All, refl, sym, ap, ◌∙◌, subst, inl, inr, ⊎_elim, arith, cond, length-append, append_assoc}
+use Rattle.std.proofs.Common.{◌≡◌, ◌≢◌, ◌⊎◌, ℕ, zero, suc, ◌+◌, ◌<◌, ◌≤◌, ◌==◌, ◌||◌, Bool, true, false, List, [], ◌∷◌, ◌++◌, length, set, map, reverse, All, refl, sym, ap, ◌∙◌, subst, inl, inr, ⊎_elim, arith, cond, length-append, append_assoc}
 use Rattle.std.specs.Prelude.{slice_index, slice_set}
 use Rattle.std.specs.List.{range_with_len}
 use Rattle.std.proofs.lemmas.List.{map-append}
 use Rattle.std.proofs.lemmas.List.Elements.{All-append}
 use Rattle.std.proofs.lemmas.List.Folds.{list_any-append}
 use Rattle.std.proofs.lemmas.List.FromFn.{map-range_with_len_more}
-use Rattle.std.proofs.Math.Seq.{take-append_seam}
 use mathlib.Core.Option.{some, none, some-injective, some-ne-none}
 use mathlib.Core.Option as maybe
 use mathlib.Core.List.{IsPrefix, reverse-cons}
@@ -59,10 +58,6 @@ module _ {A : Type 0} where
   -- one more, where k more were to come
   pub longer_by : (l m : List A) (x : A) (k j n : ℕ) → m ≡ l ++ x ∷ [] → suc j ≡ k → length l + suc k ≡ n → length m + suc j ≡ n
   longer_by l m x k j n is down room = let e : length m ≡ length l + 1 = ap length is ∙ length-append l (x ∷ []) in omega arith
-
-  -- a list that was written over a whole buffer is what was read of it
-  pub whole_of : (n : ℕ) (l m : List A) → length l ≡ length m → n ≡ length m → take n (l ++ drop (length l) m) ≡ l
-  whole_of n l m len is = ap (λ k. take k (l ++ drop (length l) m)) (is ∙ sym len) ∙ take-append_seam l (drop (length l) m)
 
 module _ {X B : Type 0} where
   ticket_count-more : (l : List (View X B)) (v : View X B) → ticket_count (l ++ v ∷ []) ≡ ticket_count l + weight v.stage

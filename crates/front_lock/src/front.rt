@@ -1,5 +1,5 @@
 //! A front, and its turns.
-ghost use Rattle.std.specs.Prelude.{◌≡◌, ◌<◌, ◌^◌, true, false, [], ◌∷◌, All, IsTrue, IfErr, IfOk, Some, length, map, vec_capacity};
+ghost use Rattle.std.specs.Prelude.{◌≡◌, ◌<◌, ◌^◌, true, false, [], ◌∷◌, All, IsTrue, IfErr, IfOk, IfSome, None, Some, length, map, vec_capacity};
 ghost use Rattle.std.specs.List.{range_with_len};
 ghost use mathlib.Core.List.{IsPrefix};
 ghost use Rattle.front_lock.specs.declared.view.Stage.TheVariants.{Idle, Waiting, Served, Holding};
@@ -32,6 +32,15 @@ const LAST: u64 = 1 << 62;
 /// How often a seat that waits looks before it parks.
 const LOOKS: u32 = 40;
 
+// The value alone. For want of memory it is dropped.
+fn list_of_one<T: Drop>(alloc: Global, value: T) -> Result<Vec<T>, AllocError>
+    ensures { IfOk result (λ list. list.items ≡ value ∷ []) }
+{
+    let mut list = Vec::with_capacity(alloc, 1)?;
+    list.push_reserved(value);
+    Ok(list)
+}
+
 /// A value that seats take turns at, in the order of their tickets.
 #[derive(Drop)]
 pub struct Front<T: Held> {
@@ -59,7 +68,7 @@ impl<T: Held> Front<T> {
         let dealt = Vec::with_capacity(alloc, seats as usize)?;
         let (front, seat) = Front::with_one_seat(alloc, value, seats)?;
         let mut dealt = front.deal(seat, dealt, seats);
-        dealt.as_mut_slice().reverse();
+        dealt.reverse();
         Ok((front, dealt))
     }
 
@@ -118,19 +127,31 @@ impl<T: Held> Front<T> {
         ensures low { result < 2 ^ 62 }
         ensures view { seat.new.me ≡ (view_at Waiting result seat.old.me.0.seen seat.old.me.0.mine seat.old.me.0, seat.old.me.1) }
     {
-        let shared = &self.table.shared;
         for _ in rt.forever() {
-            let ticket = shared.peek(TICKETS);
-            if ticket < LAST {
-                let found = shared.compare_exchange::<Draw>(seat, TICKETS, ticket, ticket + 1);
-                if found == ticket {
-                    return ticket;
-                }
-            } else {
-                thread::yield_now();
+            if let Some(ticket) = self.try_draw(seat) {
+                return ticket;
             }
         }
         unreachable!()
+    }
+
+    // Draws the next ticket, unless another seat draws it first, or none is left.
+    fn try_draw(&self, seat: &mut TableSeat<T>) -> Option<u64>
+        requires table { seat.old.table_id ≡ self.now.table.shared.table_id }
+        requires idle { seat.old.me.0.stage ≡ Idle }
+        ensures table { seat.new.table_id ≡ seat.old.table_id }
+        ensures low { IfSome result (λ ticket. ticket < 2 ^ 62) }
+        ensures view { IfSome result (λ ticket. seat.new.me ≡ (view_at Waiting ticket seat.old.me.0.seen seat.old.me.0.mine seat.old.me.0, seat.old.me.1)) }
+        ensures none { result ≡ None → seat.new.me ≡ seat.old.me }
+    {
+        let shared = &self.table.shared;
+        let ticket = shared.peek(TICKETS);
+        if ticket < LAST {
+            let found = shared.compare_exchange::<Draw>(seat, TICKETS, ticket, ticket + 1);
+            return if found == ticket { Some(ticket) } else { None };
+        }
+        thread::yield_now();
+        None
     }
 
     // Waits until the ticket is served: looks a few times, then parks.
@@ -143,15 +164,29 @@ impl<T: Held> Front<T> {
         if self.spin(seat, ticket) {
             return;
         }
-        let shared = &self.table.shared;
         for _ in rt.forever() {
-            let serving = shared.load::<Look>(seat, SERVING);
-            if serving == ticket {
+            if self.look(rt, seat, ticket) {
                 return;
             }
-            shared.park(rt, SERVING, (serving % (1 << 32)) as u32);
         }
         unreachable!()
+    }
+
+    // Looks whether the ticket is served, and parks where it is not.
+    fn look<R: Wait>(&self, rt: &R, seat: &mut TableSeat<T>, ticket: u64) -> bool
+        requires table { seat.old.table_id ≡ self.now.table.shared.table_id }
+        requires waits { (seat.old.me.0.stage ≡ Waiting) × (seat.old.me.0.ticket ≡ ticket) }
+        ensures table { seat.new.table_id ≡ seat.old.table_id }
+        ensures served { result ≡ true → seat.new.me ≡ (view_at Served ticket seat.old.me.0.seen seat.old.me.0.mine seat.old.me.0, seat.old.me.1) }
+        ensures waits { result ≡ false → seat.new.me ≡ seat.old.me }
+    {
+        let shared = &self.table.shared;
+        let serving = shared.load::<Look>(seat, SERVING);
+        if serving == ticket {
+            return true;
+        }
+        shared.park(rt, SERVING, (serving % (1 << 32)) as u32);
+        false
     }
 
     // Looks a few times whether the ticket is served.
@@ -262,12 +297,11 @@ impl<T: Held> Front<T> {
         ensures front { IfOk result (λ made. (basis_of T.basis made.0 ≡ T.basis value) × (seats_of made.0 ≡ seats)) }
         ensures seat { IfOk result (λ made. (made.1.table_id ≡ made.0.table.shared.table_id) × (made.1.me ≡ (dealer_view (T.basis value) seats seats, []))) }
     {
-        let mut slots = Vec::with_capacity(alloc, 1)?;
         let plan = Plan {
             value: Snapshot::of(&value),
             seats,
         };
-        slots.push_reserved(value);
+        let slots = list_of_one(alloc, value)?;
         match Table::new(alloc, &[0, 0, 0], slots, &plan) {
             Ok((table, seat)) => Ok((Front { table }, seat)),
             Err(_) => Err(AllocError),
