@@ -81,14 +81,14 @@ fn add_below_by_mutex<R: Wait>(rt: &R, tally: &Mutex<Tally>, number: u32, turns:
     }
 }
 
-/// The value, once all threads have ended. It fails where memory does not suffice.
+/// The value, once all threads have ended. A thread that finds no memory for a turn stops.
 fn tally<R: Threads + Wait + Sync>(rt: &R, alloc: Global, command: Command) -> Result<Tally>
     requires { 0 < command.threads }
 {
     match command.lock {
         Lock::Front => {
             tally_of_front(rt, alloc, command.threads, command.turns)?.context(
-                "a turn found no memory",
+                "a seat is missing",
             )
         }
         Lock::Mutex => Ok(tally_of_mutex(rt, alloc, command.threads, command.turns)?),

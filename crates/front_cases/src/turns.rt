@@ -1,13 +1,15 @@
 //! Turns of seats in one thread, and in several.
-ghost use Rattle.std.specs.Prelude.{◌≡◌, ◌<◌, ◌≤◌, All, IfOk, IfSome, IsTrue, OnOk, length};
+ghost use Rattle.std.specs.Prelude.{◌≡◌, ◌<◌, ◌≤◌, All, IfOk, IsTrue, OnOk, length};
 ghost use Rattle.front_lock.specs.Front.{IsSeatOf, basis_of, seats_of, view};
 
 use crate::tally::{Add, Addition, Repeat, Tally};
 use crate::threads::{close_all, tally_of_front};
+use device_types::NoRoom;
 use front_lock::{Front, FrontSeat};
 use std::alloc::{AllocError, Global};
 use std::sync::Wait;
 use std::test::Fail;
+use std::thread::Threads;
 
 /// What two seats do in turns, and the history that is closed. Seat 0 adds 3; seat 1 adds 4 and repeats the first number, which
 /// the other seat added; seat 0 finds no memory, and then adds 9.
@@ -17,7 +19,7 @@ seat 1 Ok(1)
 seat 1 Ok(3)
 seat 0 Err(NoRoom(Add { amount: 5, room: 18446744073709551615 }))
 seat 0 Ok(3)
-closed Some([Addition { seat: 0, amount: 3 }, Addition { seat: 1, amount: 4 }, Addition { seat: 1, amount: 3 }, Addition { seat: 0, amount: 9 }])
+closed [Addition { seat: 0, amount: 3 }, Addition { seat: 1, amount: 4 }, Addition { seat: 1, amount: 3 }, Addition { seat: 0, amount: 9 }]
 ";
 
 /// How many turns 2 to 4 threads made with 10,000 each, and whether those of each are in its order.
@@ -33,6 +35,21 @@ const THREADS: &str = "\
 40000 seat 3 true
 ";
 
+/// Adds a number. Where it is added the seat has seen a number.
+fn add<R: Wait>(
+    rt: &R,
+    front: &Front<Tally>,
+    seat: &mut FrontSeat<Tally>,
+    job: Add,
+) -> Result<usize, NoRoom<Add>>
+    requires seat { IsSeatOf (λ t. t.most) front.now seat.old }
+    requires most { job.amount ≤ basis_of (λ t. t.most) front.now }
+    ensures seat { IsSeatOf (λ t. t.most) front.now seat.new }
+    ensures seen { IfOk result (λ before. 0 < length (view seat.new).seen) }
+{
+    front.turn(rt, seat, job)
+}
+
 /// Adds a number, tells what comes, and answers whether it was added: then the seat has seen a number.
 fn tell_added<R: Wait>(
     rt: &R,
@@ -46,7 +63,7 @@ fn tell_added<R: Wait>(
     ensures seat { IsSeatOf (λ t. t.most) front.now seat.new }
     ensures seen { IfOk result (λ added. IsTrue added → 0 < length (view seat.new).seen) }
 {
-    let answer = front.turn(rt, seat, job);
+    let answer = add(rt, front, seat, job);
     writeln!(told, "seat {} {answer:?}", seat.number())?;
     Ok(answer.is_ok())
 }
@@ -90,44 +107,46 @@ fn tell_turns<R: Wait>(
     Ok(())
 }
 
-/// Lets the two seats of a front take their turns, and gives them back.
-fn seats_after<R: Wait>(
+/// Lets the two seats of a front take their turns.
+fn tell_two_seats<R: Wait>(
     rt: &R,
-    alloc: Global,
     front: &Front<Tally>,
-    mut seats: Vec<FrontSeat<Tally>>,
+    seats: &mut Vec<FrontSeat<Tally>>,
     told: &mut String,
-) -> Result<Vec<Option<FrontSeat<Tally>>>, Fail>
+) -> Result<(), Fail>
     requires most { basis_of (λ t. t.most) front.now ≡ 9 }
-    requires seats { All (λ s. IsSeatOf (λ t. t.most) front.now s) seats.items }
-    ensures { IfOk result (λ left. All (λ o. IfSome o (λ s. IsSeatOf (λ t. t.most) front.now s)) left.items) }
+    requires seats { All (λ s. IsSeatOf (λ t. t.most) front.now s) seats.old.items }
+    ensures { OnOk result (All (λ s. IsSeatOf (λ t. t.most) front.now s) seats.new.items) }
 {
     let mut second = seats.pop().ok_or("no seat 1")?;
     let mut first = seats.pop().ok_or("no seat 0")?;
     tell_turns(rt, front, &mut first, &mut second, told)?;
-    Ok(Vec::from_array(alloc, [Some(first), Some(second)])?)
+    seats.push(first)?;
+    seats.push(second)?;
+    Ok(())
 }
 
 /// Closes a front of two seats, and tells its history.
 fn tell_closed(
     front: Front<Tally>,
-    left: Vec<Option<FrontSeat<Tally>>>,
+    seats: Vec<FrontSeat<Tally>>,
     told: &mut String,
-) -> Result<(), AllocError>
+) -> Result<(), Fail>
     requires count { seats_of front ≡ 2 }
-    requires seats { All (λ o. IfSome o (λ s. IsSeatOf (λ t. t.most) front s)) left.items }
+    requires seats { All (λ s. IsSeatOf (λ t. t.most) front s) seats.items }
 {
-    let additions = close_all(front, left, 2).map(|tally| tally.additions);
-    writeln!(told, "closed {additions:?}")
+    let tally = close_all(front, seats, 2).ok_or("a seat is missing")?;
+    writeln!(told, "closed {:?}", tally.additions)?;
+    Ok(())
 }
 
 #[test]
 fn seats_take_turns(rt: HostRuntime) -> Result<(), Fail> {
     let alloc = rt.alloc();
     let mut told = String::new(alloc);
-    let (front, seats) = Front::new(alloc, Tally::new(alloc, 9), 2)?;
-    let left = seats_after(&rt, alloc, &front, seats, &mut told)?;
-    tell_closed(front, left, &mut told)?;
+    let (front, mut seats) = Front::new(alloc, Tally::new(alloc, 9), 2)?;
+    tell_two_seats(&rt, &front, &mut seats, &mut told)?;
+    tell_closed(front, seats, &mut told)?;
     assert_eq!(rt; told.as_str(), TURNS);
     Ok(())
 }
@@ -152,12 +171,25 @@ fn tell_seats(additions: &[Addition], seats: u32, told: &mut String) -> Result<(
     Ok(())
 }
 
+/// What so many threads make of a front, with 10,000 turns each.
+fn tell_threads<R: Threads + Wait + Sync>(
+    rt: &R,
+    alloc: Global,
+    seats: u32,
+    told: &mut String,
+) -> Result<(), Fail>
+    requires { 0 < seats }
+{
+    let tally = tally_of_front(rt, alloc, seats, 10_000)?.ok_or("a seat is missing")?;
+    tell_seats(&tally.additions, seats, told)?;
+    Ok(())
+}
+
 #[test]
 fn threads_take_turns(rt: HostRuntime) -> Result<(), Fail> {
     let mut told = String::new(rt.alloc());
     for seats in 2..5 {
-        let tally = tally_of_front(&rt, rt.alloc(), seats, 10_000)?.ok_or("no memory")?;
-        tell_seats(&tally.additions, seats, &mut told)?;
+        tell_threads(&rt, rt.alloc(), seats, &mut told)?;
     }
     assert_eq!(rt; told.as_str(), THREADS);
     Ok(())

@@ -1,5 +1,5 @@
 use Rattle.std.proofs.Common.{ℕ, ◌≤◌, ◌<◌, All}
-use Rattle.std.specs.Prelude.{IfSome, IsTrue}
+use Rattle.std.specs.Prelude.{IsTrue}
 use Rattle.front_lock.specs.Numbers.{speaks_for}
 use Rattle.front_lock.specs.Front.{IsSeatOf, view}
 use Rattle.front_cases.proofs.threads.join_all.Given as goal
@@ -7,7 +7,7 @@ use Rattle.front_cases.proofs.threads.join_all.Given as goal
 abbrev pub invariant-loop-least : goal.invariant-loop-least
 invariant-loop-least l = record {
   joined : IsSeatOf (λ t. t.most) l.front l.joined;
-  seats : All (λ o. IfSome o (λ s. IsSeatOf (λ t. t.most) l.front s)) l.seats.items;
+  seats : All (λ s. IsSeatOf (λ t. t.most) l.front s) l.seats.items;
   speaks : (k : ℕ) → l.least ≤ k → k < l.count → IsTrue (speaks_for k (view l.joined).mine);
 }
 
