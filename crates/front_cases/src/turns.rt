@@ -107,23 +107,22 @@ fn tell_turns<R: Wait>(
     Ok(())
 }
 
-/// Lets the two seats of a front take their turns.
-fn tell_two_seats<R: Wait>(
+/// Lets the two seats of a front take their turns, and gives them back.
+fn seats_after<R: Wait>(
     rt: &R,
+    alloc: Global,
     front: &Front<Tally>,
-    seats: &mut Vec<FrontSeat<Tally>>,
+    mut seats: Vec<FrontSeat<Tally>>,
     told: &mut String,
-) -> Result<(), Fail>
+) -> Result<Vec<FrontSeat<Tally>>, Fail>
     requires most { basis_of (λ t. t.most) front.now ≡ 9 }
-    requires seats { All (λ s. IsSeatOf (λ t. t.most) front.now s) seats.old.items }
-    ensures { OnOk result (All (λ s. IsSeatOf (λ t. t.most) front.now s) seats.new.items) }
+    requires seats { All (λ s. IsSeatOf (λ t. t.most) front.now s) seats.items }
+    ensures { IfOk result (λ left. All (λ s. IsSeatOf (λ t. t.most) front.now s) left.items) }
 {
     let mut second = seats.pop().ok_or("no seat 1")?;
     let mut first = seats.pop().ok_or("no seat 0")?;
     tell_turns(rt, front, &mut first, &mut second, told)?;
-    seats.push(first)?;
-    seats.push(second)?;
-    Ok(())
+    Ok(Vec::from_array(alloc, [first, second])?)
 }
 
 /// Closes a front of two seats, and tells its history.
@@ -144,9 +143,9 @@ fn tell_closed(
 fn seats_take_turns(rt: HostRuntime) -> Result<(), Fail> {
     let alloc = rt.alloc();
     let mut told = String::new(alloc);
-    let (front, mut seats) = Front::new(alloc, Tally::new(alloc, 9), 2)?;
-    tell_two_seats(&rt, &front, &mut seats, &mut told)?;
-    tell_closed(front, seats, &mut told)?;
+    let (front, seats) = Front::new(alloc, Tally::new(alloc, 9), 2)?;
+    let left = seats_after(&rt, alloc, &front, seats, &mut told)?;
+    tell_closed(front, left, &mut told)?;
     assert_eq!(rt; told.as_str(), TURNS);
     Ok(())
 }
