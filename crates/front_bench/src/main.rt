@@ -87,9 +87,7 @@ fn tally<R: Threads + Wait + Sync>(rt: &R, alloc: Global, command: Command) -> R
 {
     match command.lock {
         Lock::Front => {
-            tally_of_front(rt, alloc, command.threads, command.turns)?.context(
-                "a seat is missing",
-            )
+            tally_of_front(rt, alloc, command.threads, command.turns)?.context("a seat is missing")
         }
         Lock::Mutex => Ok(tally_of_mutex(rt, alloc, command.threads, command.turns)?),
     }
