@@ -1,6 +1,6 @@
 -- What a turn on a front says of a call of the store, and of an offer.
 use Rattle.std.proofs.Common.{◌≡◌, ℕ, ◌+◌, ◌<◌, ◌≤◌, ◌%◌, zero, suc, List, [], ◌∷◌, ◌++◌, length, map, Some, refl, sym, ap, ◌∙◌, arith, subst}
-use Rattle.std.specs.Prelude.{slice_get}
+use Rattle.std.specs.Prelude.{slice_get, Result, IfOk}
 use Rattle.std.specs.List.{range_with_len}
 use Rattle.std.specs.Option.{option_map_or}
 use Rattle.std.proofs.lemmas.List.{map-append}
@@ -20,7 +20,7 @@ use Rattle.front_lock.specs.Numbers.{with_turn}
 use Rattle.front_lock.specs.Turns.{MakesTurn}
 use Rattle.front_lock.specs.Front.{view, basis_of, IsSeatOf}
 use Rattle.store_shared.specs.FrontRow.{AreSeatsOf, Along, TurnsAt, MissesAt, seen_at}
-use Rattle.store_shared.proofs.Items.{some_one}
+use Rattle.store_shared.proofs.Items.{some_one, if_ok}
 use Rattle.store_shared.proofs.Columns.{got_map, placed_from}
 use Rattle.session_row.specs.declared.commit.Commit.{Commit}
 use Rattle.session_store.specs.Charter.{CharterState}
@@ -99,6 +99,14 @@ module _ {T : Type 0} {h : Ghosts T Turn ShardBasis} (turns : T → List Turn) (
         lawful = subst (λ (z : Turn). AreLawfulIn (follows charter) devices (turns y ++ z ∷ [])) same made.lawful;
         value = (means (basis y) (turns y) x v.is_done).1;
       }
+
+  pub called_where : {A E : Type 0} (follows : CharterState → ℕ → List Entry → Entry → Type 0) (devices : ℕ) (charter : CharterState) (fs : List (Front T Turn ShardBasis)) (old new : List (FrontSeat T Turn ShardBasis h)) (d : DeviceId) (call : TurnCall) (answer : A → TurnAnswer) (says : A → List Turn → Type 0) (done : ShardBasis → List Turn → Turn → A → Type 0) (r : Result A E)
+      → ((y : T) → HasHistory turns basis y) → ((a : A) (b : ShardBasis) (before : List Turn) (x : Turn) → done b before x a → IsMade follows b before x d call (answer a) × says a before)
+      → AreSeatsOf basis fs old → map (λ (p : Front T Turn ShardBasis). basis_of basis p) fs ≡ shard_bases devices charter → IfOk r (λ a. TurnsAt turns basis (λ x. x.seat) done old (shard_of d.0) a new)
+      → IfOk r (λ a. Called follows devices charter old new d call (answer a) (says a))
+  called_where follows devices charter fs old new d call answer says done r keeps means of are all =
+      if_ok (λ a. TurnsAt turns basis (λ x. x.seat) done old (shard_of d.0) a new) (λ a. Called follows devices charter old new d call (answer a) (says a)) r
+      (λ a t. called follows devices charter fs old new d call (answer a) (says a) done a keeps (means a) of are t) all
 
 -- what a write tells of what the seat has seen behind it
 pub told : {T : Type 0} {h : Ghosts T Turn ShardBasis} (follows : CharterState → ℕ → List Entry → Entry → Type 0) (devices : ℕ) (charter : CharterState) (old new : List (FrontSeat T Turn ShardBasis h)) (d : DeviceId) (read : ℕ) (entry : Entry) (commit : Commit)

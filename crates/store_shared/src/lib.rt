@@ -5,9 +5,11 @@
 mod basis;
 mod front_row;
 mod fronts;
+mod kept;
 mod offer_job;
 mod peer_shard;
 mod peers;
+mod place;
 mod shared_peers;
 mod shared_store;
 mod store_jobs;

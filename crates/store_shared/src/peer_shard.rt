@@ -102,10 +102,7 @@ impl PeerShard {
             return Err(NoRoom(call));
         }
         let row = row_at(&self.law, d);
-        let Ok(kept) = self.peers.says(row, k, &call) else {
-            return Err(NoRoom(call));
-        };
-        let Ok(offer) = self.peers.offer(row, k, &call) else {
+        let Ok((offer, kept)) = self.peers.offer_twice(row, k, &call) else {
             return Err(NoRoom(call));
         };
         self.turns.push_reserved(Turn {

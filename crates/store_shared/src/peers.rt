@@ -70,4 +70,28 @@ impl Peers {
             Effect::Down(_) => unreachable!(),
         }
     }
+
+    /// The same, and what is said once more.
+    pub(crate) fn offer_twice(
+        &mut self,
+        row: &Subscriber,
+        k: u64,
+        call: &Effect,
+    ) -> Result<(Offer, Offer), AllocError>
+        requires call { is_call call.now ≡ true }
+        requires gateway { IsWithin (length self.old.gateway) row.now.number }
+        requires subscriber { IsWithin (length self.old.subscriber) row.now.number }
+        requires tunnel { row.now.teid ≤ 4000000000 }
+        requires number { 1 ≤ k }
+        requires count { k < 268435456 }
+        ensures offer { IfOk result (λ offer. offer.0 ≡ offer_of (answer_of row.now) (lists_on self.old (lane_of call.now) row.now.number) k call.now) }
+        ensures copy { IfOk result (λ offer. offer.1 ≡ offer.0) }
+        ensures gateway { OnOk result (self.new.gateway ≡ gateway_after self.old.gateway row.now.number k call.now) }
+        ensures subscriber { OnOk result (self.new.subscriber ≡ subscriber_after self.old.subscriber row.now.number k call.now) }
+        ensures err { OnErr result (self.new ≡ self.old) }
+    {
+        let kept = self.says(row, k, call)?;
+        let offer = self.offer(row, k, call)?;
+        Ok((offer, kept))
+    }
 }

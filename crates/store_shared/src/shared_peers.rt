@@ -12,8 +12,9 @@ ghost use Rattle.store_shared.specs.StoreBases.{seat_of};
 use crate::front_row::{Fronts, FrontsSeat};
 use crate::offer_job::OfferJob;
 use crate::peer_shard::PeerShard;
+use crate::place::place_of;
 use device_types::{DeviceId, Effect, NoRoom, Offer};
-use session_store::{EchoLaw, RowLaw, SHARDS, shard_of};
+use session_store::{EchoLaw, RowLaw, SHARDS};
 use std::alloc::{AllocError, Global};
 use std::sync::Wait;
 use subs_table::SubsTable;
@@ -93,10 +94,9 @@ impl SharedPeers {
         ensures ok { IfOk result (λ offer. Offered (arc_value self.now.law.charter) seat.old.seats.items seat.new.seats.items d k call offer) }
         ensures err { OnErr result (MissesAt peer_turns peer_basis seat.old.seats.items (shard_of d.0) seat.new.seats.items) }
     {
-        let shard = shard_of(d);
         match self
             .fronts
-            .turn(rt, seat, shard as usize, OfferJob { d, k, call })
+            .turn(rt, seat, place_of(d), OfferJob { d, k, call })
         {
             Ok(answer) => Ok(answer),
             Err(room) => Err(no_memory(room)),

@@ -8,18 +8,20 @@ ghost use Rattle.session_store.specs.Seen.{IsAsked, peeked_of, seen_of};
 ghost use Rattle.session_store.specs.Shards.{shard_of};
 ghost use Rattle.store_shared.specs.declared.turn.TurnAnswer.TheVariants as answers;
 ghost use Rattle.store_shared.specs.declared.turn.TurnCall.TheVariants as calls;
-ghost use Rattle.store_shared.specs.FrontRow.{AreClosed, AreFreshSeats, AreJoined, AreSeatsOf, MissesAt, SpeaksOnAll, seen_at};
+ghost use Rattle.store_shared.specs.FrontRow.{AreClosed, AreFreshSeats, AreJoined, AreSeatsOf, MissesAt, SpeaksOnAll, TurnsAt, seen_at};
 ghost use Rattle.store_shared.specs.Legal.{IsBehind, TellsCount, commit_of, journal_in, row_in};
 ghost use Rattle.store_shared.specs.SharedCalls.{Called};
-ghost use Rattle.store_shared.specs.StoreBases.{seat_of, shard_bases, store_basis, store_turns};
+ghost use Rattle.store_shared.specs.StoreBases.{basis_at, seat_of, shard_bases, store_basis, store_turns};
 
 use crate::front_row::{Fronts, FrontsSeat};
+use crate::place::place_of;
 use crate::store_jobs::{CommitJob, PeekJob, PushJob, ReadJob, SettleJob};
 use crate::store_shard::StoreShard;
 use device_types::{DeviceId, Effect, Entry, Lane, NoRoom};
 use effect_outbox::Settled;
+use front_lock::Job;
 use session_row::Commit;
-use session_store::{Asked, Peeked, RowLaw, SHARDS, Seen, shard_of};
+use session_store::{Asked, Peeked, RowLaw, SHARDS, Seen};
 use std::alloc::{AllocError, Global};
 use std::sync::Wait;
 
@@ -90,6 +92,48 @@ impl<L: RowLaw> SharedStore<L> {
         ))
     }
 
+    /// One turn at the shard of a device.
+    fn turn<J: Job<StoreShard<L>>, R: Wait>(
+        &self,
+        rt: &R,
+        seat: &mut StoreSeat<L>,
+        d: DeviceId,
+        job: J,
+    ) -> Result<J::Answer, NoRoom<J>>
+        requires seat { AreSeatsOf store_basis self.now.fronts.fronts.items seat.old.seats.items }
+        requires can { J.can job (basis_at self.now.devices (L.charter self.now.law) (shard_of d.0)) (seen_at seat.old.seats.items (shard_of d.0)) }
+        ensures seat { AreSeatsOf store_basis self.now.fronts.fronts.items seat.new.seats.items }
+        ensures number { seat.new.number ≡ seat.old.number }
+        ensures others { (n : ℕ) → n ≢ shard_of d.0 → slice_get seat.new.seats.items n ≡ slice_get seat.old.seats.items n }
+        ensures ok { IfOk result (λ answer. TurnsAt store_turns store_basis seat_of (J.done job) seat.old.seats.items (shard_of d.0) answer seat.new.seats.items) }
+        ensures err { IfErr result (λ room. MissesAt store_turns store_basis seat.old.seats.items (shard_of d.0) seat.new.seats.items) }
+        ensures back { IfErr result (λ room. room.0 ≡ job) }
+    {
+        self.fronts.turn(rt, seat, place_of(d), job)
+    }
+
+    /// The same of a job that is let go where memory runs out.
+    fn ask<J: Job<StoreShard<L>> + Drop, R: Wait>(
+        &self,
+        rt: &R,
+        seat: &mut StoreSeat<L>,
+        d: DeviceId,
+        job: J,
+    ) -> Result<J::Answer, AllocError>
+        requires seat { AreSeatsOf store_basis self.now.fronts.fronts.items seat.old.seats.items }
+        requires can { J.can job (basis_at self.now.devices (L.charter self.now.law) (shard_of d.0)) (seen_at seat.old.seats.items (shard_of d.0)) }
+        ensures seat { AreSeatsOf store_basis self.now.fronts.fronts.items seat.new.seats.items }
+        ensures number { seat.new.number ≡ seat.old.number }
+        ensures others { (n : ℕ) → n ≢ shard_of d.0 → slice_get seat.new.seats.items n ≡ slice_get seat.old.seats.items n }
+        ensures ok { IfOk result (λ answer. TurnsAt store_turns store_basis seat_of (J.done job) seat.old.seats.items (shard_of d.0) answer seat.new.seats.items) }
+        ensures err { OnErr result (MissesAt store_turns store_basis seat.old.seats.items (shard_of d.0) seat.new.seats.items) }
+    {
+        match self.turn(rt, seat, d, job) {
+            Ok(answer) => Ok(answer),
+            Err(_) => Err(AllocError),
+        }
+    }
+
     /// What is seen of the row of a device, about an input, as `Store::read` tells it. It fails for want of memory alone.
     pub fn read<R: Wait>(
         &self,
@@ -107,14 +151,7 @@ impl<L: RowLaw> SharedStore<L> {
         ensures ok { IfOk result (λ seen. Called L.follows self.now.devices (L.charter self.now.law) seat.old.seats.items seat.new.seats.items d (calls.Read asked) (answers.Read seen) (λ before. seen ≡ seen_of (journal_in d.0 before) asked)) }
         ensures err { OnErr result (MissesAt store_turns store_basis seat.old.seats.items (shard_of d.0) seat.new.seats.items) }
     {
-        let shard = shard_of(d);
-        match self
-            .fronts
-            .turn(rt, seat, shard as usize, ReadJob { d, asked })
-        {
-            Ok(answer) => Ok(answer),
-            Err(_) => Err(AllocError),
-        }
+        self.ask(rt, seat, d, ReadJob { d, asked })
     }
 
     /// The same without the session.
@@ -134,14 +171,7 @@ impl<L: RowLaw> SharedStore<L> {
         ensures ok { IfOk result (λ peeked. Called L.follows self.now.devices (L.charter self.now.law) seat.old.seats.items seat.new.seats.items d (calls.Peek asked) (answers.Peek peeked) (λ before. peeked ≡ peeked_of (journal_in d.0 before) asked)) }
         ensures err { OnErr result (MissesAt store_turns store_basis seat.old.seats.items (shard_of d.0) seat.new.seats.items) }
     {
-        let shard = shard_of(d);
-        match self
-            .fronts
-            .turn(rt, seat, shard as usize, PeekJob { d, asked })
-        {
-            Ok(answer) => Ok(answer),
-            Err(_) => Err(AllocError),
-        }
+        self.ask(rt, seat, d, PeekJob { d, asked })
     }
 
     /// Writes an entry, where the row of the device still has the version that was read. The version is one that the seat has seen,
@@ -167,11 +197,7 @@ impl<L: RowLaw> SharedStore<L> {
         ensures err { OnErr result (MissesAt store_turns store_basis seat.old.seats.items (shard_of d.0) seat.new.seats.items) }
         ensures back { IfErr result (λ room. room.0 ≡ entry) }
     {
-        let shard = shard_of(d);
-        match self
-            .fronts
-            .turn(rt, seat, shard as usize, CommitJob { d, read, entry })
-        {
+        match self.turn(rt, seat, d, CommitJob { d, read, entry }) {
             Ok(answer) => Ok(answer),
             Err(NoRoom(job)) => Err(NoRoom(job.entry)),
         }
@@ -195,14 +221,7 @@ impl<L: RowLaw> SharedStore<L> {
         ensures ok { IfOk result (λ effect. Called L.follows self.now.devices (L.charter self.now.law) seat.old.seats.items seat.new.seats.items d (calls.Push lane k) (answers.Push effect) (λ before. effect ≡ unsettled_effect (row_in d.0 before) lane k)) }
         ensures err { OnErr result (MissesAt store_turns store_basis seat.old.seats.items (shard_of d.0) seat.new.seats.items) }
     {
-        let shard = shard_of(d);
-        match self
-            .fronts
-            .turn(rt, seat, shard as usize, PushJob { d, lane, k })
-        {
-            Ok(answer) => Ok(answer),
-            Err(_) => Err(AllocError),
-        }
+        self.ask(rt, seat, d, PushJob { d, lane, k })
     }
 
     /// The effects of a lane of the device up to `k` are settled; so many were made, as far as the seat has seen. It fails for want
@@ -224,14 +243,7 @@ impl<L: RowLaw> SharedStore<L> {
         ensures ok { IfOk result (λ settled. Called L.follows self.now.devices (L.charter self.now.law) seat.old.seats.items seat.new.seats.items d (calls.Settle lane k) (answers.Settle settled) (λ before. settled ≡ settled_by (number_on (row_in d.0 before).settled lane) k)) }
         ensures err { OnErr result (MissesAt store_turns store_basis seat.old.seats.items (shard_of d.0) seat.new.seats.items) }
     {
-        let shard = shard_of(d);
-        match self
-            .fronts
-            .turn(rt, seat, shard as usize, SettleJob { d, lane, k })
-        {
-            Ok(answer) => Ok(answer),
-            Err(_) => Err(AllocError),
-        }
+        self.ask(rt, seat, d, SettleJob { d, lane, k })
     }
 
     /// With how many seats it was made. It takes no memory.

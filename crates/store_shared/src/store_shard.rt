@@ -11,6 +11,7 @@ ghost use Rattle.store_shared.specs.Legal.{row_in, journal_in, commit_of, IsTurn
 ghost use Rattle.store_shared.specs.StoreShards.{IsStoreShard, turn_by};
 
 use crate::basis::ShardBasis;
+use crate::kept::commit_copied;
 use crate::turn::{Turn, TurnAnswer, TurnCall};
 use device_types::{DeviceId, Effect, Entry, Lane, NoRoom, TryCopy};
 use effect_outbox::Settled;
@@ -158,10 +159,7 @@ impl<L: RowLaw> StoreShard<L> {
         if self.turns.reserve(1).is_err() {
             return Err(NoRoom(entry));
         }
-        let Ok(kept) = entry.copy() else {
-            return Err(NoRoom(entry));
-        };
-        let commit = self.shard.commit(d, read, entry)?;
+        let (commit, kept) = commit_copied(&mut self.shard, d, read, entry)?;
         self.turns.push_reserved(Turn {
             seat,
             device: d,

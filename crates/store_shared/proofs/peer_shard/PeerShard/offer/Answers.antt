@@ -8,6 +8,6 @@ use Rattle.store_shared.proofs.peer_shard.PeerShard.offer.Goals as goal
 pub invariant_of-self-2 : goal.invariant_of-self-2
 invariant_of-self-2 c =
     let s = c.args.self.now in
-    let x = offer_by c.args.seat c.args.d c.args.k c.args.call (answers.Offer c.in-Ok-offer.offer) in
-    let t = offers_by (arc_value s.law.charter) s.number s.peers c.offer.new.self s.turns.items c.args.seat c.args.d c.args.k c.row_at-row.result.now c.args.call c.in-Ok-offer.offer c.row_at-row.ensures.number s.kept c.requires.offered c.row_at-row.ensures.row c.in-Ok-offer.ensures.offer c.in-Ok-offer.ensures.gateway c.in-Ok-offer.ensures.subscriber in
-    record { kept = kept_with (arc_value s.law.charter) s.number c.offer.new.self s.turns.items _ _ x _ t c.push_reserved.ensures.items c.reserve.ensures.items (ap (λ o. offer_by c.args.seat c.args.d c.args.k c.args.call (answers.Offer o)) (c.in-Ok.ensures ∙ sym c.in-Ok-offer.ensures.offer)) }
+    let x = offer_by c.args.seat c.args.d c.args.k c.args.call (answers.Offer c.in-Ok.offer) in
+    let t = offers_by (arc_value s.law.charter) s.number s.peers c.offer_twice.new.self s.turns.items c.args.seat c.args.d c.args.k c.row_at-row.result.now c.args.call c.in-Ok.offer c.row_at-row.ensures.number s.kept c.requires.offered c.row_at-row.ensures.row c.in-Ok.ensures.offer c.in-Ok.ensures.gateway c.in-Ok.ensures.subscriber in
+    record { kept = kept_with (arc_value s.law.charter) s.number c.offer_twice.new.self s.turns.items _ _ x _ t c.push_reserved.ensures.items c.reserve.ensures.items (ap (λ o. offer_by c.args.seat c.args.d c.args.k c.args.call (answers.Offer o)) c.in-Ok.ensures.copy) }

@@ -1,43 +1,18 @@
-use Rattle.std.proofs.Common.{◌≡◌, ◌≤◌, ℕ, List, length, take, refl, sym, ap, ◌∙◌, subst}
-use Rattle.std.specs.Prelude.{slice_get}
-use Rattle.device_types.specs.Journal.{pushed_count}
-use Rattle.effect_outbox.specs.Outbox.{number_on, settled_by}
-use Rattle.session_store.specs.Rows.{unsettled_effect}
-use Rattle.session_store.specs.Seen.{IsAsked, seen_of, peeked_of}
-use Rattle.session_store.specs.Shards.{shard_of}
-use Rattle.store_shared.specs.declared.basis.ShardBasis.{ShardBasis}
-use Rattle.store_shared.specs.declared.turn.Turn.{Turn}
+use Rattle.std.proofs.Common.{◌≡◌, length}
 use Rattle.store_shared.specs.declared.turn.TurnCall.TheVariants as calls
 use Rattle.store_shared.specs.declared.turn.TurnAnswer.TheVariants as answers
-use Rattle.store_shared.specs.Legal.{row_in, journal_in, commit_of, IsBehind}
-use Rattle.store_shared.specs.StoreBases.{basis_at, seat_of, store_basis, store_turns}
-use Rattle.store_shared.specs.StoreShards.{IsOfShard}
-use Rattle.store_shared.proofs.Turns.{front_basis, low, seen_is, called, told, missed_at, turned_at}
+use Rattle.store_shared.specs.Legal.{journal_in, commit_of, IsBehind}
+use Rattle.store_shared.specs.StoreBases.{store_basis, store_turns}
+use Rattle.store_shared.proofs.Turns.{called, told}
 use Rattle.store_shared.proofs.shared_store.SharedStore.commit.Goals as goal
-
-pub turn-requires-clause-can : goal.turn-requires-clause-can
-turn-requires-clause-can g c = λ f s gf gs.
-    let basis = store_basis {L = g.row.L.Denot} {h = g.L.RowLaw} in
-    let fs = c.args.self.now.fronts.fronts.items in
-    let old = c.args.seat.now.seats.items in
-    let here = ap (slice_get fs) (sym c.shard_of-shard.ensures) ∙ gf in
-    let e = front_basis basis (basis_at c.args.self.now.devices (g.L.RowLaw.charter c.args.self.now.law)) fs (shard_of c.args.d.0) f c.args.self.now.based (low c.args.d) here in
-    let seen = seen_is old (shard_of c.args.d.0) s (ap (slice_get old) (sym c.shard_of-shard.ensures) ∙ gs) in
-    let may = subst (λ (h : List Turn). (c.args.read ≤ length (journal_in c.args.d.0 h)) × g.L.RowLaw.follows (g.L.RowLaw.charter c.args.self.now.law) c.args.d.0 (take c.args.read (journal_in c.args.d.0 h)) c.args.entry) seen (c.requires.version, c.requires.law) in
-    subst (λ (b : ShardBasis). IsOfShard b.shard b.devices c.args.d.0 × ((c.args.read ≤ length (journal_in c.args.d.0 s.seat.me.0.seen)) × g.L.RowLaw.follows b.charter c.args.d.0 (take c.args.read (journal_in c.args.d.0 s.seat.me.0.seen)) c.args.entry)) (sym e) ((c.requires.device, refl), may)
 
 pub returns-in-Ok-clause-ok : goal.returns-in-Ok-clause-ok
 returns-in-Ok-clause-ok g c =
-    let basis = store_basis {L = g.row.L.Denot} {h = g.L.RowLaw} in
-    let turns = store_turns {L = g.row.L.Denot} {h = g.L.RowLaw} in
-    called turns basis g.L.RowLaw.follows c.args.self.now.devices (g.L.RowLaw.charter c.args.self.now.law) c.args.self.now.fronts.fronts.items c.args.seat.now.seats.items c.turn.new.me.seats.items c.args.d (calls.Commit c.args.read c.args.entry) (answers.Commit c.in-Ok.answer)
-    (λ before. (c.in-Ok.answer ≡ commit_of (length (journal_in c.args.d.0 before)) c.args.read) × IsBehind c.args.read c.in-Ok.answer) _ c.in-Ok.answer (λ y. y.kept.legal) (λ b before x m. (m.0, (m.1, m.2))) c.requires.seat c.args.self.now.based
-    (turned_at turns basis seat_of _ c.args.seat.now.seats.items c.turn.new.me.seats.items c.shard_of-shard.result (shard_of c.args.d.0) c.in-Ok.answer c.shard_of-shard.ensures c.in-Ok.ensures.ok)
+    called (store_turns {L = g.row.L.Denot} {h = g.L.RowLaw}) (store_basis {L = g.row.L.Denot} {h = g.L.RowLaw}) g.L.RowLaw.follows c.args.self.now.devices (g.L.RowLaw.charter c.args.self.now.law)
+    c.args.self.now.fronts.fronts.items c.args.seat.now.seats.items c.turn.new.seat.seats.items c.args.d (calls.Commit c.args.read c.args.entry) (answers.Commit c.in-Ok.answer)
+    (λ before. (c.in-Ok.answer ≡ commit_of (length (journal_in c.args.d.0 before)) c.args.read) × IsBehind c.args.read c.in-Ok.answer) _ c.in-Ok.answer
+    (λ y. y.kept.legal) (λ b before x m. (m.0, (m.1, m.2))) c.requires.seat c.args.self.now.based c.in-Ok.ensures.ok
 
 pub returns-in-Ok-clause-tells : goal.returns-in-Ok-clause-tells
 returns-in-Ok-clause-tells g c =
-    told g.L.RowLaw.follows c.args.self.now.devices (g.L.RowLaw.charter c.args.self.now.law) c.args.seat.now.seats.items c.turn.new.me.seats.items c.args.d c.args.read c.args.entry c.in-Ok.answer (returns-in-Ok-clause-ok g c)
-
-pub returns-in-Err-clause-err : goal.returns-in-Err-clause-err
-returns-in-Err-clause-err g c =
-    missed_at (store_turns {L = g.row.L.Denot} {h = g.L.RowLaw}) (store_basis {L = g.row.L.Denot} {h = g.L.RowLaw}) c.args.seat.now.seats.items c.turn.new.me.seats.items c.shard_of-shard.result (shard_of c.args.d.0) c.shard_of-shard.ensures c.in-Err.ensures.err
+    told g.L.RowLaw.follows c.args.self.now.devices (g.L.RowLaw.charter c.args.self.now.law) c.args.seat.now.seats.items c.turn.new.seat.seats.items c.args.d c.args.read c.args.entry c.in-Ok.answer (returns-in-Ok-clause-ok g c)
