@@ -14,7 +14,7 @@ use crate::offer_job::OfferJob;
 use crate::peer_shard::PeerShard;
 use crate::place::place_of;
 use device_types::{DeviceId, Effect, NoRoom, Offer};
-use session_store::{EchoLaw, RowLaw, SHARDS};
+use session_store::{Charter, EchoLaw, RowLaw, SHARDS};
 use std::alloc::{AllocError, Global};
 use std::sync::Wait;
 use subs_table::SubsTable;
@@ -101,6 +101,13 @@ impl SharedPeers {
             Ok(answer) => Ok(answer),
             Err(room) => Err(no_memory(room)),
         }
+    }
+
+    /// The charter of their law. It takes no memory.
+    pub fn charter(&self) -> &Charter
+        ensures { result.now ≡ arc_value self.now.law.charter }
+    {
+        self.law.charter()
     }
 
     /// With how many seats they were made. It takes no memory.

@@ -21,7 +21,7 @@ use device_types::{DeviceId, Effect, Entry, Lane, NoRoom};
 use effect_outbox::Settled;
 use front_lock::Job;
 use session_row::Commit;
-use session_store::{Asked, Peeked, RowLaw, SHARDS, Seen};
+use session_store::{Asked, Charter, Peeked, RowLaw, SHARDS, Seen};
 use std::alloc::{AllocError, Global};
 use std::sync::Wait;
 
@@ -244,6 +244,13 @@ impl<L: RowLaw> SharedStore<L> {
         ensures err { OnErr result (MissesAt store_turns store_basis seat.old.seats.items (shard_of d.0) seat.new.seats.items) }
     {
         self.ask(rt, seat, d, SettleJob { d, lane, k })
+    }
+
+    /// The charter of its law. It takes no memory.
+    pub fn charter(&self) -> &Charter
+        ensures { result.now ≡ L.charter self.now.law }
+    {
+        self.law.charter()
     }
 
     /// With how many seats it was made. It takes no memory.
