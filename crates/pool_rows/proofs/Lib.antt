@@ -1,0 +1,7 @@
+pub mod Charters
+pub mod Closed
+pub mod Known
+pub mod Offers
+pub mod Seats
+pub mod Turns
+mod Worked

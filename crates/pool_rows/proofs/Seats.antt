@@ -1,0 +1,118 @@
+-- What a call leaves of what a seat knows.
+use Rattle.std.proofs.Common.{◌≡◌, ◌≢◌, ℕ, ⊎_elim, List, [], ◌∷◌, ◌++◌, Some, Result, Ok, Err, sym, ap, ◌∙◌, subst, append-nil, append_assoc}
+use Rattle.std.specs.Option.{option_map_or}
+use Rattle.std.specs.Prelude.{IfOk, IsTrue, OnErr, slice_get}
+use Rattle.std.proofs.lemmas.Bool.{cases_eq}
+use Rattle.device_types.specs.declared.effect.Effect.{Effect}
+use Rattle.device_types.specs.declared.input.Offer.{Offer}
+use Rattle.device_types.specs.declared.step.Entry.{Entry}
+use Rattle.device_types.specs.declared.subscriber.DeviceId.{DeviceId}
+use Rattle.front_lock.specs.declared.held.Held.{Ghosts}
+use Rattle.front_lock.specs.declared.seat.FrontSeat.{FrontSeat}
+use Rattle.front_lock.specs.declared.view.View.{View}
+use Rattle.front_lock.specs.Front.{view}
+use Rattle.front_lock.specs.Numbers.{speaks_for}
+use Rattle.front_lock.proofs.Histories.{speaks_for-with_turn}
+use Rattle.session_store.specs.Charter.{CharterState}
+use Rattle.session_store.specs.Rows.{Begins}
+use Rattle.session_store.specs.Shards.{shard_of}
+use Rattle.store_shared.specs.declared.basis.PeerBasis.{PeerBasis}
+use Rattle.store_shared.specs.declared.basis.ShardBasis.{ShardBasis}
+use Rattle.store_shared.specs.declared.turn.Turn.{Turn}
+use Rattle.store_shared.specs.declared.turn.TurnAnswer.{TurnAnswer}
+use Rattle.store_shared.specs.declared.turn.TurnAnswer.TheVariants as answers
+use Rattle.store_shared.specs.declared.turn.TurnCall.{TurnCall}
+use Rattle.store_shared.specs.FrontRow.{MissesAt, SpeaksOnAll, seen_at}
+use Rattle.store_shared.specs.PeerShards.{offer_by}
+use Rattle.store_shared.specs.SharedCalls.{Called}
+use Rattle.store_shared.specs.SharedOffers.{Offered}
+use Rattle.store_shared.specs.StoreShards.{turn_by}
+use Rattle.store_shared.proofs.Items.{some_one}
+use Rattle.store_shared.proofs.Turns.{seen_is}
+
+module _ {T X B : Type 0} {h : Ghosts T X B} where
+  -- the seat of one front has seen more, and speaks for the same numbers; those of the others are as before
+  pub record Moves (old new : List (FrontSeat T X B h)) (at : ℕ) : Type 0 where
+    pub from : FrontSeat T X B h
+    pub to : FrontSeat T X B h
+    pub was : slice_get old at ≡ Some from
+    pub now : slice_get new at ≡ Some to
+    pub sees : Begins (view from).seen (view to).seen
+    pub speaks : (n : ℕ) → speaks_for n (view to).mine ≡ speaks_for n (view from).mine
+    pub others : (k : ℕ) → k ≢ at → slice_get new k ≡ slice_get old k
+
+  -- on each front it has seen what it had seen, and maybe more
+  pub sees_more : (old new : List (FrontSeat T X B h)) (at : ℕ) → Moves old new at → (k : ℕ) → Begins (seen_at old k) (seen_at new k)
+  sees_more old new at m k = ⊎_elim
+      (λ (e : k ≡ at). subst (λ (i : ℕ). Begins (seen_at old i) (seen_at new i)) (sym e) (m.sees.0, seen_is new at m.to m.now ∙ (m.sees.1 ∙ ap (λ l. l ++ m.sees.0) (sym (seen_is old at m.from m.was)))))
+      (λ (ne : k ≢ at). ([], ap (λ o. option_map_or (λ (t : FrontSeat T X B h). (view t).seen) o []) (m.others k ne) ∙ sym (append-nil (seen_at old k))))
+      (cases_eq k at)
+
+  -- it speaks for what it spoke for
+  pub speaks_still : (old new : List (FrontSeat T X B h)) (at : ℕ) → Moves old new at → (n : ℕ) → SpeaksOnAll n old → SpeaksOnAll n new
+  speaks_still old new at m n all k s got = ⊎_elim
+      (λ (e : k ≡ at).
+      let same : m.to ≡ s = some_one m.to s (sym m.now ∙ (ap (slice_get new) (sym e) ∙ got)) in
+      subst (λ (t : FrontSeat T X B h). IsTrue (speaks_for n (view t).mine)) same (m.speaks n ∙ all at m.from m.was))
+      (λ (ne : k ≢ at). all k s (sym (m.others k ne) ∙ got))
+      (cases_eq k at)
+
+  -- of a call that found no memory
+  pub missed : (turns : T → List X) (basis : T → B) (old new : List (FrontSeat T X B h)) (at : ℕ) → ((k : ℕ) → k ≢ at → slice_get new k ≡ slice_get old k) → MissesAt turns basis old at new → Moves old new at
+  missed turns basis old new at others m =
+      let v = m.misses in
+      record {
+        from = m.from;
+        to = m.to;
+        was = m.was;
+        now = m.now;
+        sees = (v.seen.0, ap (λ (w : View X B). w.seen) v.view_is ∙ sym v.seen.1);
+        speaks = λ n. ap (λ (w : View X B). speaks_for n w.mine) v.view_is;
+        others = others;
+      }
+
+  -- what a call leaves, whether or not it found memory
+  pub moves : {A E : Type 0} (turns : T → List X) (basis : T → B) (old new : List (FrontSeat T X B h)) (at : ℕ) (P : A → Type 0) (r : Result A E) → ((a : A) → P a → Moves old new at) → ((k : ℕ) → k ≢ at → slice_get new k ≡ slice_get old k) → IfOk r P → OnErr r (MissesAt turns basis old at new) → Moves old new at
+  moves turns basis old new at P (Ok a) f others ok err = f a ok
+  moves turns basis old new at P (Err e) f others ok err = missed turns basis old new at others err
+
+-- a list begins what it begins with one more
+begins_one : {X : Type 0} (xs ys zs : List X) (x : X) → (rest : List X) × (xs ++ rest ≡ ys) → zs ≡ ys ++ x ∷ [] → Begins xs zs
+begins_one xs ys zs x p e = (p.0 ++ x ∷ [], e ∙ (ap (λ l. l ++ x ∷ []) (sym p.1) ∙ append_assoc xs p.0 (x ∷ [])))
+
+module _ {T : Type 0} {h : Ghosts T Turn ShardBasis} {follows : CharterState → ℕ → List Entry → Entry → Type 0} {devices : ℕ} {charter : CharterState} {old new : List (FrontSeat T Turn ShardBasis h)} {d : DeviceId} {call : TurnCall} {answer : TurnAnswer} {says : List Turn → Type 0} where
+  -- the seat's new history of the shard
+  pub history_is : (c : Called follows devices charter old new d call answer says) → seen_at new (shard_of d.0) ≡ c.before ++ turn_by (view c.from).number d call answer ∷ []
+  history_is c = seen_is new (shard_of d.0) c.to c.now ∙ ap (λ (v : View Turn ShardBasis). v.seen) c.view_is
+
+  pub called_moves : ((k : ℕ) → k ≢ shard_of d.0 → slice_get new k ≡ slice_get old k) → Called follows devices charter old new d call answer says → Moves old new (shard_of d.0)
+  called_moves others c =
+      let n = (view c.from).number in
+      let turn = turn_by n d call answer in
+      record {
+        from = c.from;
+        to = c.to;
+        was = c.was;
+        now = c.now;
+        sees = begins_one (view c.from).seen c.before (view c.to).seen turn c.seen (ap (λ (v : View Turn ShardBasis). v.seen) c.view_is);
+        speaks = λ k. ap (λ (v : View Turn ShardBasis). speaks_for k v.mine) c.view_is ∙ speaks_for-with_turn n k turn (view c.from).mine;
+        others = others;
+      }
+
+module _ {T : Type 0} {h : Ghosts T Turn PeerBasis} {charter : CharterState} {old new : List (FrontSeat T Turn PeerBasis h)} {d : DeviceId} {k : ℕ} {call : Effect} {offer : Offer} where
+  pub offers_are : (c : Offered charter old new d k call offer) → seen_at new (shard_of d.0) ≡ c.before ++ offer_by (view c.from).number d k call (answers.Offer offer) ∷ []
+  offers_are c = seen_is new (shard_of d.0) c.to c.now ∙ ap (λ (v : View Turn PeerBasis). v.seen) c.view_is
+
+  pub offered_moves : ((i : ℕ) → i ≢ shard_of d.0 → slice_get new i ≡ slice_get old i) → Offered charter old new d k call offer → Moves old new (shard_of d.0)
+  offered_moves others c =
+      let n = (view c.from).number in
+      let turn = offer_by n d k call (answers.Offer offer) in
+      record {
+        from = c.from;
+        to = c.to;
+        was = c.was;
+        now = c.now;
+        sees = begins_one (view c.from).seen c.before (view c.to).seen turn c.seen (ap (λ (v : View Turn PeerBasis). v.seen) c.view_is);
+        speaks = λ i. ap (λ (v : View Turn PeerBasis). speaks_for i v.mine) c.view_is ∙ speaks_for-with_turn n i turn (view c.from).mine;
+        others = others;
+      }

@@ -1,0 +1,15 @@
+use Rattle.std.proofs.Common.{length, sym, ap, ◌∙◌}
+use Rattle.session_store.specs.Charter.{CharterState}
+use Rattle.store_shared.proofs.Items.{if_ok}
+use Rattle.pool_rows.proofs.Closed.{fresh_speaks, if_all, if_both}
+use Rattle.pool_rows.proofs.shared_store.SharedStoreEchoLawSharedRows.open.Goals as goal
+
+pub returns-clause-count : goal.returns-clause-count
+returns-clause-count c = if_both _ _ _ c.new.result (λ made seated count. (seated, count)) c.new.ensures.seated c.new.ensures.count
+
+pub returns-clause-speaks : goal.returns-clause-speaks
+returns-clause-speaks c = if_ok _ _ c.new.result (λ made fresh n s got. fresh_speaks _ _ _ _ n s (fresh n s got)) c.new.ensures.seats
+
+pub returns-clause-seats : goal.returns-clause-seats
+returns-clause-seats c =
+    if_all _ _ _ _ c.new.result (λ made held devices charter k s lt. (held k s lt, devices ∙ (c.requires.devices ∙ ap (λ (of : CharterState). length of.rows) (sym charter)))) c.new.ensures.held c.new.ensures.devices c.new.ensures.charter

@@ -1,0 +1,185 @@
+//! Rows that threads share.
+ghost use Rattle.std.specs.Prelude.{◌≡◌, ◌≤◌, ◌<◌, ℕ, List, length, take, slice_get, All, Some, IfErr, IfOk, OnOk};
+ghost use Rattle.std.specs.Arc.{arc_value};
+ghost use Rattle.device_types.specs.declared.effect.Effect.{Effect};
+ghost use Rattle.device_types.specs.declared.step.Entry.{Entry};
+ghost use Rattle.device_types.specs.Journal.{pushed_count};
+ghost use Rattle.session_store.specs.Charter.{CharterState, IsCharter, follows_alone};
+ghost use Rattle.session_store.specs.Law.{IsLawful};
+ghost use Rattle.session_store.specs.Rows.{Begins, IsDevice, IsKnownAfter};
+ghost use Rattle.session_store.specs.Seen.{IsAsked, peeked_of, seen_of};
+ghost use Rattle.pool_rows.specs.Seats.{IsPushed, IsSettled};
+
+use device_types::{DeviceId, Effect, Entry, Lane, ListOf, NoRoom};
+use effect_outbox::Settled;
+use session_row::Commit;
+use session_store::{Asked, Charter, EchoLaw, Peeked, Seen};
+use std::alloc::{AllocError, Global};
+use std::sync::Wait;
+
+/// The rows of all devices under the law of the machine alone, which threads share. Each thread has a seat, and calls by it. A seat
+/// knows of each device a journal, which its calls only extend, and it speaks for numbers of seats: a new one for its own, a
+/// joined one for those of both.
+pub trait SharedRows: Sized {
+    /// What a thread calls by.
+    type Seat;
+
+    /// What is left of the rows once they are closed.
+    type Closed;
+
+    /// The table, and the lines of its devices.
+    ghost charter: { Self → CharterState };
+
+    /// With how many seats it was made.
+    ghost count: { Self → ℕ };
+
+    /// A seat of these rows.
+    ghost is_seat: { Self → Self.Seat → Type 0 };
+
+    /// The journal of the device of that number, as far as the seat has seen it.
+    ghost known: { Self.Seat → ℕ → List Entry };
+
+    /// The seat speaks for that number.
+    ghost speaks: { Self.Seat → ℕ → Type 0 };
+
+    /// Closed rows under a charter, each shard with a legal history.
+    ghost closes: { CharterState → Self.Closed → Type 0 };
+
+    /// The journal of the device of that number in closed rows.
+    ghost journal: { Self.Closed → ℕ → List Entry };
+
+    /// The rows of the devices of a law's table, none of which was ever seen, and their seats. It fails for want of memory alone.
+    fn open(
+        alloc: Global,
+        law: EchoLaw,
+        devices: u32,
+        seats: u32,
+    ) -> Result<(Self, Vec<Self::Seat>), AllocError>
+        requires devices { devices ≡ length (arc_value law.charter).rows }
+        requires seats { 0 < seats }
+        ensures charter { IfOk result (λ made. charter made.0 ≡ arc_value law.charter) }
+        ensures count { IfOk result (λ made. (count made.0 ≡ seats) × (length made.1.items ≡ seats)) }
+        ensures seats { IfOk result (λ made. All (is_seat made.0) made.1.items) }
+        ensures speaks { IfOk result (λ made. (n : ℕ) (seat : Self.Seat) → slice_get made.1.items n ≡ Some seat → speaks seat n) };
+
+    /// The charter. It takes no memory.
+    fn charter(&self) -> &Charter
+        ensures charter { result.now ≡ charter self.now }
+        ensures in_form { IsCharter (charter self.now) };
+
+    /// What is seen of the row of a device, about an input. It fails for want of memory alone.
+    fn read<R: Wait>(
+        &self,
+        rt: &R,
+        seat: &mut Self::Seat,
+        d: DeviceId,
+        asked: Asked,
+    ) -> Result<Seen, AllocError>
+        requires seat { is_seat self.now seat.old }
+        requires device { IsDevice (length (charter self.now).rows) d.0 }
+        requires asked { IsAsked asked }
+        ensures seat { is_seat self.now seat.new }
+        ensures speaks { (n : ℕ) → speaks seat.old n → speaks seat.new n }
+        ensures extends { (i : ℕ) → Begins (known seat.old i) (known seat.new i) }
+        ensures lawful { OnOk result (IsLawful (follows_alone (charter self.now) d.0) (known seat.new d.0)) }
+        ensures ok { IfOk result (λ seen. seen ≡ seen_of (known seat.new d.0) asked) };
+
+    /// The same without the session.
+    fn peek<R: Wait>(
+        &self,
+        rt: &R,
+        seat: &mut Self::Seat,
+        d: DeviceId,
+        asked: Asked,
+    ) -> Result<Peeked, AllocError>
+        requires seat { is_seat self.now seat.old }
+        requires device { IsDevice (length (charter self.now).rows) d.0 }
+        requires asked { IsAsked asked }
+        ensures seat { is_seat self.now seat.new }
+        ensures speaks { (n : ℕ) → speaks seat.old n → speaks seat.new n }
+        ensures extends { (i : ℕ) → Begins (known seat.old i) (known seat.new i) }
+        ensures lawful { OnOk result (IsLawful (follows_alone (charter self.now) d.0) (known seat.new d.0)) }
+        ensures ok { IfOk result (λ peeked. peeked ≡ peeked_of (known seat.new d.0) asked) };
+
+    /// Writes an entry, where the row of the device still has the version that was read. For want of memory it is given back.
+    fn commit<R: Wait>(
+        &self,
+        rt: &R,
+        seat: &mut Self::Seat,
+        d: DeviceId,
+        read: u64,
+        entry: Entry,
+    ) -> Result<Commit, NoRoom<Entry>>
+        requires seat { is_seat self.now seat.old }
+        requires device { IsDevice (length (charter self.now).rows) d.0 }
+        requires version { read ≤ length (known seat.old d.0) }
+        requires law { follows_alone (charter self.now) d.0 (take read (known seat.old d.0)) entry }
+        ensures seat { is_seat self.now seat.new }
+        ensures speaks { (n : ℕ) → speaks seat.old n → speaks seat.new n }
+        ensures extends { (i : ℕ) → Begins (known seat.old i) (known seat.new i) }
+        ensures lawful { OnOk result (IsLawful (follows_alone (charter self.now) d.0) (known seat.new d.0)) }
+        ensures ok { IfOk result (IsKnownAfter (known seat.new d.0) read entry) }
+        ensures back { IfErr result (λ room. room.0 ≡ entry) };
+
+    /// Effect `k` of a lane of the device, from 1, or `None` where it was not made or is settled. It fails for want of memory
+    /// alone.
+    fn push<R: Wait>(
+        &self,
+        rt: &R,
+        seat: &mut Self::Seat,
+        d: DeviceId,
+        lane: Lane,
+        k: u64,
+    ) -> Result<Option<Effect>, AllocError>
+        requires seat { is_seat self.now seat.old }
+        requires device { IsDevice (length (charter self.now).rows) d.0 }
+        ensures seat { is_seat self.now seat.new }
+        ensures speaks { (n : ℕ) → speaks seat.old n → speaks seat.new n }
+        ensures extends { (i : ℕ) → Begins (known seat.old i) (known seat.new i) }
+        ensures lawful { OnOk result (IsLawful (follows_alone (charter self.now) d.0) (known seat.new d.0)) }
+        ensures ok { IfOk result (IsPushed lane k (known seat.new d.0)) };
+
+    /// The effects of a lane of the device up to `k` are settled; so many were made, as far as the seat has seen. It fails for want
+    /// of memory alone.
+    fn settle<R: Wait>(
+        &self,
+        rt: &R,
+        seat: &mut Self::Seat,
+        d: DeviceId,
+        lane: Lane,
+        k: u64,
+    ) -> Result<Settled, AllocError>
+        requires seat { is_seat self.now seat.old }
+        requires device { IsDevice (length (charter self.now).rows) d.0 }
+        requires pushed { k ≤ pushed_count lane (known seat.old d.0) }
+        ensures seat { is_seat self.now seat.new }
+        ensures speaks { (n : ℕ) → speaks seat.old n → speaks seat.new n }
+        ensures extends { (i : ℕ) → Begins (known seat.old i) (known seat.new i) }
+        ensures ok { IfOk result (IsSettled k) };
+
+    /// Joins two seats to one, which speaks for the numbers of both. It takes no memory.
+    fn join(&self, into: &mut Self::Seat, from: Self::Seat)
+        requires into { is_seat self.now into.old }
+        requires from { is_seat self.now from }
+        ensures seat { is_seat self.now into.new }
+        ensures keeps { (n : ℕ) → speaks into.old n → speaks into.new n }
+        ensures gains { (n : ℕ) → speaks from n → speaks into.new n };
+
+    /// Closes the rows, once a seat speaks for every number: the journal of each device begins with what the seat has seen. For want
+    /// of memory all is dropped.
+    fn close(self, seat: Self::Seat) -> Result<Self::Closed, AllocError>
+        requires seat { is_seat self seat }
+        requires all { (n : ℕ) → n < count self → speaks seat n }
+        ensures closed { IfOk result (closes (charter self)) }
+        ensures seen { IfOk result (λ closed. (d : ℕ) → Begins (known seat d) (journal closed d)) };
+
+    /// The journal of a device in closed rows, copied: it is lawful. It fails for want of memory alone.
+    fn entries(
+        alloc: Global,
+        closed: &Self::Closed,
+        d: DeviceId,
+    ) -> Result<ListOf<Entry>, AllocError>
+        requires closed { (charter : CharterState) × closes charter closed.now }
+        ensures ok { IfOk result (λ entries. entries ≡ journal closed.now d.0) }
+        ensures lawful { (charter : CharterState) → closes charter closed.now → IsDevice (length charter.rows) d.0 → IsLawful (follows_alone charter d.0) (journal closed.now d.0) };
+}
