@@ -89,10 +89,14 @@ both P g s lane.Gateway is = g
 both P g s lane.Subscriber is = s
 
 -- one device more
-pub one_more : (charter : CharterState) (index : ℕ) (old new : ℕ → Lane → List Effect) → ((i : ℕ) (l : Lane) → Begins (old i l) (new i l)) → ((d : ℕ) (l : Lane) → IsDevice index d → IsCallLane l → HasWhole charter d l (old d l)) → ((l : Lane) → IsCallLane l → HasWhole charter (index + 1) l (new (index + 1) l))
-    → (d : ℕ) (l : Lane) → IsDevice (index + 1) d → IsCallLane l → HasWhole charter d l (new d l)
-one_more charter index old new more before last d l within is =
+pub one_more : (P : ℕ → Type 0) (index : ℕ) → ((d : ℕ) → IsDevice index d → P d) → P (index + 1) → (d : ℕ) → IsDevice (index + 1) d → P d
+one_more P index before last d within =
     ⊎_elim
-    (λ (e : d ≡ index + 1). subst (λ (n : ℕ). HasWhole charter n l (new n l)) (sym e) (last l is))
-    (λ (ne : d ≡ index + 1 → ⊥). let least = within.0 in let most = within.1 in whole_more charter d l (old d l) (new d l) (more d l) (before d l (omega arith, omega (arith, ne)) is))
+    (λ (e : d ≡ index + 1). subst P (sym e) last)
+    (λ (ne : d ≡ index + 1 → ⊥). let least = within.0 in let most = within.1 in before d (omega arith, omega (arith, ne)))
     (cases_eq d (index + 1))
+
+pub lanes_more : (charter : CharterState) (index : ℕ) (old new : ℕ → Lane → List Effect) → ((i : ℕ) (l : Lane) → Begins (old i l) (new i l)) → ((d : ℕ) (l : Lane) → IsDevice index d → IsCallLane l → HasWhole charter d l (old d l)) → ((l : Lane) → IsCallLane l → HasWhole charter (index + 1) l (new (index + 1) l))
+    → (d : ℕ) (l : Lane) → IsDevice (index + 1) d → IsCallLane l → HasWhole charter d l (new d l)
+lanes_more charter index old new more before last d l within is =
+    one_more (λ (n : ℕ). (m : Lane) → IsCallLane m → HasWhole charter n m (new n m)) index (λ n here m call. whole_more charter n m (old n m) (new n m) (more n m) (before n m here call)) last d within l is

@@ -1,5 +1,5 @@
 -- What closed peers and the finals come to, once all is whole.
-use Rattle.std.proofs.Common.{◌≡◌, ◌-◌, ◌+◌, ℕ, suc, cond, List, [], ◌∷◌, ◌++◌, Some, length, map, refl, sym, ap, ◌∙◌, arith, length-append}
+use Rattle.std.proofs.Common.{◌≡◌, ◌-◌, ◌+◌, ℕ, suc, cond, List, [], ◌∷◌, ◌++◌, Some, length, map, refl, sym, ap, ◌∙◌, arith, length-append, ◌≤◌, subst}
 use Rattle.std.specs.List.{range_with_len}
 use Rattle.std.specs.Prelude.{slice_get}
 use Rattle.std.proofs.lemmas.List.{take_all}
@@ -17,7 +17,9 @@ use Rattle.device_types.specs.declared.subscriber.Subscriber.{Subscriber}
 use Rattle.device_types.specs.Alone.{alone_of, messages_in, messages_of}
 use Rattle.device_types.specs.Journal.{effects_of, is_message, taken_count}
 use Rattle.device_types.proofs.Courses.{all_taken}
-use Rattle.session_store.specs.Charter.{CharterState, alone_in}
+use Rattle.session_store.specs.AloneLaw.{lawful_is_alone}
+use Rattle.session_store.specs.Charter.{CharterState, alone_in, follows_alone}
+use Rattle.session_store.specs.Law.{IsLawful}
 use Rattle.session_store.specs.Rows.{Begins, IsDevice}
 use Rattle.store_shared.specs.Legal.{IsAcceptedOf}
 use Rattle.pool_ends.specs.Ends.{end_in}
@@ -29,6 +31,10 @@ lane_is_whole charter d l known accepted whole more lawful =
     let least = whole in
     let longer = ap length more.1 ∙ length-append known more.0 in
     sym lawful ∙ take_all (length accepted) (effects_of l (alone_in charter d)) (omega arith)
+
+-- a lawful journal that is as long as that of the machine alone is that
+pub journal_is_whole : (charter : CharterState) (d : ℕ) (journal : List Entry) → IsLawful (follows_alone charter d) journal → length (alone_in charter d) ≤ length journal → journal ≡ alone_in charter d
+journal_is_whole charter d journal lawful low = sym (lawful_is_alone charter d journal lawful) ∙ take_all (length journal) (alone_in charter d) low
 
 -- ---- every message of the machine alone is taken
 
@@ -63,3 +69,7 @@ finals_are charter journal each whole =
     let place : 1 + i - 1 ≡ i = omega arith in
     let alone : alone_in charter (1 + i) ≡ alone_of row messages = rw (place, gr, gm) refl in
     ap end_in (whole (1 + i) (omega arith, omega arith) ∙ alone) ∙ end_alone row messages)
+
+pub finals_when : (charter : CharterState) (journal : ℕ → List Entry) (devices : ℕ) (finals : List DeviceEnd) → finals ≡ map (λ d. end_in (journal d)) (range_with_len 1 devices) → devices ≡ length charter.rows → length charter.lines ≡ length charter.rows → ((d : ℕ) → IsDevice devices d → journal d ≡ alone_in charter d) → finals ≡ finals_of charter.rows charter.lines
+finals_when charter journal devices finals are count each whole =
+    are ∙ (ap (λ n. map (λ d. end_in (journal d)) (range_with_len 1 n)) count ∙ finals_are charter journal each (subst (λ (n : ℕ). (d : ℕ) → IsDevice n d → journal d ≡ alone_in charter d) count whole))

@@ -118,7 +118,7 @@ fn bring_lane<P: SharedCalls, R: Wait>(
     Ok(())
 }
 
-/// Brings both lanes of a device, whose journal in closed rows is whole.
+/// Brings both lanes of a device, whose journal in closed rows is as long as that of the machine alone: so it is that.
 fn bring_device<T: SharedRows, P: SharedCalls, R: Wait>(
     rt: &R,
     alloc: Global,
@@ -129,11 +129,12 @@ fn bring_device<T: SharedRows, P: SharedCalls, R: Wait>(
 ) -> Result<(), AllocError>
     requires device { IsDevice (length (P.charter peers.now).rows) d.0 }
     requires closed { T.closes (P.charter peers.now) closed.now }
-    requires journal { T.journal closed.now d.0 ≡ alone_in (P.charter peers.now) d.0 }
+    requires whole { length (alone_in (P.charter peers.now) d.0) ≤ length (T.journal closed.now d.0) }
     requires seat { P.is_seat peers.now seat.old }
     ensures seat { P.is_seat peers.now seat.new }
     ensures speaks { (n : ℕ) → P.speaks seat.old n → P.speaks seat.new n }
     ensures extends { (i : ℕ) (l : Lane) → Begins (P.known seat.old i l) (P.known seat.new i l) }
+    ensures journal { OnOk result (T.journal closed.now d.0 ≡ alone_in (P.charter peers.now) d.0) }
     ensures whole { OnOk result ((l : Lane) → IsCallLane l → HasWhole (P.charter peers.now) d.0 l (P.known seat.new d.0 l)) }
 {
     let journal = T::entries(alloc, closed, d)?;
@@ -141,8 +142,8 @@ fn bring_device<T: SharedRows, P: SharedCalls, R: Wait>(
     bring_lane(rt, alloc, peers, seat, d, Lane::Subscriber, journal.items())
 }
 
-/// Brings both lanes of each device, so that the seat knows each to be accepted as a whole. The journals in closed rows are whole. It
-/// fails for want of memory alone.
+/// Brings both lanes of each device, so that the seat knows each to be accepted as a whole. The journals in closed rows are as long as
+/// those of the machine alone, and so they are those. It fails for want of memory alone.
 pub fn bring_lanes<T: SharedRows, P: SharedCalls, R: Wait>(
     rt: &R,
     alloc: Global,
@@ -153,10 +154,11 @@ pub fn bring_lanes<T: SharedRows, P: SharedCalls, R: Wait>(
 ) -> Result<(), AllocError>
     requires devices { devices ≡ length (P.charter peers.now).rows }
     requires closed { T.closes (P.charter peers.now) closed.now }
-    requires journals { (d : ℕ) → IsDevice devices d → T.journal closed.now d ≡ alone_in (P.charter peers.now) d }
+    requires whole { (d : ℕ) → IsDevice devices d → length (alone_in (P.charter peers.now) d) ≤ length (T.journal closed.now d) }
     requires seat { P.is_seat peers.now seat.old }
     ensures seat { P.is_seat peers.now seat.new }
     ensures speaks { (n : ℕ) → P.speaks seat.old n → P.speaks seat.new n }
+    ensures journals { OnOk result ((d : ℕ) → IsDevice devices d → T.journal closed.now d ≡ alone_in (P.charter peers.now) d) }
     ensures whole { OnOk result ((d : ℕ) (l : Lane) → IsDevice devices d → IsCallLane l → HasWhole (P.charter peers.now) d l (P.known seat.new d l)) }
 {
     for index in 0..devices {
