@@ -85,8 +85,8 @@ fn offer_call<P: SharedCalls, R: Wait>(
     Ok(told_count(k, offer))
 }
 
-/// Brings a lane of a device to its peer, of which the whole journal is given: the last call first, and where calls before it have
-/// not come those.
+/// Brings a lane of a device to its peer, of which the whole journal is given: the last call first, and where calls before it
+/// have not come those.
 fn bring_lane<P: SharedCalls, R: Wait>(
     rt: &R,
     alloc: Global,
@@ -142,8 +142,8 @@ fn bring_device<T: SharedRows, P: SharedCalls, R: Wait>(
     bring_lane(rt, alloc, peers, seat, d, Lane::Subscriber, journal.items())
 }
 
-/// Brings both lanes of each device, so that the seat knows each to be accepted as a whole. The journals in closed rows are as long as
-/// those of the machine alone, and so they are those. It fails for want of memory alone.
+/// Brings both lanes of each device, so that the seat knows each to be accepted as a whole. The journals in closed rows are as
+/// long as those of the machine alone, and so they are those. It fails for want of memory alone.
 pub fn bring_lanes<T: SharedRows, P: SharedCalls, R: Wait>(
     rt: &R,
     alloc: Global,

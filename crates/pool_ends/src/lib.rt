@@ -1,4 +1,5 @@
-//! What is done once rows that threads shared are closed: the lanes of the peers are brought whole, and the ends of the devices told.
+//! What is done once rows that threads shared are closed: the lanes of the peers are brought whole, and the ends of the devices
+//! told.
 #![tactic(auto)]
 
 mod ends;

@@ -17,8 +17,8 @@ use session_store::{Asked, Charter, EchoLaw, Peeked, Seen};
 use std::alloc::{AllocError, Global};
 use std::sync::Wait;
 
-/// The rows of all devices under the law of the machine alone, which threads share. Each thread has a seat, and calls by it. A seat
-/// knows of each device a journal, which its calls only extend, and it speaks for numbers of seats: a new one for its own, a
+/// The rows of all devices under the law of the machine alone, which threads share. Each thread has a seat, and calls by it. A
+/// seat knows of each device a journal, which its calls only extend, and it speaks for numbers of seats: a new one for its own, a
 /// joined one for those of both.
 pub trait SharedRows: Sized {
     /// What a thread calls by.
@@ -139,8 +139,8 @@ pub trait SharedRows: Sized {
         ensures lawful { OnOk result (IsLawful (follows_alone (charter self.now) d.0) (known seat.new d.0)) }
         ensures ok { IfOk result (IsPushed lane k (known seat.new d.0)) };
 
-    /// The effects of a lane of the device up to `k` are settled; so many were made, as far as the seat has seen. It fails for want
-    /// of memory alone.
+    /// The effects of a lane of the device up to `k` are settled; so many were made, as far as the seat has seen. It fails for
+    /// want of memory alone.
     fn settle<R: Wait>(
         &self,
         rt: &R,
@@ -165,8 +165,8 @@ pub trait SharedRows: Sized {
         ensures keeps { (n : ℕ) → speaks into.old n → speaks into.new n }
         ensures gains { (n : ℕ) → speaks from n → speaks into.new n };
 
-    /// Closes the rows, once a seat speaks for every number: the journal of each device begins with what the seat has seen. For want
-    /// of memory all is dropped.
+    /// Closes the rows, once a seat speaks for every number: the journal of each device begins with what the seat has seen. For
+    /// want of memory all is dropped.
     fn close(self, seat: Self::Seat) -> Result<Self::Closed, AllocError>
         requires seat { is_seat self seat }
         requires all { (n : ℕ) → n < count self → speaks seat n }
