@@ -1,4 +1,4 @@
 mod Crash
 mod Images
-mod Moments
-mod Runs
+pub mod Moments
+pub mod Runs
