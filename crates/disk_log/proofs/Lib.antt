@@ -1,0 +1,4 @@
+mod Heads
+mod Logs
+mod Openings
+mod Worked
