@@ -1,4 +1,4 @@
-mod Heads
-mod Logs
+pub mod Heads
+pub mod Logs
 mod Openings
 mod Worked

@@ -1,0 +1,6 @@
+mod Commits
+mod Foreign
+mod Forms
+mod Logs
+mod Replays
+mod Takes

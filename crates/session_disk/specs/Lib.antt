@@ -1,0 +1,4 @@
+pub mod Causes
+pub mod Fits
+pub mod Replay
+pub mod Stored

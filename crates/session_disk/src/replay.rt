@@ -1,0 +1,81 @@
+//! The rows of a log.
+ghost use Rattle.std.specs.Prelude.{◌≡◌, ◌≤◌, ◌*◌, ℕ, true, false, length, replicate, IfOk, OnOk, IsErrOf};
+ghost use Rattle.disk_log.specs.Log.{log_of, EndsAt};
+ghost use Rattle.session_store.specs.Rows.{opening_row, AreLawful};
+ghost use Rattle.session_disk.specs.Fits.{AreRowsOf, IsLogOf, IsForeign};
+ghost use Rattle.session_disk.specs.Replay.{IsNext, Takes};
+ghost use Rattle.session_disk.specs.Stored.{entry_count};
+ghost use Rattle.session_disk.specs.declared.fault.OpenCause.TheVariants as causes;
+
+use crate::fault::OpenCause;
+use crate::maker::Maker;
+use device_types::DeviceId;
+use disk_log::Record;
+use session_store::{RowLaw, Store};
+use std::alloc::AllocError;
+
+/// Puts the entry of a record into the store, where the record is the next one of its device; tells whether it is. It fails for want
+/// of memory alone.
+fn take_record<L: RowLaw, M: Maker<L>>(
+    store: &mut Store<L>,
+    devices: u32,
+    maker: &M,
+    next: &Record,
+) -> Result<bool, AllocError>
+    requires charter { M.charter maker.now ≡ store.old.charter }
+    requires count { length store.old.rows ≡ devices }
+    requires lawful { AreLawful (L.follows store.old.charter) store.old.rows }
+    ensures next { IfOk result (λ fits. fits ≡ true → Takes (M.made store.old.charter) store.old.rows store.new.rows next.now) }
+    ensures other { IfOk result (λ fits. fits ≡ false → IsNext (M.made store.old.charter) store.old.rows next.now → ⊥) }
+    ensures charter { store.new.charter ≡ store.old.charter }
+    ensures lawful { OnOk result (AreLawful (L.follows store.new.charter) store.new.rows) }
+{
+    if next.device() == 0 || next.device() > devices {
+        return Ok(false);
+    }
+    let d = DeviceId(next.device());
+    let version = store.row(d).version();
+    if next.version() == 0 || next.version() - 1 != version {
+        return Ok(false);
+    }
+    let Some(entry) = maker.entry(d, version)? else {
+        return Ok(false);
+    };
+    let Ok(_) = store.commit(d, version, entry) else {
+        return Err(AllocError);
+    };
+    Ok(store.row(d).octets() == next.session())
+}
+
+/// Puts the entries of a log into a store that is empty. Tells the place of its last gate, which is closed.
+pub(crate) fn replay<L: RowLaw, M: Maker<L>>(
+    octets: &[u8],
+    store: &mut Store<L>,
+    devices: u32,
+    maker: &M,
+) -> Result<u64, OpenCause>
+    requires charter { M.charter maker.now ≡ store.old.charter }
+    requires empty { store.old.rows ≡ replicate devices opening_row }
+    requires some { 1 ≤ length octets.now }
+    ensures ends { IfOk result (λ gate. EndsAt gate octets.now) }
+    ensures rows { OnOk result (AreRowsOf devices (M.made store.old.charter) (log_of octets.now) store.new.rows) }
+    ensures log { OnOk result (IsLogOf store.new.rows (log_of octets.now)) }
+    ensures few { IfOk result (λ gate. gate ≤ 256 * entry_count store.new.rows) }
+    ensures foreign { (at : ℕ) → IsErrOf result (causes.Foreign at) → IsForeign devices (M.made store.old.charter) octets.now at }
+    ensures exact { OnOk result ((at : ℕ) → IsForeign devices (M.made store.old.charter) octets.now at → ⊥) }
+    ensures no_fault { IsErrOf result causes.DiskFault → ⊥ }
+    ensures charter { store.new.charter ≡ store.old.charter }
+{
+    let mut at = 0;
+    while octets[at] == 1 {
+        let foreign = OpenCause::Foreign { at: at as u64 };
+        let Some(next) = Record::first(&octets[at + 1..]) else {
+            return Err(foreign);
+        };
+        if !take_record(store, devices, maker, &next)? {
+            return Err(foreign);
+        }
+        at += 1 + next.size();
+    }
+    Ok(at as u64)
+}
