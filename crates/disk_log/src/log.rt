@@ -72,8 +72,8 @@ pub fn open_log<D: Disk>(alloc: Global, disk: &mut D) -> Result<Vec<u8>, LogFaul
     read_all(alloc, disk)
 }
 
-/// Adds a record behind the last gate, which is closed: four calls of the disk, two of them syncs. Tells the place of the next gate.
-/// At any moment a crash leaves the log as it was, or the log with the record. It takes no memory.
+/// Adds a record behind the last gate, which is closed: four calls of the disk, two of them syncs. Tells the place of the next
+/// gate. At any moment a crash leaves the log as it was, or the log with the record. It takes no memory.
 pub fn add_record<D: Disk>(disk: &mut D, gate: u64, addition: &Record) -> Result<u64, DiskFault>
     requires durable { IsDurable (D.bytes disk.old) (D.may_leave disk.old) }
     requires gate { IfSome (D.bytes disk.old) (EndsAt gate) }

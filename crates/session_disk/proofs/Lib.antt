@@ -2,5 +2,6 @@ mod Commits
 mod Foreign
 mod Forms
 mod Logs
+mod Reopens
 mod Replays
 mod Takes

@@ -51,7 +51,7 @@ none_lawful follows devices rows is d within v entry at = nothing (ap (λ (rs : 
 first_of : (n : ℕ) (xs : List ℕ) (x : ℕ) → n < length xs → slice_index_or xs n 0 ≡ x → (slice_get xs n ≡ Some x) × (drop n xs ≡ x ∷ drop (n + 1) xs)
 first_of n xs x inside is = (slice_get-get_or xs n 0 inside ∙ ap Some is, drop_more xs n 0 inside ∙ ap (λ (y : ℕ). y ∷ drop (n + 1) xs) is)
 
-past_end : (journal : List Entry) (v : ℕ) → slice_get journal v ≡ None → length journal ≤ v
+pub past_end : (journal : List Entry) (v : ℕ) → slice_get journal v ≡ None → length journal ≤ v
 past_end [] v none = omega arith
 past_end (e ∷ journal) zero none = absurd (cc)
 past_end (e ∷ journal) (suc v) none = omega (arith, past_end journal v none)

@@ -26,8 +26,8 @@ use std::alloc::{AllocError, Global};
 use std::marker::Model;
 use store_disk::Disk;
 
-/// The rows of all devices, each commit of which is on a disk before it is answered. Contracts see the disk, the store of the rows,
-/// and whether it is open. While it is, each file that a crash may leave has the log of these rows.
+/// The rows of all devices, each commit of which is on a disk before it is answered. Contracts see the disk, the store of the
+/// rows, and whether it is open. While it is, each file that a crash may leave has a log of these rows.
 #[derive(Drop)]
 pub struct DiskStore<D: Disk, L: RowLaw> {
     disk: D,
@@ -62,6 +62,7 @@ fn load<D: Disk, L: RowLaw, M: Maker<L>>(
     ensures foreign { (octets : List ℕ) (at : ℕ) → D.bytes disk.old ≡ Some octets → IsErrOf result (causes.Foreign at) → (1 < length octets) × IsForeign devices (M.made (L.charter law)) octets at }
     ensures exact { (octets : List ℕ) → D.bytes disk.old ≡ Some octets → OnOk result ((at : ℕ) → 1 < length octets → IsForeign devices (M.made (L.charter law)) octets at → ⊥) }
     ensures failed { IsErrOf result causes.DiskFault → Rose (D.faults disk.old) (D.faults disk.new) }
+    ensures count { D.faults disk.old ≤ D.faults disk.new }
     ensures any_moment { (octets : List ℕ) → D.bytes disk.old ≡ Some octets → OpensLog D.moment D.left_since disk.old disk.new (D.may_leave disk.old) (log_of octets) }
 {
     let octets = open_log(alloc, disk)?;
@@ -71,8 +72,8 @@ fn load<D: Disk, L: RowLaw, M: Maker<L>>(
 }
 
 impl<D: Disk, L: RowLaw> DiskStore<D, L> {
-    /// Opens the store on a disk: at `Ok` it has the rows of the disk's log. It begins with a sync. On a file of at most one octet
-    /// it then writes a closed gate, and syncs. An open that fails gives the disk back.
+    /// Opens the store on a disk: at `Ok` it has the rows of the disk's log. It begins with a sync. On a file of at most one
+    /// octet it then writes a closed gate, and syncs. An open that fails gives the disk back.
     pub fn open<M: Maker<L>>(
         alloc: Global,
         mut disk: D,
@@ -87,6 +88,7 @@ impl<D: Disk, L: RowLaw> DiskStore<D, L> {
         ensures foreign { (octets : List ℕ) → D.bytes disk ≡ Some octets → IfErr result (λ f. (at : ℕ) → f.cause ≡ causes.Foreign at → (1 < length octets) × IsForeign devices (M.made (L.charter law)) octets at) }
         ensures exact { (octets : List ℕ) → D.bytes disk ≡ Some octets → OnOk result ((at : ℕ) → 1 < length octets → IsForeign devices (M.made (L.charter law)) octets at → ⊥) }
         ensures failed { IfErr result (λ f. f.cause ≡ causes.DiskFault → Rose (D.faults disk) (D.faults f.disk)) }
+        ensures count { IfOk result (λ s. D.faults disk ≤ D.faults s.disk) × IfErr result (λ f. D.faults disk ≤ D.faults f.disk) }
         ensures any_moment { (octets : List ℕ) → D.bytes disk ≡ Some octets → IfOk result (λ s. OpensLog D.moment D.left_since disk s.disk (D.may_leave disk) (log_of octets)) }
         ensures any_moment_at_a_fault { (octets : List ℕ) → D.bytes disk ≡ Some octets → IfErr result (λ f. OpensLog D.moment D.left_since disk f.disk (D.may_leave disk) (log_of octets)) }
     {
@@ -101,8 +103,8 @@ impl<D: Disk, L: RowLaw> DiskStore<D, L> {
         }
     }
 
-    /// Is it open? It is not, just behind a commit that answered `DiskFault`. While it is, what reads give is the only image, and has
-    /// a log of the rows.
+    /// Is it open? It is not, just behind a commit that answered `DiskFault`. While it is, what reads give is the only image,
+    /// and has a log of the rows.
     pub fn is_open(&self) -> bool
         ensures value { result ≡ self.now.is_open }
         ensures images { result ≡ true → (image : List ℕ) → D.may_leave self.now.disk image → (D.bytes self.now.disk ≡ Some image) × IsLogOf self.now.store.rows (log_of image) }
@@ -124,8 +126,8 @@ impl<D: Disk, L: RowLaw> DiskStore<D, L> {
         self.store.read(d, asked)
     }
 
-    /// Writes an entry, where the row of the device still has the version that was read, and brings it onto the disk: four calls of
-    /// the disk, two of them syncs. A stale one makes no call of the disk.
+    /// Writes an entry, where the row of the device still has the version that was read, and brings it onto the disk: four
+    /// calls of it, two of them syncs. A stale one makes no call of the disk.
     pub fn commit(&mut self, d: DeviceId, read: u64, entry: Entry) -> Result<Commit, DiskBad>
         requires open { self.old.is_open ≡ true }
         requires device { IsDevice (length self.old.store.rows) d.0 }
@@ -140,6 +142,7 @@ impl<D: Disk, L: RowLaw> DiskStore<D, L> {
         ensures any_moment { (octets : List ℕ) → D.bytes self.old.disk ≡ Some octets → LeavesOnly D.moment D.left_since self.old.disk self.new.disk (WithOrWithout (log_of octets) (record_of d.0 (read + 1) entry)) }
         ensures no_room { (back : Entry) → result ≡ Err (bad.NoRoom back) → (self.new ≡ self.old) × (back ≡ entry) }
         ensures failed { IsErrOf result bad.DiskFault → Rose (D.faults self.old.disk) (D.faults self.new.disk) }
+        ensures count { D.faults self.old.disk ≤ D.faults self.new.disk }
         ensures open { (self.new.is_open ≡ false) ↔ (result ≡ Err bad.DiskFault) }
     {
         let commit = self.store.commit(d, read, entry)?;

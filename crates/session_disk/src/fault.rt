@@ -56,7 +56,8 @@ pub struct OpenFault<D> {
 pub enum DiskBad {
     /// There was no memory. Nothing changed, and the entry comes back.
     NoRoom(Entry),
-    /// A call of the disk failed. The store is not open any more, and its disk is to be opened again: it has the commit, or has it not.
+    /// A call of the disk failed. The store is not open any more: its disk, which has the commit or has it not, is to be opened
+    /// again.
     DiskFault,
 }
 

@@ -14,8 +14,8 @@ use disk_log::Record;
 use session_store::{RowLaw, Store};
 use std::alloc::AllocError;
 
-/// Puts the entry of a record into the store, where the record is the next one of its device; tells whether it is. It fails for want
-/// of memory alone.
+/// Puts the entry of a record into the store, where the record is the next one of its device; tells whether it is. It fails for
+/// want of memory alone.
 fn take_record<L: RowLaw, M: Maker<L>>(
     store: &mut Store<L>,
     devices: u32,
