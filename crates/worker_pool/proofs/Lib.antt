@@ -1,0 +1,6 @@
+mod Calls
+mod Closing
+mod Packets
+mod Seen
+mod Speaking
+mod Wholes

@@ -1,0 +1,15 @@
+use Rattle.std.proofs.Common.{ℕ}
+use Rattle.crossbeam_channel.specs.Claims.{IsSeatAt}
+use Rattle.crossbeam_channel.specs.Ends.{sends_on}
+use Rattle.worker_pool.specs.Stores.{Kept}
+use Rattle.worker_pool.proofs.desk.Desk.carry_lane.Given as goal
+
+abbrev pub invariant-loop : goal.invariant-loop
+invariant-loop g l = record {
+  can_next : (goal.iterator-loop g).can_next l.iterator';
+  is_finite : (goal.iterator-loop g).is_finite l.iterator';
+  store : Kept g.T.SharedRows.speaks g.T.SharedRows.known l.initial.store l.store;
+  seat : g.P.SharedCalls.is_seat l.self.peers.now l.seat;
+  speaks : (n : ℕ) → g.P.SharedCalls.speaks l.initial.seat n → g.P.SharedCalls.speaks l.seat n;
+  place : IsSeatAt (sends_on l.line) l.place;
+}

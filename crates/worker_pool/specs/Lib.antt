@@ -1,0 +1,4 @@
+pub mod Keeps
+pub mod Packets
+pub mod Runs
+pub mod Stores

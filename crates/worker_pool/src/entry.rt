@@ -1,0 +1,200 @@
+//! The entry: it sends each device's messages, and again what was not acknowledged.
+ghost use Rattle.std.specs.Prelude.{◌≡◌, length};
+ghost use Rattle.crossbeam_channel.specs.Claims.{IsSeatAt};
+ghost use Rattle.crossbeam_channel.specs.Ends.{sends_on};
+ghost use Rattle.session_store.specs.Rows.{IsDevice};
+
+use crate::board::Board;
+use crate::line::{Line, Named, Place, message_at, send};
+use crate::lines::{marked_device, messages_of};
+use device_types::DeviceId;
+use session_store::Charter;
+use std::alloc::{AllocError, Global};
+use std::sync::Wait;
+
+/// How many messages of a device may be under way where each worker has a device of its own.
+const WINDOW: u64 = 4;
+
+/// What the entry knows of a device.
+#[derive(Clone, Copy, Debug)]
+struct Agent {
+    /// How many messages were sent, again or not.
+    out: u64,
+    /// All its messages are acknowledged.
+    over: bool,
+}
+
+/// The entry, with what it looks at.
+#[derive(Drop)]
+pub(crate) struct Entry<'a, R> {
+    /// The handle.
+    pub(crate) rt: &'a R,
+    /// The table and the book.
+    pub(crate) charter: &'a Charter,
+    /// What the workers tell.
+    pub(crate) board: &'a Board,
+    /// How many workers there are.
+    pub(crate) workers: u32,
+}
+
+/// An agent for each of so many devices.
+fn new_agents(alloc: Global, devices: usize) -> Result<Vec<Agent>, AllocError> {
+    let mut agents = Vec::new(alloc);
+    for _ in 0..devices {
+        let Ok(()) = agents.push(Agent {
+            out: 0,
+            over: false,
+        }) else {
+            return Err(AllocError);
+        };
+    }
+    Ok(agents)
+}
+
+impl<'a, R: Wait> Entry<'a, R> {
+    /// Sends the messages of a device from that place on, at most so many. None where no one is left to take one, or there is no
+    /// memory.
+    fn send_from<C: Named>(
+        &self,
+        line: &Line<C>,
+        place: &mut Place,
+        d: DeviceId,
+        from: u64,
+        window: u64,
+    ) -> Option<u64>
+        requires charter { self.now.charter.now ≡ C.charter }
+        requires device { IsDevice (length self.now.charter.now.rows) d.0 }
+        requires place { IsSeatAt (sends_on line.now) place.old }
+        ensures place { IsSeatAt (sends_on line.now) place.new }
+    {
+        let mut sent = 0u64;
+        for at in from..from.saturating_add(window) {
+            let Ok(at) = usize::try_from(at) else {
+                break;
+            };
+            let Some(packet) = message_at(self.charter, d, at).ok()? else {
+                break;
+            };
+            if !send::<C, R>(self.rt, line, place, packet) {
+                return None;
+            }
+            sent = sent.saturating_add(1);
+        }
+        Some(sent)
+    }
+
+    /// Sends what may be sent of a device, once all that was sent has come out of the channel. Some(true) when its last message is
+    /// acknowledged; None where no one is left to take a packet, or there is no memory.
+    fn serve<C: Named>(
+        &self,
+        line: &Line<C>,
+        place: &mut Place,
+        agent: &mut Agent,
+        d: DeviceId,
+        window: u64,
+    ) -> Option<bool>
+        requires charter { self.now.charter.now ≡ C.charter }
+        requires device { IsDevice (length self.now.charter.now.rows) d.0 }
+        requires place { IsSeatAt (sends_on line.now) place.old }
+        ensures place { IsSeatAt (sends_on line.now) place.new }
+    {
+        let done = self.board.done(d);
+        let Some(acked) = self.board.rests_at(d) else {
+            return Some(false);
+        };
+        if acked >= messages_of(self.charter, d).len() as u64 {
+            let is_news = !agent.over;
+            agent.over = true;
+            return Some(is_news);
+        }
+        if done == agent.out {
+            let sent = self.send_from::<C>(line, place, d, acked, window)?;
+            agent.out = agent.out.saturating_add(sent);
+        }
+        Some(false)
+    }
+
+    /// Serves the marked devices of a word. It answers how many have come to their end.
+    fn serve_word<C: Named>(
+        &self,
+        line: &Line<C>,
+        place: &mut Place,
+        agents: &mut Vec<Agent>,
+        word: usize,
+        marks: u64,
+        window: u64,
+    ) -> Option<usize>
+        requires charter { self.now.charter.now ≡ C.charter }
+        requires place { IsSeatAt (sends_on line.now) place.old }
+        ensures place { IsSeatAt (sends_on line.now) place.new }
+    {
+        let mut over = 0usize;
+        for bit in 0..64usize {
+            let Some(d) = marked_device(self.charter, word, marks, bit) else {
+                continue;
+            };
+            let Some(agent) = agents.get_mut(d.0 as usize - 1) else {
+                continue;
+            };
+            if self.serve::<C>(line, place, agent, d, window)? {
+                over = over.saturating_add(1);
+            }
+        }
+        Some(over)
+    }
+
+    /// How many messages of a device may be under way while so many devices are left.
+    fn window(&self, left: usize) -> u64 {
+        if left <= self.workers as usize {
+            WINDOW
+        } else {
+            1
+        }
+    }
+
+    /// Rounds until all messages are acknowledged, the threads are to end, or no one is left to take a packet.
+    fn rounds<C: Named>(
+        &self,
+        line: &Line<C>,
+        place: &mut Place,
+        agents: &mut Vec<Agent>,
+    ) -> Option<()>
+        requires charter { self.now.charter.now ≡ C.charter }
+        requires place { IsSeatAt (sends_on line.now) place.old }
+        ensures place { IsSeatAt (sends_on line.now) place.new }
+    {
+        let mut left = agents.len();
+        for _ in self.rt.forever() {
+            if left == 0 || self.board.is_over() {
+                break;
+            }
+            let mut any = false;
+            for word in 0..self.board.entry.count() {
+                let marks = self.board.entry.take(word);
+                if marks != 0 {
+                    any = true;
+                    let window = self.window(left);
+                    let over = self.serve_word::<C>(line, place, agents, word, marks, window)?;
+                    left = left.saturating_sub(over);
+                }
+            }
+            if !any {
+                self.board.await_entry(self.rt);
+            }
+        }
+        Some(())
+    }
+
+    /// Sends the messages of all devices, until all are acknowledged or the threads are to end. Then it tells the others to end.
+    pub(crate) fn enter<C: Named>(&self, alloc: Global, line: Line<C>, mut place: Place)
+        requires charter { self.now.charter.now ≡ C.charter }
+        requires place { IsSeatAt (sends_on line) place }
+    {
+        let devices = self.charter.rows().len();
+        self.board.mark_all(devices);
+        if let Ok(mut agents) = new_agents(alloc, devices) {
+            let _ = self.rounds::<C>(&line, &mut place, &mut agents);
+        }
+        self.board.stop();
+    }
+}
