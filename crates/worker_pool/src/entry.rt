@@ -6,7 +6,7 @@ ghost use Rattle.session_store.specs.Rows.{IsDevice};
 
 use crate::board::Board;
 use crate::line::{Line, Named, Place, message_at, send};
-use crate::lines::{marked_device, messages_of};
+use crate::lines::{device_behind, marked_device, messages_of};
 use device_types::DeviceId;
 use session_store::Charter;
 use std::alloc::{AllocError, Global};
@@ -20,6 +20,8 @@ const WINDOW: u64 = 4;
 struct Agent {
     /// How many messages were sent, again or not.
     out: u64,
+    /// How many messages were acknowledged when one under way was sent again, and one more; 0 before that.
+    again: u64,
     /// All its messages are acknowledged.
     over: bool,
 }
@@ -43,6 +45,7 @@ fn new_agents(alloc: Global, devices: usize) -> Result<Vec<Agent>, AllocError> {
     for _ in 0..devices {
         let Ok(()) = agents.push(Agent {
             out: 0,
+            again: 0,
             over: false,
         }) else {
             return Err(AllocError);
@@ -143,6 +146,60 @@ impl<'a, R: Wait> Entry<'a, R> {
         Some(over)
     }
 
+    /// Sends a device's first message that is not acknowledged once more, where it is still under way: a worker may be held up
+    /// with it.
+    fn send_again<C: Named>(
+        &self,
+        line: &Line<C>,
+        place: &mut Place,
+        agent: &mut Agent,
+        d: DeviceId,
+    ) -> Option<()>
+        requires charter { self.now.charter.now ≡ C.charter }
+        requires device { IsDevice (length self.now.charter.now.rows) d.0 }
+        requires place { IsSeatAt (sends_on line.now) place.old }
+        ensures place { IsSeatAt (sends_on line.now) place.new }
+    {
+        let done = self.board.done(d);
+        let Some(acked) = self.board.rests_at(d) else {
+            return Some(());
+        };
+        if agent.over || agent.again > acked || done >= agent.out {
+            return Some(());
+        }
+        let sent = self.send_from::<C>(line, place, d, acked, 1)?;
+        agent.out = agent.out.saturating_add(sent);
+        agent.again = acked.saturating_add(1);
+        Some(())
+    }
+
+    /// Sends so of each device, where there is another worker to take it, and no more devices than workers are left.
+    fn send_all_again<C: Named>(
+        &self,
+        line: &Line<C>,
+        place: &mut Place,
+        agents: &mut Vec<Agent>,
+        left: usize,
+    ) -> Option<()>
+        requires charter { self.now.charter.now ≡ C.charter }
+        requires place { IsSeatAt (sends_on line.now) place.old }
+        ensures place { IsSeatAt (sends_on line.now) place.new }
+    {
+        if self.workers < 2 || left > self.workers as usize {
+            return Some(());
+        }
+        for index in 0..self.charter.rows().len() {
+            let Some(d) = device_behind(self.charter, index) else {
+                continue;
+            };
+            let Some(agent) = agents.get_mut(index) else {
+                continue;
+            };
+            self.send_again::<C>(line, place, agent, d)?;
+        }
+        Some(())
+    }
+
     /// How many messages of a device may be under way while so many devices are left.
     fn window(&self, left: usize) -> u64 {
         if left <= self.workers as usize {
@@ -179,6 +236,7 @@ impl<'a, R: Wait> Entry<'a, R> {
                 }
             }
             if !any {
+                self.send_all_again::<C>(line, place, agents, left)?;
                 self.board.await_entry(self.rt);
             }
         }

@@ -23,6 +23,19 @@ pub(crate) fn messages_of(charter: &Charter, d: DeviceId) -> &[Message]
     charter.lines()[d.0 as usize - 1].items()
 }
 
+/// The device behind so many, if there is one.
+pub(crate) fn device_behind(charter: &Charter, index: usize) -> Option<DeviceId>
+    ensures { IfSome result (λ d. IsDevice (length charter.now.rows) d.0) }
+{
+    if index >= charter.rows().len() {
+        return None;
+    }
+    match u32::try_from(index + 1) {
+        Ok(number) => Some(DeviceId(number)),
+        Err(_) => None,
+    }
+}
+
 /// The device of a bit of a word of marks, if it is marked.
 pub(crate) fn marked_device(
     charter: &Charter,
