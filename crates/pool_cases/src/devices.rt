@@ -30,7 +30,9 @@ fn row_of(alloc: Global, number: u32) -> Result<Subscriber, Fail>
 }
 
 /// Adds the row of the next device.
-fn add_row(alloc: Global, table: &mut SubsTable) -> Result<(), Fail> {
+pub(crate) fn add_row(alloc: Global, table: &mut SubsTable) -> Result<(), Fail>
+    ensures { OnOk result (length table.new ≡ length table.old + 1) }
+{
     let row = row_of(alloc, table.len() + 1)?;
     table.add(row)?;
     Ok(())
@@ -51,7 +53,8 @@ pub(crate) fn table(alloc: Global) -> Result<SubsTable, Fail> {
     Ok(table)
 }
 
-fn message(number: u64, body: Body) -> Message
+/// A message of the one connection of a device.
+pub(crate) fn message(number: u64, body: Body) -> Message
     requires { IsBody body }
     ensures number { result.number ≡ number }
     ensures message { IsMessage result }

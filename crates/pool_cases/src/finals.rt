@@ -55,7 +55,7 @@ fn tell_run<R: Threads + Wait + Sync>(
 }
 
 /// The finals of runs with 1, 2, 4 and 16 workers.
-fn tell_runs<R: Threads + Wait + Sync>(
+pub(crate) fn tell_runs<R: Threads + Wait + Sync>(
     rt: &R,
     alloc: Global,
     table: &SubsTable,

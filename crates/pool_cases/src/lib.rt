@@ -7,3 +7,5 @@ mod devices;
 mod finals;
 #[cfg(test)]
 mod held;
+#[cfg(test)]
+mod long;
