@@ -4,8 +4,8 @@ use std::test::Fail;
 use store_disk::{Disk, FuseDisk};
 
 /// How many calls pass before the one that fails; five calls, `+` for one that passed and `-` for the one that failed: a write of
-/// `ab` at 0, a sync, a write of `cdef` at 0, a sync, and a write of `X` at 1; and what reads give then. The write that fails leaves
-/// the first half.
+/// `ab` at 0, a sync, a write of `cdef` at 0, a sync, and a write of `X` at 1; and what reads give then. The write that fails
+/// leaves the first half.
 const FAILED_ONCE: &str = "\
 0 -++++ cXef
 1 +-+++ cXef

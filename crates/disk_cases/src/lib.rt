@@ -1,6 +1,10 @@
-//! Tests of stores on a disk: what no clause says of them, through public calls alone. They stand in a crate of their own, so that
-//! the crate below is proved without them. There is nothing else here.
+//! Tests of disks and stores on them: what no clause says of these, through public calls alone. They stand in a crate of their
+//! own, so that the crates below are proved without them. There is nothing else here.
 #![tactic(auto)]
 
 #[cfg(test)]
+mod disk_store_calls;
+#[cfg(test)]
 mod fuse_disk_calls;
+#[cfg(test)]
+mod numbered_law;

@@ -1,0 +1,274 @@
+//! A store on disks in memory that fail, and on files that were cut or changed.
+ghost use Rattle.std.specs.Prelude.{◌≡◌, ◌<◌, ◌^◌, true, length, IfOk};
+ghost use Rattle.session_store.specs.Rows.{IsDevice, journal_of};
+ghost use Rattle.session_disk.specs.Stored.{entry_count};
+
+use crate::numbered_law::NumberedLaw;
+use device_types::DeviceId;
+use session_disk::{DiskBad, DiskStore, Maker, OpenCause, OpenFault};
+use session_store::{Asked, RowLaw};
+use std::alloc::AllocError;
+use std::test::Fail;
+use store_disk::{Disk, FuseDisk};
+
+/// How many calls pass before the one that fails; how many of three commits were acknowledged: entry 0 of device 1, entry 0 of
+/// device 2, entry 1 of device 1; and the versions of the two devices, as the disk is opened again. Opening makes three calls,
+/// and a commit four; its third opens the gate.
+const FAILED_ONCE: &str = "\
+0 0: 0 0
+1 0: 0 0
+2 0: 0 0
+3 0: 0 0
+4 0: 0 0
+5 0: 0 0
+6 0: 1 0
+7 1: 1 0
+8 1: 1 0
+9 1: 1 0
+10 1: 1 1
+11 2: 1 1
+12 2: 1 1
+13 2: 1 1
+14 2: 2 1
+15 3: 2 1
+16 3: 2 1
+";
+
+/// A file of two records, and of half of a third one behind the closed gate at place 222, in which one octet is changed by 1: the
+/// first gate is at place 0, the second at 111; a record has 110 octets. The places that come to the same are told by the first.
+const CHANGED: &str = "\
+0: 0 0
+1: Foreign { at: 0 }
+111: 1 0
+112: Foreign { at: 111 }
+222: Foreign { at: 222 }
+223: 1 1
+";
+
+/// The same file, cut behind so many octets.
+const CUT: &str = "\
+0: 0 0
+2: Foreign { at: 0 }
+112: Foreign { at: 111 }
+223: 1 1
+";
+
+/// The version of a device.
+fn version<D: Disk, L: RowLaw>(store: &mut DiskStore<D, L>, d: u32) -> Result<u64, AllocError>
+    requires open { store.old.is_open ≡ true }
+    requires device { IsDevice (length store.old.store.rows) d }
+    ensures same { (store.new.is_open ≡ true) × (store.new.store.rows ≡ store.old.store.rows) }
+    ensures version { IfOk result (λ version. version ≡ length (journal_of store.old.store.rows d)) }
+{
+    let seen = store.read(DeviceId(d), Asked::Message(1))?;
+    Ok(seen.version)
+}
+
+/// Has each device at most nine entries? Then a commit has room.
+#[tactic(auto, using(crate::proofs::Two::few_entries))]
+fn has_room<D: Disk>(store: &mut DiskStore<D, NumberedLaw>) -> Result<bool, AllocError>
+    requires open { store.old.is_open ≡ true }
+    requires count { length store.old.store.rows ≡ 2 }
+    ensures same { (store.new.is_open ≡ true) × (store.new.store.rows ≡ store.old.store.rows) }
+    ensures room { IfOk result (λ has. has ≡ true → entry_count store.old.store.rows < 2 ^ 40) }
+{
+    let one = version(store, 1)?;
+    let two = version(store, 2)?;
+    Ok(one <= 9 && two <= 9)
+}
+
+/// Commits the next entry of a device: was it acknowledged?
+#[tactic(auto, using(crate::proofs::Two::next_follows, crate::proofs::Two::same_length))]
+fn commit_next<D: Disk>(
+    store: &mut DiskStore<D, NumberedLaw>,
+    law: &NumberedLaw,
+    d: u32,
+) -> Result<bool, AllocError>
+    requires open { store.old.is_open ≡ true }
+    requires count { length store.old.store.rows ≡ 2 }
+    requires device { IsDevice 2 d }
+    ensures open { IfOk result (λ made. made ≡ true → store.new.is_open ≡ true) }
+    ensures count { IfOk result (λ made. made ≡ true → length store.new.store.rows ≡ 2) }
+{
+    if !has_room(store)? {
+        return Ok(false);
+    }
+    let read = version(store, d)?;
+    let Some(entry) = law.entry(DeviceId(d), read)? else {
+        return Ok(false);
+    };
+    match store.commit(DeviceId(d), read, entry) {
+        Ok(_) => Ok(true),
+        Err(DiskBad::NoRoom(_)) => Err(AllocError),
+        Err(DiskBad::DiskFault) => Ok(false),
+    }
+}
+
+/// Commits three entries of two devices, until one is not acknowledged: how many were.
+fn commit_three<D: Disk>(
+    store: &mut DiskStore<D, NumberedLaw>,
+    law: &NumberedLaw,
+) -> Result<u32, AllocError>
+    requires open { store.old.is_open ≡ true }
+    requires count { length store.old.store.rows ≡ 2 }
+{
+    if !commit_next(store, law, 1)? {
+        return Ok(0);
+    }
+    if !commit_next(store, law, 2)? {
+        return Ok(1);
+    }
+    if !commit_next(store, law, 1)? {
+        return Ok(2);
+    }
+    Ok(3)
+}
+
+/// Opens a store of two devices on a disk.
+fn open_two(
+    law: &NumberedLaw,
+    disk: FuseDisk,
+) -> Result<DiskStore<FuseDisk, NumberedLaw>, OpenFault<FuseDisk>>
+    ensures open { IfOk result (λ s. s.is_open ≡ true) }
+    ensures count { IfOk result (λ s. length s.store.rows ≡ 2) }
+{
+    let Ok(copy) = law.copy() else {
+        return Err(OpenFault {
+            disk,
+            cause: OpenCause::OutOfMemory,
+        });
+    };
+    DiskStore::open(law.alloc(), disk, copy, 2, law)
+}
+
+/// Tells the versions of the two devices.
+fn tell_versions<D: Disk>(
+    told: &mut String,
+    store: &mut DiskStore<D, NumberedLaw>,
+) -> Result<(), AllocError>
+    requires open { store.old.is_open ≡ true }
+    requires count { length store.old.store.rows ≡ 2 }
+{
+    let one = version(store, 1)?;
+    let two = version(store, 2)?;
+    writeln!(told, "{one} {two}")
+}
+
+/// Opens a store on a disk, and tells the versions of its devices, or why it was not opened.
+fn tell_opened(told: &mut String, law: &NumberedLaw, disk: FuseDisk) -> Result<(), AllocError> {
+    match open_two(law, disk) {
+        Ok(mut store) => tell_versions(told, &mut store),
+        Err(fault) => writeln!(told, "{:?}", fault.cause),
+    }
+}
+
+/// Three commits on a disk that passes so many calls: how many were acknowledged, and what reads give then.
+fn run(law: &NumberedLaw, calls: u64) -> Result<(u32, Vec<u8>), AllocError> {
+    let disk = FuseDisk::new(Vec::new(law.alloc()), calls);
+    match open_two(law, disk) {
+        Ok(mut store) => {
+            let made = commit_three(&mut store, law)?;
+            Ok((made, store.into_disk().image()))
+        }
+        Err(OpenFault { disk, .. }) => Ok((0, disk.image())),
+    }
+}
+
+/// A line of the first table.
+fn tell_run(told: &mut String, law: &NumberedLaw, calls: u64) -> Result<(), AllocError> {
+    let (made, image) = run(law, calls)?;
+    write!(told, "{calls} {made}: ")?;
+    tell_opened(told, law, FuseDisk::new(image, 100))
+}
+
+/// The lines of the first table.
+fn tell_runs(told: &mut String, law: &NumberedLaw) -> Result<(), AllocError> {
+    for calls in 0..17 {
+        tell_run(told, law, calls)?;
+    }
+    Ok(())
+}
+
+#[test]
+fn a_crash_loses_no_commit(rt: HostRuntime) -> Result<(), Fail> {
+    let law = NumberedLaw::new(rt.alloc())?;
+    let mut told = String::new(rt.alloc());
+    tell_runs(&mut told, &law)?;
+    assert_eq!(rt; told.as_str(), FAILED_ONCE);
+    Ok(())
+}
+
+/// A file of two records, and of half of a third one.
+fn two_records(law: &NumberedLaw) -> Result<Vec<u8>, AllocError> {
+    let (_, image) = run(law, 11)?;
+    Ok(image)
+}
+
+/// Opens a disk, and tells that behind a number, unless it is what was told last.
+fn tell_next(
+    told: &mut String,
+    last: &mut String,
+    law: &NumberedLaw,
+    number: usize,
+    disk: FuseDisk,
+) -> Result<(), AllocError> {
+    let mut next = String::new(law.alloc());
+    tell_opened(&mut next, law, disk)?;
+    if next != *last {
+        write!(told, "{number}: {next}")?;
+        *last = next;
+    }
+    Ok(())
+}
+
+/// Opens the image with one octet changed.
+fn tell_change(
+    told: &mut String,
+    last: &mut String,
+    law: &NumberedLaw,
+    image: &[u8],
+    place: usize,
+) -> Result<(), AllocError>
+    requires { place < length image.now }
+{
+    let mut changed = image.to_vec(law.alloc())?;
+    changed[place] ^= 1;
+    tell_next(told, last, law, place, FuseDisk::new(changed, 100))
+}
+
+/// Opens the image with each of its octets changed in turn.
+fn tell_changes(told: &mut String, law: &NumberedLaw, image: &[u8]) -> Result<(), AllocError> {
+    let mut last = String::new(law.alloc());
+    for place in 0..image.len() {
+        tell_change(told, &mut last, law, image, place)?;
+    }
+    Ok(())
+}
+
+#[test]
+fn a_changed_octet_is_foreign_or_ends_the_log(rt: HostRuntime) -> Result<(), Fail> {
+    let law = NumberedLaw::new(rt.alloc())?;
+    let mut told = String::new(rt.alloc());
+    tell_changes(&mut told, &law, &two_records(&law)?)?;
+    assert_eq!(rt; told.as_str(), CHANGED);
+    Ok(())
+}
+
+/// Opens the image cut behind each of its octets.
+fn tell_cuts(told: &mut String, law: &NumberedLaw, image: &[u8]) -> Result<(), AllocError> {
+    let mut last = String::new(law.alloc());
+    for count in 0..image.len() + 1 {
+        let cut = image[..count].to_vec(law.alloc())?;
+        tell_next(told, &mut last, law, count, FuseDisk::new(cut, 100))?;
+    }
+    Ok(())
+}
+
+#[test]
+fn a_cut_file_is_foreign_or_shorter(rt: HostRuntime) -> Result<(), Fail> {
+    let law = NumberedLaw::new(rt.alloc())?;
+    let mut told = String::new(rt.alloc());
+    tell_cuts(&mut told, &law, &two_records(&law)?)?;
+    assert_eq!(rt; told.as_str(), CUT);
+    Ok(())
+}
