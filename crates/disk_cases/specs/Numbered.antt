@@ -1,5 +1,5 @@
 -- A law of tests: the first entries of each device are messages by their numbers, each with a session of its own.
-use Rattle.std.proofs.Common.{rules, ◌≡◌, ◌≤◌, ◌<◌, ℕ, suc, ◌+◌, ◌-◌, ◌&&◌, true, false, ltb, leb, eqb, cond, List, [], ◌∷◌, length, take, Option, Some, None, All, lit<, refl, sym, ap, ◌∙◌, arith}
+use Rattle.std.proofs.Common.{rules, ◌≡◌, ◌<◌, ℕ, suc, ◌+◌, ◌-◌, ◌&&◌, true, false, ltb, leb, cond, List, [], ◌∷◌, length, take, Option, Some, None, lit<, refl, arith}
 use Rattle.std.specs.Prelude.{nat_lt, slice_get, option_and_then, if◌then◌else◌}
 use Rattle.std.proofs.lemmas.Bool.{ltb-true, le-ltb, lt-leb, and_parts}
 use Rattle.std.proofs.lemmas.List.Elements.{All-replicate}

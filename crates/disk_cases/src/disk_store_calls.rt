@@ -105,7 +105,7 @@ fn commit_next<D: Disk>(
 }
 
 /// Commits three entries of two devices, until one is not acknowledged: how many were.
-fn commit_three<D: Disk>(
+pub fn commit_three<D: Disk>(
     store: &mut DiskStore<D, NumberedLaw>,
     law: &NumberedLaw,
 ) -> Result<u32, AllocError>
@@ -125,10 +125,10 @@ fn commit_three<D: Disk>(
 }
 
 /// Opens a store of two devices on a disk.
-fn open_two(
+pub fn open_two<D: Disk>(
     law: &NumberedLaw,
-    disk: FuseDisk,
-) -> Result<DiskStore<FuseDisk, NumberedLaw>, OpenFault<FuseDisk>>
+    disk: D,
+) -> Result<DiskStore<D, NumberedLaw>, OpenFault<D>>
     ensures open { IfOk result (λ s. s.is_open ≡ true) }
     ensures count { IfOk result (λ s. length s.store.rows ≡ 2) }
 {
@@ -155,7 +155,11 @@ fn tell_versions<D: Disk>(
 }
 
 /// Opens a store on a disk, and tells the versions of its devices, or why it was not opened.
-fn tell_opened(told: &mut String, law: &NumberedLaw, disk: FuseDisk) -> Result<(), AllocError> {
+fn tell_opened<D: Disk + Drop>(
+    told: &mut String,
+    law: &NumberedLaw,
+    disk: D,
+) -> Result<(), AllocError> {
     match open_two(law, disk) {
         Ok(mut store) => tell_versions(told, &mut store),
         Err(fault) => writeln!(told, "{:?}", fault.cause),
@@ -205,12 +209,12 @@ fn two_records(law: &NumberedLaw) -> Result<Vec<u8>, AllocError> {
 }
 
 /// Opens a disk, and tells that behind a number, unless it is what was told last.
-fn tell_next(
+pub fn tell_next<D: Disk + Drop>(
     told: &mut String,
     last: &mut String,
     law: &NumberedLaw,
     number: usize,
-    disk: FuseDisk,
+    disk: D,
 ) -> Result<(), AllocError> {
     let mut next = String::new(law.alloc());
     tell_opened(&mut next, law, disk)?;

@@ -5,6 +5,8 @@
 #[cfg(test)]
 mod disk_store_calls;
 #[cfg(test)]
+mod file_disk_calls;
+#[cfg(test)]
 mod fuse_disk_calls;
 #[cfg(test)]
 mod numbered_law;

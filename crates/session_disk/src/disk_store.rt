@@ -58,6 +58,7 @@ fn load<D: Disk, L: RowLaw, M: Maker<L>>(
     requires charter { M.charter maker.now ≡ L.charter law }
     ensures rest { IfOk result (λ x. IsAtRest (D.bytes disk.new) (D.may_leave disk.new) x.1 x.0.rows) }
     ensures rows { (octets : List ℕ) → D.bytes disk.old ≡ Some octets → IfOk result (λ x. AreRowsOf devices (M.made (L.charter law)) (log_of octets) x.0.rows) }
+    ensures devices { IfOk result (λ x. length x.0.rows ≡ devices) }
     ensures store { IfOk result (λ x. (x.0.charter ≡ L.charter law)) }
     ensures foreign { (octets : List ℕ) (at : ℕ) → D.bytes disk.old ≡ Some octets → IsErrOf result (causes.Foreign at) → (1 < length octets) × IsForeign devices (M.made (L.charter law)) octets at }
     ensures exact { (octets : List ℕ) → D.bytes disk.old ≡ Some octets → OnOk result ((at : ℕ) → 1 < length octets → IsForeign devices (M.made (L.charter law)) octets at → ⊥) }
@@ -85,6 +86,7 @@ impl<D: Disk, L: RowLaw> DiskStore<D, L> {
         ensures open { IfOk result (λ s. s.is_open ≡ true) }
         ensures charter { IfOk result (λ s. s.store.charter ≡ L.charter law) }
         ensures rows { (octets : List ℕ) → D.bytes disk ≡ Some octets → IfOk result (λ s. AreRowsOf devices (M.made (L.charter law)) (log_of octets) s.store.rows) }
+        ensures devices { IfOk result (λ s. length s.store.rows ≡ devices) }
         ensures foreign { (octets : List ℕ) → D.bytes disk ≡ Some octets → IfErr result (λ f. (at : ℕ) → f.cause ≡ causes.Foreign at → (1 < length octets) × IsForeign devices (M.made (L.charter law)) octets at) }
         ensures exact { (octets : List ℕ) → D.bytes disk ≡ Some octets → OnOk result ((at : ℕ) → 1 < length octets → IsForeign devices (M.made (L.charter law)) octets at → ⊥) }
         ensures failed { IfErr result (λ f. f.cause ≡ causes.DiskFault → Rose (D.faults disk) (D.faults f.disk)) }

@@ -22,6 +22,9 @@ returns-clause-rows g c = λ octets is_told.
     let under = subst (λ (x : CharterState). AreRowsOf c.args.devices (g.M.Maker.made x) (log_of c.deref.result.now) c.replay.new.store.rows) charter c.in_ok-gate.ensures.rows in
     subst (λ (rs : List LogRecord). AreRowsOf c.args.devices (g.M.Maker.made (g.L.RowLaw.charter c.args.law)) rs c.replay.new.store.rows) (ap log_of read ∙ log_of_gated octets) under
 
+pub returns-clause-devices : goal.returns-clause-devices
+returns-clause-devices g c = c.in_ok-gate.ensures.rows.count
+
 pub returns-clause-exact : goal.returns-clause-exact
 returns-clause-exact g c = λ octets is_told at.
     let charter : c.in_ok-store.store.charter ≡ g.L.RowLaw.charter c.args.law = ap (λ (s : StoreState). s.charter) c.in_ok-store.ensures in

@@ -1,0 +1,70 @@
+//! A store on a file of the system: written, opened again, and cut.
+ghost use Rattle.std.specs.Prelude.{◌≤◌, length};
+
+use crate::disk_store_calls::{commit_three, open_two, tell_next};
+use crate::numbered_law::NumberedLaw;
+use std::fs::{self, OpenOptions};
+use std::io;
+use std::test::Fail;
+use store_disk::FileDisk;
+
+const FOLDER: &str = "disk_cases_files";
+
+const PATH: &str = "disk_cases_files/rows";
+
+/// A file of three records, cut behind so many octets: a gate and a record have 111 octets. The counts that come to the same are
+/// told by the first. The whole file has 334.
+const CUT: &str = "\
+0: 0 0
+2: Foreign { at: 0 }
+112: Foreign { at: 111 }
+223: Foreign { at: 222 }
+334: 2 1
+";
+
+/// A disk over the file at that path.
+fn file_disk(rt: &HostRuntime) -> io::Result<FileDisk> {
+    let file = OpenOptions::new()
+        .read(true)
+        .write(true)
+        .create(true)
+        .open(rt, PATH)?;
+    Ok(FileDisk::new(file))
+}
+
+/// Three commits on a file that is empty.
+fn write_three(rt: &HostRuntime, law: &NumberedLaw) -> Result<(), Fail> {
+    let Ok(mut store) = open_two(law, file_disk(rt)?) else {
+        return Ok(());
+    };
+    commit_three(&mut store, law)?;
+    Ok(())
+}
+
+/// Opens the file cut behind each of its octets.
+fn tell_cuts(
+    rt: &HostRuntime,
+    told: &mut String,
+    law: &NumberedLaw,
+    whole: &[u8],
+) -> Result<(), Fail> {
+    let mut last = String::new(law.alloc());
+    for count in 0..whole.len() + 1 {
+        fs::write(rt, PATH, &whole[..count])?;
+        tell_next(told, &mut last, law, count, file_disk(rt)?)?;
+    }
+    Ok(())
+}
+
+#[test]
+fn a_file_keeps_what_was_committed(rt: HostRuntime) -> Result<(), Fail> {
+    let law = NumberedLaw::new(rt.alloc())?;
+    let _ = fs::remove_dir_all(&rt, FOLDER);
+    fs::create_dir(&rt, FOLDER)?;
+    write_three(&rt, &law)?;
+    let mut told = String::new(rt.alloc());
+    tell_cuts(&rt, &mut told, &law, &fs::read(&rt, PATH)?)?;
+    assert_eq!(rt; told.as_str(), CUT);
+    fs::remove_dir_all(&rt, FOLDER)?;
+    Ok(())
+}
