@@ -24,7 +24,7 @@ REPLAYS = ["replay_1", "replay_2", "replay_3"]
 
 IS_BUILT = is_built()
 
-HOW_FAR = re.compile(r"[a-z0-9]+: [0-9]+( of [0-9]+)? (messages of each device|frames|frames with SCTP|messages heard|runs)")
+HOW_FAR = re.compile(r"[a-z0-9]+: [0-9]+( of [0-9]+)? (messages of each device|messages that tshark told|frames|frames with SCTP|messages heard|runs)")
 
 
 def needs(*commands: str) -> Callable[[type], type]:
