@@ -10,7 +10,7 @@ use Rattle.device_types.specs.Line.{number_of, IsNumbered}
 use Rattle.epoch_agents.specs.declared.stream.Stream.{Stream}
 use Rattle.epoch_agents.proofs.MergeLaws.{range-more}
 use Rattle.epoch_run.specs.State.{AreDrawable}
-use Rattle.epoch_run.specs.Streams.{begins, and_message, numbered, onward, stream_from, and_stream, streams_behind, streams_of, IsNew}
+use Rattle.epoch_run.specs.Streams.{begins, and_message, numbered, onward, next_index, stream_from, and_stream, streams_behind, streams_of, IsNew}
 
 -- ---- messages
 
@@ -43,8 +43,8 @@ choose : {X : Type 0} (P : X → Type 0) (b : Bool) (x y : X) → P x → P y �
 choose P true x y p q = p
 choose P false x y p q = q
 
-new_stream : (streams : List Stream) (message : Message) (messages : List Message) → IsNew (stream_from streams message messages)
-new_stream streams message messages = record {
+new_stream : (index : ℕ) (message : Message) (messages : List Message) → IsNew (stream_from index message messages)
+new_stream index message messages = record {
   some = let long = length_behind [] (message ∷ onward messages) in omega (arith, long);
   none_acked = refl;
 }
@@ -52,14 +52,15 @@ new_stream streams message messages = record {
 all_new : (streams : List Stream) (messages : List Message) → All IsNew streams → All IsNew (streams_behind streams messages)
 all_new streams [] all = all
 all_new streams (message ∷ messages) all =
-    let stream = stream_from streams message messages in
+    let index = next_index streams message.station in
+    let stream = stream_from index message messages in
     all_new (and_stream streams message messages) messages
-    (choose (All IsNew) (begins message) (streams ++ stream ∷ []) streams (All-push IsNew streams stream all (new_stream streams message messages)) all)
+    (choose (All IsNew) (begins message) (streams ++ stream ∷ []) streams (All-push IsNew streams stream all (new_stream index message messages)) all)
 
 few_streams : (streams : List Stream) (messages : List Message) → length (streams_behind streams messages) ≤ length streams + length messages
 few_streams streams [] = omega arith
 few_streams streams (message ∷ messages) =
-    let stream = stream_from streams message messages in
+    let stream = stream_from (next_index streams message.station) message messages in
     let one = length-append streams (stream ∷ []) in
     let most : length (and_stream streams message messages) ≤ length streams + 1 = choose (λ ss. length ss ≤ length streams + 1) (begins message) (streams ++ stream ∷ []) streams (omega (arith, one)) (omega arith) in
     let rest = few_streams (and_stream streams message messages) messages in

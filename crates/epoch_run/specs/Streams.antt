@@ -28,17 +28,17 @@ is_of_station station stream = station == stream.station
 abbrev pub next_index : List Stream → ℕ → ℕ
 next_index streams station = count_by (is_of_station station) streams + 1
 
--- the stream that a message begins, behind these streams, where those messages follow
-abbrev pub stream_from : List Stream → Message → List Message → Stream
-stream_from streams message messages = record {
+-- the stream of that index that a message begins, where those messages follow
+abbrev pub stream_from : ℕ → Message → List Message → Stream
+stream_from index message messages = record {
   station = message.station;
-  index = next_index streams message.station;
+  index = index;
   line = record { messages = numbered (message ∷ onward messages); acked = 0 };
 }
 
 -- with the stream that a message begins behind them, where it begins one
 abbrev pub and_stream : List Stream → Message → List Message → List Stream
-and_stream streams message messages = if begins message then streams ++ stream_from streams message messages ∷ [] else streams
+and_stream streams message messages = if begins message then streams ++ stream_from (next_index streams message.station) message messages ∷ [] else streams
 
 -- the streams of messages, in the order of their first ones, behind these streams
 abbrev pub streams_behind : List Stream → List Message → List Stream

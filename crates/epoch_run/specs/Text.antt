@@ -44,10 +44,13 @@ messages_merged streams merged = fold (and_entry streams) [] merged
 abbrev pub session_text : Subscriber → List Message → List ℕ
 session_text row messages = ended (session_line (end_of row messages).session)
 
--- the answers, the merge, and the session of the device that has taken the merged messages
+-- the merge, and the session of the device that has taken its messages
+abbrev pub merged_text : Subscriber → List Stream → List Merged → List ℕ
+merged_text row streams merged = merge_text streams merged ++ session_text row (messages_merged streams merged)
+
+-- the answers, and the merge behind them
 abbrev pub course_text : Subscriber → List Stream → List Turn → List ℕ
-course_text row streams turns =
-    answers_text turns ++ merge_text streams (merge turns) ++ session_text row (messages_merged streams (merge turns))
+course_text row streams turns = answers_text turns ++ merged_text row streams (merge turns)
 
 abbrev pub text_of : Subscriber → List Stream → ℕ → ℕ → List ℕ
 text_of row [] number events = []

@@ -11,7 +11,7 @@ use std::alloc::Global;
 use trace_gen::Draws;
 
 /// A world of a device's streams, the draws of its events, and the arrivals that may be drawn.
-#[derive(Debug, Drop)]
+#[derive(Drop)]
 pub(crate) struct Course {
     /// The world.
     pub(crate) world: EpochWorld,

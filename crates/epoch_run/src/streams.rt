@@ -3,10 +3,9 @@
 ghost use Rattle.std.specs.Prelude.{◌≡◌, ◌≤◌, ◌<◌, ◌+◌, ◌∷◌, [], length, Some, IfOk, OnOk};
 ghost use Rattle.std.specs.BTreeMap.{Updates};
 ghost use Rattle.std.specs.Ordering.{nat_cmp};
-ghost use Rattle.device_types.specs.Line.{IsNumbered};
 ghost use Rattle.epoch_agents.specs.Kept.{value_or};
 ghost use Rattle.epoch_run.specs.State.{AreCounts};
-ghost use Rattle.epoch_run.specs.Streams.{begins, and_message, numbered, onward, and_stream, streams_of};
+ghost use Rattle.epoch_run.specs.Streams.{begins, and_message, numbered, onward, stream_from, and_stream, streams_of};
 
 use agent_order::Line;
 use device_types::{Body, Message, Messages, TryCopy};
@@ -64,12 +63,21 @@ fn stream_messages(
     Ok(messages)
 }
 
-/// The line of messages that are numbered anew, of which none is acknowledged.
-fn line(alloc: Global, messages: Messages) -> Result<Line, OutOfMemory>
-    requires { IsNumbered messages }
-    ensures { IfOk result (λ line. line ≡ record { messages = messages; acked = 0 }) }
+/// The stream of that index that a message begins, with the messages behind it up to the next one that begins a stream.
+fn stream_from(
+    alloc: Global,
+    index: u32,
+    first: &Message,
+    others: &[Message],
+) -> Result<Stream, OutOfMemory>
+    ensures { IfOk result (λ stream. stream ≡ stream_from index first.now others.now) }
 {
-    Ok(Line::new(Arc::new(alloc, messages)?))
+    let messages = Arc::new(alloc, stream_messages(alloc, first, others)?)?;
+    Ok(Stream {
+        station: first.station,
+        index,
+        line: Line::new(messages),
+    })
 }
 
 /// The index of the next stream of a station, which is counted.
@@ -100,14 +108,8 @@ fn put_stream(
     if !begins(first) {
         return Ok(());
     }
-    let station = first.station;
-    let index = next_index(counts, station)?;
-    let line = line(alloc, stream_messages(alloc, first, others)?)?;
-    streams.push(Stream {
-        station,
-        index,
-        line,
-    })?;
+    let index = next_index(counts, first.station)?;
+    streams.push(stream_from(alloc, index, first, others)?)?;
     Ok(())
 }
 

@@ -8,7 +8,7 @@ ghost use Rattle.epoch_agents.specs.Counts.{merge};
 ghost use Rattle.epoch_agents.specs.World.{turns_in};
 ghost use Rattle.epoch_run.specs.Drawn.{course_of};
 ghost use Rattle.epoch_run.specs.State.{AreDrawable, IsCourse, IsTold};
-ghost use Rattle.epoch_run.specs.Text.{answers_text, entry_line, merge_text, and_entry, messages_merged, session_text, epochs_text, device_text};
+ghost use Rattle.epoch_run.specs.Text.{answers_text, entry_line, merge_text, and_entry, messages_merged, session_text, merged_text, course_text, epochs_text, device_text};
 
 use crate::course::Course;
 use crate::streams::{put_message, streams_of};
@@ -109,6 +109,43 @@ fn session_text(
     session_line(alloc, &end.session)
 }
 
+/// The text of what the row has committed, and of what the device has then.
+fn merged_text(
+    alloc: Global,
+    row: &Subscriber,
+    streams: &[Stream],
+    merged: &[Merged],
+) -> Result<Octets, OutOfMemory>
+    requires row { IsSubscriber row.now }
+    requires within { All (λ entry. IsWithin (length streams.now) entry.a) merged.now }
+    requires few { length merged.now ≤ 100000 }
+    ensures { IfOk result (λ text. text ≡ merged_text row.now streams.now merged.now) }
+{
+    let mut text = merge_text(alloc, streams, merged)?;
+    let messages = messages_merged(alloc, streams, merged)?;
+    text.append(session_text(alloc, row, messages.items())?)?;
+    Ok(text)
+}
+
+/// The text of so many events, which are drawn, and of what the row has committed then.
+fn course_text(
+    alloc: Global,
+    row: &Subscriber,
+    course: &mut Course,
+    events: u32,
+) -> Result<Octets, OutOfMemory>
+    requires row { IsSubscriber row.now }
+    requires streams { AreDrawable course.old.world.streams }
+    requires before { IsCourse course.old.world.streams course.old.draws.state 0 course.old.world course.old.draws.state course.old.arrivals.items }
+    requires events { events ≤ 100000 }
+    ensures { IfOk result (λ text. text ≡ course_text row.now course.old.world.streams (course_of course.old.world.streams course.old.draws.state events).turns) }
+{
+    let mut text = answers_text(alloc, course, events)?;
+    let (streams, merged) = (course.world.streams(), course.world.merge());
+    text.append(merged_text(alloc, row, streams, merged)?)?;
+    Ok(text)
+}
+
 /// The text of a device with that row and these messages. Without streams it is empty.
 #[tactic(auto, unfolding(crate::specs::Text::epochs_text))]
 fn epochs_text(
@@ -128,12 +165,7 @@ fn epochs_text(
         return Ok(Octets::new(alloc));
     }
     let mut course = Course::new(alloc, streams, number);
-    let mut text = answers_text(alloc, &mut course, events)?;
-    let (streams, merged) = (course.world.streams(), course.world.merge());
-    text.append(merge_text(alloc, streams, merged)?)?;
-    let taken = messages_merged(alloc, streams, merged)?;
-    text.append(session_text(alloc, row, taken.items())?)?;
-    Ok(text)
+    course_text(alloc, row, &mut course, events)
 }
 
 /// What events come to that are drawn of the streams of a device, by its number from 1: so many events are drawn from `number`, as
