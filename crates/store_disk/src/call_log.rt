@@ -6,7 +6,7 @@ use std::fmt;
 use std::marker::Model;
 
 /// A call that changes what a crash may leave.
-#[derive(Clone, Copy, Debug, PartialEq, Eq)]
+#[derive(Clone, Copy, Debug)]
 pub enum Call {
     /// So many octets were written from a place on, or some of them.
     Write {

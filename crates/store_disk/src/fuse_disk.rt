@@ -44,13 +44,9 @@ fn put(octets: &mut Vec<u8>, at: usize, piece: &[u8]) -> Result<(), AllocError>
     ensures ok { OnOk result (octets.new.items ≡ written_at at piece.now octets.old.items) }
     ensures err { OnErr result (octets.new.items ≡ octets.old.items) }
 {
-    let alloc = *octets.allocator();
-    let mut next = octets[..at].to_vec(alloc)?;
-    next.extend_from_slice(piece)?;
-    if piece.len() < octets.len() - at {
-        next.extend_from_slice(&octets[at + piece.len()..])?;
-    }
-    *octets = next;
+    let over = piece.len().min(octets.len() - at);
+    octets.extend_from_slice(&piece[over..])?;
+    octets[at..at + over].copy_from_slice(&piece[..over]);
     Ok(())
 }
 
