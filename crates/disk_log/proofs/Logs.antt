@@ -1,12 +1,12 @@
 -- Logs whose front stays, and whose end changes.
-use Rattle.std.proofs.Common.{◌≡◌, ◌≢◌, ◌<◌, ◌≤◌, ℕ, zero, suc, ◌+◌, ◌⊎◌, inl, inr, List, [], ◌∷◌, ◌++◌, length, take, drop, Option, Some, None, refl, sym, ap, ◌∙◌, subst, arith, append_assoc, append-nil, length-append}
+use Rattle.std.proofs.Common.{◌≡◌, ◌≢◌, ◌<◌, ◌≤◌, ℕ, zero, suc, ◌+◌, ◌⊎◌, inl, inr, leb, true, false, List, [], ◌∷◌, ◌++◌, length, take, drop, Option, Some, None, refl, sym, ap, ◌∙◌, subst, arith, append_assoc, append-nil, length-append}
 use Rattle.std.specs.Prelude.{slice_get, IfSome}
-use Rattle.std.proofs.lemmas.Bool.{cases_eq, ne_eqb}
+use Rattle.std.proofs.lemmas.Bool.{cases_eq, cases_lt, ne_eqb, le-leb, lt-leb}
 use Rattle.std.proofs.lemmas.List.{length-take-le, drop_at}
 use Rattle.std.proofs.lemmas.Option.{slice_get_within}
 use Rattle.store_disk.specs.Gate.{IsShut, IsGrown}
 use Rattle.disk_log.specs.Record.{LogRecord, HasRoom, octets_of, size_of, piece_of, first_record}
-use Rattle.disk_log.specs.Log.{records_behind, log_of, gate_behind, EndsAt, WithOrWithout}
+use Rattle.disk_log.specs.Log.{records_behind, log_of, gate_behind, EndsAt, gated, WithOrWithout}
 use Rattle.disk_log.proofs.Heads.{length-octets_of, written_is_read, found_again}
 
 -- ---- what a gate stands in front of
@@ -160,6 +160,17 @@ short (gate ∷ []) few = by_gate (cases_eq gate 1)
     by_gate (inr shut) = closed gate [] shut
     by_gate (inl is_open) = subst (λ (g : ℕ). log_of (g ∷ []) ≡ []) (sym is_open) (torn [] no_record)
 short (a ∷ b ∷ os) few = absurd (omega (arith, few))
+
+-- as it is opened it has the log that it had
+pub log_of_gated : (octets : List ℕ) → log_of (gated octets) ≡ log_of octets
+log_of_gated octets = by_length (cases_lt 1 (length octets))
+  where
+    by_length : (1 < length octets) ⊎ (length octets ≤ 1) → log_of (gated octets) ≡ log_of octets
+    by_length (inl long) = let large : leb (length octets) 1 ≡ false = lt-leb _ _ long in rw large refl
+    by_length (inr few) =
+        let small : leb (length octets) 1 ≡ true = le-leb _ _ few in
+        let same : gated octets ≡ 0 ∷ [] = rw small refl in
+        ap log_of same ∙ short (0 ∷ []) (omega arith) ∙ sym (short octets few)
 
 -- ---- a disk that may not tell its octets
 

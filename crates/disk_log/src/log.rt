@@ -36,29 +36,28 @@ impl From<AllocError> for LogFault {
     }
 }
 
-/// All octets of a file that is on its disk. One of at most one octet becomes a closed gate first.
-fn read_all<D: Disk>(alloc: Global, disk: &mut D) -> Result<Vec<u8>, LogFault>
+/// A file that is on its disk, of at most one octet, becomes a closed gate. Tells how many octets there are then.
+fn first_gate<D: Disk>(disk: &mut D) -> Result<u64, DiskFault>
     requires durable { IsDurable (D.bytes disk.old) (D.may_leave disk.old) }
-    ensures read { IfOk result (λ octets. IfSome (D.bytes disk.new) (λ now. octets.items ≡ now)) }
-    ensures some { IfOk result (λ octets. 1 ≤ length octets.items) }
+    ensures octets { IfOk result (λ n. IfSome (D.bytes disk.new) (λ now. n ≡ length now)) }
+    ensures some { IfOk result (λ n. 1 ≤ n) }
     ensures gated { OnOk result (D.bytes disk.new ≡ option_map gated (D.bytes disk.old)) }
     ensures durable { OnOk result (IsDurable (D.bytes disk.new) (D.may_leave disk.new)) }
     ensures any_moment { (octets : List ℕ) → D.bytes disk.old ≡ Some octets → LeavesOnly D.moment D.left_since disk.old disk.new (λ image. log_of image ≡ log_of octets) }
     ensures count { D.faults disk.old ≤ D.faults disk.new }
-    ensures failed { IsErrOf result faults.DiskFault → Rose (D.faults disk.old) (D.faults disk.new) }
+    ensures failed { OnErr result (Rose (D.faults disk.old) (D.faults disk.new)) }
 {
     let count = disk.len()?;
-    if count <= 1 {
-        write_through(disk, 0, &[0])?;
-        return Ok(Vec::from_slice(alloc, &[0])?);
+    if count > 1 {
+        return Ok(count);
     }
-    let mut octets = vec![in alloc; 0; count as usize]?;
-    disk.read_at(0, &mut octets)?;
-    Ok(octets)
+    write_through(disk, 0, &[0])?;
+    Ok(1)
 }
 
-/// Opens the log on a disk: gives all its octets, behind a sync. On a file of at most one octet it then writes a closed gate, and
-/// syncs. At any moment a crash leaves what it might have left before, or, from the end of the first sync on, a file of that log.
+/// Opens the log on a disk: gives all its octets, behind a sync. On a file of at most one octet it writes a closed gate before it
+/// reads, and syncs. At any moment a crash leaves what it might have left before, or, from the end of the first sync on, a file of
+/// that log.
 pub fn open_log<D: Disk>(alloc: Global, disk: &mut D) -> Result<Vec<u8>, LogFault>
     ensures read { IfOk result (λ octets. IfSome (D.bytes disk.new) (λ now. octets.items ≡ now)) }
     ensures some { IfOk result (λ octets. 1 ≤ length octets.items) }
@@ -69,7 +68,10 @@ pub fn open_log<D: Disk>(alloc: Global, disk: &mut D) -> Result<Vec<u8>, LogFaul
     ensures failed { IsErrOf result faults.DiskFault → Rose (D.faults disk.old) (D.faults disk.new) }
 {
     disk.sync()?;
-    read_all(alloc, disk)
+    let count = first_gate(disk)?;
+    let mut octets = vec![in alloc; 0; count as usize]?;
+    disk.read_at(0, &mut octets)?;
+    Ok(octets)
 }
 
 /// Adds a record behind the last gate, which is closed: four calls of the disk, two of them syncs. Tells the place of the next
