@@ -1,12 +1,11 @@
 -- Files that are foreign, and files that are not.
-use Rattle.std.proofs.Common.{◌≡◌, ◌<◌, ◌≤◌, ◌⊎◌, inl, inr, ℕ, zero, suc, true, false, leb, List, [], ◌∷◌, ◌++◌, length, take, Option, Some, refl, sym, ap, ◌∙◌, subst, arith, append-nil}
+use Rattle.std.proofs.Common.{◌≡◌, ◌<◌, ◌≤◌, ◌⊎◌, inl, inr, ℕ, zero, suc, true, false, leb, List, [], ◌∷◌, ◌++◌, length, take, Option, Some, refl, sym, ap, ◌∙◌, subst, append-nil}
 use Rattle.std.specs.Prelude.{slice_get, option_map, IfSome}
 use Rattle.std.proofs.lemmas.Bool.{cases_lt, lt-leb, le-leb}
 use Rattle.std.proofs.lemmas.List.{take_at}
 use Rattle.std.proofs.lemmas.Option.{same_Some}
 use Rattle.disk_log.specs.Record.{LogRecord}
 use Rattle.disk_log.specs.Log.{log_of, gate_behind, EndsAt, gated}
-use Rattle.disk_log.proofs.Logs.{short}
 use Rattle.session_disk.specs.Fits.{Entries, Fits, AllFit, IsForeign}
 
 -- ---- lists
@@ -58,17 +57,6 @@ file_of_its_own devices entries octets at not long foreign =
     let large : leb (length octets) 1 ≡ false = lt-leb _ _ long in
     let same : gated octets ≡ octets = rw large refl in
     not (subst (λ (os : List ℕ). IsForeign devices entries os at) (sym same) foreign)
-
--- what a file is read as is the log that it had
-pub log_of_gated : (octets : List ℕ) → log_of (gated octets) ≡ log_of octets
-log_of_gated octets = by_length (cases_lt 1 (length octets))
-  where
-    by_length : (1 < length octets) ⊎ (length octets ≤ 1) → log_of (gated octets) ≡ log_of octets
-    by_length (inl long) = let large : leb (length octets) 1 ≡ false = lt-leb _ _ long in rw large refl
-    by_length (inr few) =
-        let small : leb (length octets) 1 ≡ true = le-leb _ _ few in
-        let same : gated octets ≡ 0 ∷ [] = rw small refl in
-        ap log_of same ∙ short (0 ∷ []) (omega arith) ∙ sym (short octets few)
 
 -- what was read is the file as it was gated
 pub read_is : (old now : Option (List ℕ)) (octets read : List ℕ) → old ≡ Some octets → now ≡ option_map gated old → IfSome now (λ os. read ≡ os) → read ≡ gated octets

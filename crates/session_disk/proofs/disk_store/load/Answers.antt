@@ -3,8 +3,9 @@ use Rattle.disk_log.specs.Log.{log_of, gated}
 use Rattle.disk_log.specs.Record.{LogRecord}
 use Rattle.session_store.specs.Charter.{CharterState}
 use Rattle.session_store.specs.Rows.{StoreState}
+use Rattle.disk_log.proofs.Logs.{log_of_gated}
 use Rattle.session_disk.specs.Fits.{AreRowsOf, IsForeign}
-use Rattle.session_disk.proofs.Foreign.{read_is, foreign_file, file_of_its_own, log_of_gated}
+use Rattle.session_disk.proofs.Foreign.{read_is, foreign_file, file_of_its_own}
 use Rattle.session_disk.proofs.disk_store.load.Goals as goal
 
 pub returns-in_err-gate-clause-foreign : goal.returns-in_err-gate-clause-foreign
