@@ -3,40 +3,73 @@ use Rattle.std.proofs.Common.{◌≡◌, ℕ, Bool, true, false, List, Some, ref
 use Rattle.std.specs.Prelude.{codes}
 use Rattle.clap.specs.Matches.{first_value, found_of, one_text}
 use Rattle.clap.specs.declared.parser.matches.ArgMatches.{ArgMatches}
+use Rattle.command_words.specs.declared.command.AnyCommand.TheVariants as any
 use Rattle.command_words.specs.declared.command.Command.TheVariants as command
+use Rattle.command_words.specs.declared.command.ThreadsCommand.TheVariants as threads
 use Rattle.command_words.specs.declared.command.Word.{Word}
-use Rattle.command_words.specs.declared.command.Word.TheVariants.{Replay, Make, Epochs}
+use Rattle.command_words.specs.declared.command.Word.TheVariants.{Replay, Make, Epochs, Run, Load}
+use Rattle.command_words.specs.declared.options.Name.{Name}
 use Rattle.command_words.specs.declared.options.Name.TheVariants as option
 use Rattle.command_words.specs.Command.{command_by, options_of}
-use Rattle.command_words.specs.Matches.{HasRead}
-use Rattle.command_words.specs.Options.{is_given, number_by, number_in, takes_of, text_of}
+use Rattle.command_words.specs.Matches.{HasRead, is_flag}
+use Rattle.command_words.specs.Options.{is_given, number_by, number_in, option_named, takes_of, text_of}
 use Rattle.command_words.proofs.Accepted.{flag_is}
 
-pub replay_read : (word : Word) (words : List (List ℕ)) (m : ArgMatches) (replicas : ℕ) → word ≡ Replay → HasRead (options_of word) words m → replicas ≡ number_by (takes_of option.Replicas) (first_value (found_of m) (text_of option.Replicas)) → command.Replay replicas ≡ command_by word words
-unfolding command_by number_in
-replay_read word words m replicas is read e =
-    let here = subst (λ (w : Word). HasRead (options_of w) words m) is read in
-    rw is (ap command.Replay (e ∙ ap (number_by (takes_of option.Replicas)) (here.numbers option.Replicas refl refl)))
+abbrev pub IsNumber : ArgMatches → Name → ℕ → Type 0
+IsNumber m o n = n ≡ number_by (takes_of o) (first_value (found_of m) (text_of o))
 
-pub make_read : (word : Word) (words : List (List ℕ)) (m : ArgMatches) (number devices rounds : ℕ) (name : List ℕ) (text : Bool) → word ≡ Make → HasRead (options_of word) words m →
-    number ≡ number_by (takes_of option.Number) (first_value (found_of m) (text_of option.Number)) → devices ≡ number_by (takes_of option.Devices) (first_value (found_of m) (text_of option.Devices)) → rounds ≡ number_by (takes_of option.Rounds) (first_value (found_of m) (text_of option.Rounds)) →
-    name ≡ text_of option.Text → (one_text (found_of m) name ≡ Some (codes "true") → text ≡ true) → (one_text (found_of m) name ≡ Some (codes "false") → text ≡ false) → command.Make number devices rounds text ≡ command_by word words
-unfolding command_by number_in
-make_read word words m number devices rounds name text is read n d r named when_set when_clear =
-    let here = subst (λ (w : Word). HasRead (options_of w) words m) is read in
-    let number_is : number ≡ number_in words option.Number = n ∙ ap (number_by (takes_of option.Number)) (here.numbers option.Number refl refl) in
-    let devices_is : devices ≡ number_in words option.Devices = d ∙ ap (number_by (takes_of option.Devices)) (here.numbers option.Devices refl refl) in
-    let rounds_is : rounds ≡ number_in words option.Rounds = r ∙ ap (number_by (takes_of option.Rounds)) (here.numbers option.Rounds refl refl) in
+abbrev pub Read : Word → Word → List (List ℕ) → ArgMatches → Type 0
+Read word this words m = (word ≡ this) × HasRead (options_of word) words m
+
+-- what clap read of an option is the number in the words
+number_is : (word this : Word) (words : List (List ℕ)) (m : ArgMatches) (o : Name) (n : ℕ) → Read word this words m → option_named (options_of this) (text_of o) ≡ Some o → is_flag (takes_of o) ≡ false → IsNumber m o n → n ≡ number_in words o
+unfolding number_in
+number_is word this words m o n read named kind e =
+    let here = subst (λ (w : Word). HasRead (options_of w) words m) read.0 read.1 in
+    e ∙ ap (number_by (takes_of o)) (here.numbers o named kind)
+
+pub replay_read : (word : Word) (words : List (List ℕ)) (m : ArgMatches) (replicas : ℕ) → Read word Replay words m → IsNumber m option.Replicas replicas → any.Replay (command.Replay replicas) ≡ command_by word words
+unfolding command_by
+replay_read word words m replicas read r = rw (read.0, number_is word Replay words m option.Replicas replicas read refl refl r) refl
+
+pub make_read : (word : Word) (words : List (List ℕ)) (m : ArgMatches) (number devices rounds : ℕ) (name : List ℕ) (text : Bool) → Read word Make words m →
+    IsNumber m option.Number number → IsNumber m option.Devices devices → IsNumber m option.Rounds rounds →
+    name ≡ text_of option.Text → (one_text (found_of m) name ≡ Some (codes "true") → text ≡ true) → (one_text (found_of m) name ≡ Some (codes "false") → text ≡ false) → any.Replay (command.Make number devices rounds text) ≡ command_by word words
+unfolding command_by
+make_read word words m number devices rounds name text read n d r named when_set when_clear =
+    let here = subst (λ (w : Word). HasRead (options_of w) words m) read.0 read.1 in
     let text_is : text ≡ is_given words (text_of option.Text) = flag_is text _ (is_given words (text_of option.Text)) when_set when_clear (ap (one_text (found_of m)) named ∙ here.flags option.Text refl refl) in
-    rw (is, number_is, devices_is, rounds_is, text_is) refl
+    rw (
+      read.0,
+      number_is word Make words m option.Number number read refl refl n,
+      number_is word Make words m option.Devices devices read refl refl d,
+      number_is word Make words m option.Rounds rounds read refl refl r,
+      text_is,
+    ) refl
 
-pub epochs_read : (word : Word) (words : List (List ℕ)) (m : ArgMatches) (device number events : ℕ) → word ≡ Epochs → HasRead (options_of word) words m →
-    device ≡ number_by (takes_of option.Device) (first_value (found_of m) (text_of option.Device)) → number ≡ number_by (takes_of option.Number) (first_value (found_of m) (text_of option.Number)) → events ≡ number_by (takes_of option.Events) (first_value (found_of m) (text_of option.Events)) →
-    command.Epochs device number events ≡ command_by word words
-unfolding command_by number_in
-epochs_read word words m device number events is read d n e =
-    let here = subst (λ (w : Word). HasRead (options_of w) words m) is read in
-    let device_is : device ≡ number_in words option.Device = d ∙ ap (number_by (takes_of option.Device)) (here.numbers option.Device refl refl) in
-    let number_is : number ≡ number_in words option.Number = n ∙ ap (number_by (takes_of option.Number)) (here.numbers option.Number refl refl) in
-    let events_is : events ≡ number_in words option.Events = e ∙ ap (number_by (takes_of option.Events)) (here.numbers option.Events refl refl) in
-    rw (is, device_is, number_is, events_is) refl
+pub epochs_read : (word : Word) (words : List (List ℕ)) (m : ArgMatches) (device number events : ℕ) → Read word Epochs words m →
+    IsNumber m option.Device device → IsNumber m option.Number number → IsNumber m option.Events events → any.Replay (command.Epochs device number events) ≡ command_by word words
+unfolding command_by
+epochs_read word words m device number events read d n e =
+    rw (
+      read.0,
+      number_is word Epochs words m option.Device device read refl refl d,
+      number_is word Epochs words m option.Number number read refl refl n,
+      number_is word Epochs words m option.Events events read refl refl e,
+    ) refl
+
+pub run_read : (word : Word) (words : List (List ℕ)) (m : ArgMatches) (workers : ℕ) → Read word Run words m → IsNumber m option.Workers workers → any.Threads (threads.Run workers) ≡ command_by word words
+unfolding command_by
+run_read word words m workers read w = rw (read.0, number_is word Run words m option.Workers workers read refl refl w) refl
+
+pub load_read : (word : Word) (words : List (List ℕ)) (m : ArgMatches) (number devices rounds workers : ℕ) → Read word Load words m →
+    IsNumber m option.Number number → IsNumber m option.Devices devices → IsNumber m option.Rounds rounds → IsNumber m option.Workers workers → any.Threads (threads.Load number devices rounds workers) ≡ command_by word words
+unfolding command_by
+load_read word words m number devices rounds workers read n d r w =
+    rw (
+      read.0,
+      number_is word Load words m option.Number number read refl refl n,
+      number_is word Load words m option.Devices devices read refl refl d,
+      number_is word Load words m option.Rounds rounds read refl refl r,
+      number_is word Load words m option.Workers workers read refl refl w,
+    ) refl

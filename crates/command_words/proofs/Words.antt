@@ -1,5 +1,5 @@
 -- The words of options: what they give, and the number that a value is.
-use Rattle.std.proofs.Common.{◌≡◌, ℕ, ◌^◌, ◌<◌, ◌≤◌, Bool, true, false, leb, cond, List, [], ◌∷◌, length, Option, Some, None, Result, Err, refl, inl, inr, arith, rules}
+use Rattle.std.proofs.Common.{◌≡◌, ℕ, ◌^◌, ◌<◌, ◌≤◌, Bool, true, false, leb, cond, List, length, Option, Some, None, Result, Err, refl, inl, inr, arith, rules}
 use Rattle.std.specs.Prelude.{◌&&◌, codes, unwrap_or, option_and_then}
 use Rattle.std.specs.List.{list_all}
 use Rattle.std.specs.Char.{is_ascii_digit}
@@ -13,9 +13,11 @@ use Rattle.std.proofs.lemmas.Str.Parse.{IsNumeralModel, numerals_by_value, parse
 use Rattle.std.proofs.lemmas.Str.{IsUtf8-from_ascii}
 use Rattle.std.proofs.lemmas.Fmt.{IsAscii-from_digits}
 use Rattle.command_words.specs.declared.command.Word.{Word}
-use Rattle.command_words.specs.declared.command.Word.TheVariants.{Plain, Replay, Show, Make, Epochs}
-use Rattle.command_words.specs.Command.{are_of, command_by, IsInLimits}
-use Rattle.command_words.specs.Options.{is_value, number_of, number_in, value_in}
+use Rattle.command_words.specs.declared.command.Word.TheVariants.{Plain, Replay, Show, Make, Epochs, Run, Load}
+use Rattle.command_words.specs.declared.options.Name.TheVariants.{Devices, Rounds, Workers}
+use Rattle.device_types.specs.Numbers.{IsWithin}
+use Rattle.command_words.specs.Command.{are_of, command_by, has_few_visits, options_of, HasFewVisits, IsAnyInLimits}
+use Rattle.command_words.specs.Options.{is_value, number_of, are_options, number_in, value_in}
 
 -- ---- values
 
@@ -59,20 +61,24 @@ number_within least most other (Some text) l m = go (is_value text && leb least 
     go false e = (l, m)
     go true e = (grind (arith, nat_tests), grind (arith, nat_tests))
 
-pub in_limits : (word : Word) (words : List (List ℕ)) → are_of word words ≡ true → IsInLimits (command_by word words)
+few_visits : (words : List (List ℕ)) (options : Bool) → (options && has_few_visits words) ≡ true → HasFewVisits (number_in words Devices) (number_in words Rounds)
+unfolding number_in
+few_visits words true e = ((number_within 1 800 1 (value_in (codes "devices") words) (omega arith) (omega arith)).0, leb-true _ _ e)
+few_visits words false e = cc
+
+workers_within : (words : List (List ℕ)) → IsWithin 16 (number_in words Workers)
+unfolding number_in
+workers_within words = number_within 1 16 4 (value_in (codes "workers") words) (omega arith) (omega arith)
+
+pub in_limits : (word : Word) (words : List (List ℕ)) → are_of word words ≡ true → IsAnyInLimits (command_by word words)
 unfolding are_of command_by number_in
 in_limits Plain words e = tt
 in_limits Replay words e = number_within 1 16 2 (value_in (codes "replicas") words) (omega arith) (omega arith)
 in_limits Show words e = tt
+in_limits Make words e = few_visits words (are_options (options_of Make) words) e
 in_limits Epochs words e = (
   number_within 1 4096 1 (value_in (codes "device") words) (omega arith) (omega arith),
   (number_within 0 100000 100 (value_in (codes "events") words) (omega arith) (omega arith)).1,
 )
-in_limits Make words e = (
-  (number_within 1 800 1 (value_in (codes "devices") words) (omega arith) (omega arith)).0,
-  leb-true _ _ (and_second _ _ e),
-)
-  where
-    and_second : (a b : Bool) → (a && b) ≡ true → b ≡ true
-    and_second true b e = e
-    and_second false b e = cc
+in_limits Run words e = workers_within words
+in_limits Load words e = (few_visits words (are_options (options_of Load) words) e, workers_within words)

@@ -3,7 +3,7 @@
 ghost use Rattle.std.specs.Prelude.{◌≡◌, ℕ, List, true, Ok, None, map, string_bytes, IfSome, IfOk};
 ghost use Rattle.std.specs.Str.{bytes_eq};
 ghost use Rattle.command_words.specs.Matches.{HasRead};
-ghost use Rattle.command_words.specs.Command.{word_of, options_of, is_small, command_by, are_of, command_of, IsInLimits};
+ghost use Rattle.command_words.specs.Command.{word_of, options_of, is_small, command_by, are_of, command_in, command_of, threads_command_of, IsInLimits, IsAnyInLimits, IsThreadsInLimits};
 
 use crate::matches::{number, read};
 use crate::options::{Name, are_options, number_in, text_of};
@@ -14,7 +14,7 @@ use std::alloc::Global;
 /// The most visits of a made case.
 const MOST_VISITS: u64 = 800;
 
-/// A command.
+/// A command of the top call that runs a schedule of events.
 #[derive(Clone, Copy, Debug, PartialEq, Eq)]
 pub enum Command {
     /// What becomes of the devices.
@@ -48,6 +48,41 @@ pub enum Command {
     },
 }
 
+/// A command of the top call that runs threads.
+#[derive(Clone, Copy, Debug, PartialEq, Eq)]
+pub enum ThreadsCommand {
+    /// What becomes of the devices.
+    Run {
+        /// How many workers there are, 1 to 16.
+        workers: u32,
+    },
+    /// A made case.
+    Load {
+        /// The number that it is made from.
+        number: u32,
+        /// How many devices it has.
+        devices: u32,
+        /// How many rounds it has behind the first.
+        rounds: u32,
+        /// How many workers there are, 1 to 16.
+        workers: u32,
+    },
+}
+
+/// A command of either top call.
+#[derive(Clone, Copy)]
+enum AnyCommand {
+    Replay(Command),
+    Threads(ThreadsCommand),
+}
+
+/// A top call, which knows its own commands only.
+#[derive(Clone, Copy)]
+enum TopCall {
+    Replay,
+    Threads,
+}
+
 /// The first word of a command.
 #[derive(Clone, Copy, Debug, PartialEq, Eq)]
 enum Word {
@@ -56,18 +91,22 @@ enum Word {
     Show,
     Make,
     Epochs,
+    Run,
+    Load,
 }
 
-/// The command of that name.
-fn word_of(name: &str) -> Option<Word>
-    ensures { result ≡ word_of name.now }
+/// The command of a top call that has that name.
+fn word_of(top: TopCall, name: &str) -> Option<Word>
+    ensures { result ≡ word_of top name.now }
 {
-    match name {
-        "plain" => Some(Word::Plain),
-        "replay" => Some(Word::Replay),
-        "show" => Some(Word::Show),
-        "make" => Some(Word::Make),
-        "epochs" => Some(Word::Epochs),
+    match (top, name) {
+        (TopCall::Replay, "plain") => Some(Word::Plain),
+        (TopCall::Replay, "replay") => Some(Word::Replay),
+        (TopCall::Replay, "show") => Some(Word::Show),
+        (TopCall::Replay, "make") => Some(Word::Make),
+        (TopCall::Replay, "epochs") => Some(Word::Epochs),
+        (TopCall::Threads, "run") => Some(Word::Run),
+        (TopCall::Threads, "load") => Some(Word::Load),
         _ => None,
     }
 }
@@ -81,6 +120,8 @@ fn options_of(word: Word) -> &'static [Name]
         Word::Replay => &[Name::Replicas],
         Word::Make => &[Name::Number, Name::Devices, Name::Rounds, Name::Text],
         Word::Epochs => &[Name::Device, Name::Number, Name::Events],
+        Word::Run => &[Name::Workers],
+        Word::Load => &[Name::Number, Name::Devices, Name::Rounds, Name::Workers],
     }
 }
 
@@ -89,8 +130,8 @@ fn is_small(word: Word, words: &[String]) -> bool
     ensures { result ≡ is_small word (map string_bytes words.now) }
 {
     match word {
-        Word::Plain | Word::Replay | Word::Show | Word::Epochs => true,
-        Word::Make => {
+        Word::Plain | Word::Replay | Word::Show | Word::Epochs | Word::Run => true,
+        Word::Make | Word::Load => {
             let devices = u64::from(number_in(words, Name::Devices));
             let rounds = u64::from(number_in(words, Name::Rounds));
             devices * (rounds + 1) <= MOST_VISITS
@@ -108,26 +149,35 @@ fn are_of(word: Word, words: &[String]) -> bool
 
 /// The command of that word, whose options `clap` has read.
 #[tactic(auto, unfolding(crate::specs::Command::command_by, crate::specs::Options::number_in))]
-fn command_from(word: Word, matches: &ArgMatches<'_>) -> Command
+fn command_from(word: Word, matches: &ArgMatches<'_>) -> AnyCommand
     ensures { (words : List (List ℕ)) → HasRead (options_of word) words matches.now → result ≡ command_by word words }
 {
     match word {
-        Word::Plain => Command::Plain,
-        Word::Replay => Command::Replay {
+        Word::Plain => AnyCommand::Replay(Command::Plain),
+        Word::Replay => AnyCommand::Replay(Command::Replay {
             replicas: number(matches, Name::Replicas),
-        },
-        Word::Show => Command::Show,
-        Word::Make => Command::Make {
+        }),
+        Word::Show => AnyCommand::Replay(Command::Show),
+        Word::Make => AnyCommand::Replay(Command::Make {
             number: number(matches, Name::Number),
             devices: number(matches, Name::Devices),
             rounds: number(matches, Name::Rounds),
             text: matches.get_flag(text_of(Name::Text)),
-        },
-        Word::Epochs => Command::Epochs {
+        }),
+        Word::Epochs => AnyCommand::Replay(Command::Epochs {
             device: number(matches, Name::Device),
             number: number(matches, Name::Number),
             events: number(matches, Name::Events),
-        },
+        }),
+        Word::Run => AnyCommand::Threads(ThreadsCommand::Run {
+            workers: number(matches, Name::Workers),
+        }),
+        Word::Load => AnyCommand::Threads(ThreadsCommand::Load {
+            number: number(matches, Name::Number),
+            devices: number(matches, Name::Devices),
+            rounds: number(matches, Name::Rounds),
+            workers: number(matches, Name::Workers),
+        }),
     }
 }
 
@@ -138,7 +188,7 @@ fn command_by(
     name: &str,
     word: Word,
     words: &[String],
-) -> Result<Command, OutOfMemory>
+) -> Result<AnyCommand, OutOfMemory>
     requires { are_of word (map string_bytes words.now) ≡ true }
     ensures { IfOk result (λ command. command ≡ command_by word (map string_bytes words.now)) }
 {
@@ -148,17 +198,20 @@ fn command_by(
     Ok(command_from(word, &matches))
 }
 
-/// The command that words are. None where they are no command, which takes no memory to find.
-#[tactic(auto, unfolding(crate::specs::Command::command_of))]
-pub fn command_of(alloc: Global, words: &[String]) -> Result<Option<Command>, OutOfMemory>
-    ensures value { IfOk result (λ command. command ≡ command_of words.now) }
-    ensures usage { command_of words.now ≡ None → result ≡ Ok None }
-    ensures limits { IfOk result (λ command. IfSome command IsInLimits) }
+/// The command of a top call that words are. None where they are no command of it, which takes no memory to find.
+fn command_in(
+    alloc: Global,
+    top: TopCall,
+    words: &[String],
+) -> Result<Option<AnyCommand>, OutOfMemory>
+    ensures value { IfOk result (λ command. command ≡ command_in top (map string_bytes words.now)) }
+    ensures usage { command_in top (map string_bytes words.now) ≡ None → result ≡ Ok None }
+    ensures limits { IfOk result (λ command. IfSome command IsAnyInLimits) }
 {
     let [name, words @ ..] = words else {
         return Ok(None);
     };
-    let Some(word) = word_of(name.as_str()) else {
+    let Some(word) = word_of(top, name.as_str()) else {
         return Ok(None);
     };
     if !are_of(word, words) {
@@ -166,4 +219,33 @@ pub fn command_of(alloc: Global, words: &[String]) -> Result<Option<Command>, Ou
     }
     let command = command_by(alloc, name.as_str(), word, words)?;
     Ok(Some(command))
+}
+
+/// The command that words are of the top call that runs a schedule. None where they are none, which takes no memory to find.
+#[tactic(auto, unfolding(crate::specs::Command::command_of))]
+pub fn command_of(alloc: Global, words: &[String]) -> Result<Option<Command>, OutOfMemory>
+    ensures value { IfOk result (λ command. command ≡ command_of words.now) }
+    ensures usage { command_of words.now ≡ None → result ≡ Ok None }
+    ensures limits { IfOk result (λ command. IfSome command IsInLimits) }
+{
+    match command_in(alloc, TopCall::Replay, words)? {
+        Some(AnyCommand::Replay(command)) => Ok(Some(command)),
+        Some(AnyCommand::Threads(_)) | None => Ok(None),
+    }
+}
+
+/// The command that words are of the top call that runs threads. None where they are none, which takes no memory to find.
+#[tactic(auto, unfolding(crate::specs::Command::threads_command_of))]
+pub fn threads_command_of(
+    alloc: Global,
+    words: &[String],
+) -> Result<Option<ThreadsCommand>, OutOfMemory>
+    ensures value { IfOk result (λ command. command ≡ threads_command_of words.now) }
+    ensures usage { threads_command_of words.now ≡ None → result ≡ Ok None }
+    ensures limits { IfOk result (λ command. IfSome command IsThreadsInLimits) }
+{
+    match command_in(alloc, TopCall::Threads, words)? {
+        Some(AnyCommand::Threads(command)) => Ok(Some(command)),
+        Some(AnyCommand::Replay(_)) | None => Ok(None),
+    }
 }

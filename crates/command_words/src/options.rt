@@ -25,6 +25,8 @@ pub(crate) enum Name {
     Device,
     /// How many events are drawn.
     Events,
+    /// How many workers there are.
+    Workers,
 }
 
 /// What an option takes.
@@ -55,6 +57,7 @@ pub(crate) fn text_of(name: Name) -> &'static str
         Name::Text => "text",
         Name::Device => "device",
         Name::Events => "events",
+        Name::Workers => "workers",
     }
 }
 
@@ -70,6 +73,7 @@ pub(crate) fn takes_of(name: Name) -> Takes
         Name::Text => return Takes::Nothing,
         Name::Device => (1, 4096, None),
         Name::Events => (0, 100_000, Some(100)),
+        Name::Workers => (1, 16, Some(4)),
     };
     Takes::Number {
         least,

@@ -1,7 +1,8 @@
 //! The words of every command, as the grammar has them.
 
-use command_words::command_of;
+use command_words::{command_of, threads_command_of};
 use std::alloc::{AllocError, Global};
+use std::fmt::Debug;
 use std::test::Fail;
 
 /// Words, and the command that they are.
@@ -34,6 +35,52 @@ epochs --device=4096 --events=100000 --number 4294967295: Epochs { device: 4096,
 epochs --number=08 --device 0000000009 --events=010: Epochs { device: 9, number: 8, events: 10 }
 ";
 
+/// Words of the top call that runs threads, and the command that they are.
+const THREADS_COMMANDS: &str = "\
+run: Run { workers: 4 }
+run --workers=1: Run { workers: 1 }
+run --workers 16: Run { workers: 16 }
+run --workers=02: Run { workers: 2 }
+load --number=7 --devices=40 --rounds=19: Load { number: 7, devices: 40, rounds: 19, workers: 4 }
+load --workers 1 --rounds 19 --devices=40 --number 7: Load { number: 7, devices: 40, rounds: 19, workers: 1 }
+load --number=4294967295 --devices=1 --rounds=799 --workers=16: Load { number: 4294967295, devices: 1, rounds: 799, workers: 16 }
+load --number=0 --devices=800 --rounds=0: Load { number: 0, devices: 800, rounds: 0, workers: 4 }
+";
+
+/// Words that are no command of the top call that runs threads, a line each. The first line has none.
+const THREADS_USAGES: &str = "
+plain
+show
+replay --replicas=2
+make --number=7 --devices=40 --rounds=19
+epochs --device=3 --number=7
+Run
+run run
+run 4
+run --workers
+run --workers=
+run --workers=0
+run --workers=17
+run --workers=-1
+run --workers=00000000004
+run --workers=4 --workers=4
+run --workers=4 --workers 4
+run --number=7
+run --text
+--workers=4 run
+load
+load --workers=4
+load --number=7 --devices=40
+load --number=7 --devices=40 --rounds=20
+load --number=7 --devices=801 --rounds=0
+load --number=7 --devices=0 --rounds=0
+load --number=7 --devices=40 --rounds=19 --workers=0
+load --number=7 --devices=40 --rounds=19 --workers=17
+load --number=7 --devices=40 --rounds=19 --text
+load --number=7 --devices=40 --rounds=19 --replicas=2
+load --number=7 --devices=40 --rounds=19 --rounds=19
+";
+
 /// Words that are no command, a line each. The first line has none.
 const USAGES: &str = "
  plain
@@ -48,7 +95,10 @@ show show
 show --replicas 2
 show --number=1
 run
+run --workers=4
 load
+load --number=7 --devices=40 --rounds=19
+load --number=7 --devices=40 --rounds=19 --workers=4
 --replicas=2 replay
 replay plain
 replay 2
@@ -177,44 +227,67 @@ fn words_of(alloc: Global, line: &str) -> Result<Vec<String>, AllocError> {
     Ok(words)
 }
 
-/// Tells the words of a line again, and the command that they are.
-fn tell(alloc: Global, text: &mut String, line: &str) -> Result<(), AllocError> {
-    let words = words_of(alloc, line)?;
-    match command_of(alloc, &words)? {
+/// The top calls that have commands.
+#[derive(Clone, Copy)]
+enum TopCall {
+    Replay,
+    Threads,
+}
+
+/// Tells words again, and the command that they are.
+fn tell_command<C: Debug>(
+    text: &mut String,
+    line: &str,
+    command: Option<C>,
+) -> Result<(), AllocError> {
+    match command {
         Some(command) => writeln!(text, "{line}: {command:?}"),
         None => writeln!(text, "{line}"),
     }
 }
 
-/// Tells the commands again, each with what its words are.
-fn tell_commands(alloc: Global, text: &mut String) -> Result<(), Fail> {
-    for line in COMMANDS.lines() {
-        let (words, _) = line.split_once(": ").ok_or("no command")?;
-        tell(alloc, text, words)?;
+/// Tells the words of a line again, and the command of a top call that they are.
+fn tell(alloc: Global, top: TopCall, text: &mut String, line: &str) -> Result<(), AllocError> {
+    let words = words_of(alloc, line)?;
+    match top {
+        TopCall::Replay => tell_command(text, line, command_of(alloc, &words)?),
+        TopCall::Threads => tell_command(text, line, threads_command_of(alloc, &words)?),
     }
-    Ok(())
+}
+
+/// Tells the commands again, each with what its words are.
+fn told_commands(alloc: Global, top: TopCall, lines: &str) -> Result<String, Fail> {
+    let mut text = String::new(alloc);
+    for line in lines.lines() {
+        let (words, _) = line.split_once(": ").ok_or("no command")?;
+        tell(alloc, top, &mut text, words)?;
+    }
+    Ok(text)
 }
 
 /// Tells again the words that are no command, each line with what they are.
-fn tell_usages(alloc: Global, text: &mut String) -> Result<(), AllocError> {
-    for words in USAGES.lines() {
-        tell(alloc, text, words)?;
+fn told_usages(alloc: Global, top: TopCall, lines: &str) -> Result<String, AllocError> {
+    let mut text = String::new(alloc);
+    for words in lines.lines() {
+        tell(alloc, top, &mut text, words)?;
     }
-    Ok(())
+    Ok(text)
 }
 
 #[test]
 fn words_are_commands(rt: HostRuntime) -> Result<(), Fail> {
-    let mut text = String::new(rt.alloc());
-    tell_commands(rt.alloc(), &mut text)?;
-    assert_eq!(rt; text.as_str(), COMMANDS);
+    let own = told_commands(rt.alloc(), TopCall::Replay, COMMANDS)?;
+    assert_eq!(rt; own.as_str(), COMMANDS);
+    let threads = told_commands(rt.alloc(), TopCall::Threads, THREADS_COMMANDS)?;
+    assert_eq!(rt; threads.as_str(), THREADS_COMMANDS);
     Ok(())
 }
 
 #[test]
 fn other_words_are_none(rt: HostRuntime) -> Result<(), Fail> {
-    let mut text = String::new(rt.alloc());
-    tell_usages(rt.alloc(), &mut text)?;
-    assert_eq!(rt; text.as_str(), USAGES);
+    let own = told_usages(rt.alloc(), TopCall::Replay, USAGES)?;
+    assert_eq!(rt; own.as_str(), USAGES);
+    let threads = told_usages(rt.alloc(), TopCall::Threads, THREADS_USAGES)?;
+    assert_eq!(rt; threads.as_str(), THREADS_USAGES);
     Ok(())
 }

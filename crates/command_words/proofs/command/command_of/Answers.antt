@@ -1,7 +1,8 @@
-use Rattle.std.proofs.Common.{sym, subst, rules}
-use Rattle.command_words.specs.Command.{IsInLimits}
-use Rattle.command_words.proofs.Words.{in_limits}
+use Rattle.std.proofs.Common.{map, string_bytes}
+use Rattle.command_words.specs.Command.{command_of}
+use Rattle.command_words.proofs.Own.{none_of_replay}
 use Rattle.command_words.proofs.command.command_of.Goals as goal
 
-pub returns-clause-limits : goal.returns-clause-limits
-returns-clause-limits c = subst IsInLimits (sym c.in_ok-command.ensures) (in_limits c.in-Some.word _ (search rules))
+pub returns-in_err-command-clause-usage : goal.returns-in_err-command-clause-usage
+unfolding command_of
+returns-in_err-command-clause-usage c = λ none. let never = c.in_err-command.ensures.usage (none_of_replay (map string_bytes c.args.words.now) none) in cc
