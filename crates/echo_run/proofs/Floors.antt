@@ -28,7 +28,8 @@ use Rattle.report_text.specs.Summary.{summary_line}
 use Rattle.echo_run.specs.Answer.{replay_of, Ran, IsWithoutFloor}
 use Rattle.command_words.specs.Command.{command_of}
 use Rattle.echo_run.specs.Replay.{setting_of, lines_from, transcript_of, IsRun}
-use Rattle.echo_run.specs.Summary.{made_replicas, scheduled_of, summary_by, summary_of}
+use Rattle.echo_run.specs.Summary.{made_replicas, scheduled_of, summary_by}
+use Rattle.top_calls.specs.Summary.{summary_of}
 use Rattle.echo_run.specs.Top.{Tells}
 use Rattle.command_words.specs.declared.command.Command.{Command}
 use Rattle.command_words.specs.declared.command.Command.TheVariants.{Plain, Replay, Show, Make, Epochs}
@@ -69,15 +70,15 @@ exactly_told rows H schedule replicas first ends text given are same is =
     ∙ ap (λ (T : List Turn). lines_from 1 (map (λ t. t.1) T) ++ final_text rows (refused_of H) (finals_of rows (book_of (length rows) H))) same_turns
     ∙ ap (λ (told : List EventAnswer). lines_from 1 told ++ final_text rows (refused_of H) (finals_of rows (book_of (length rows) H))) (turned (history s schedule) [])
 
-pub exactly_summed : (rows : List Subscriber) (H : List Admission) (schedule : List Event) (first : List Turn) (ends : List DeviceEnd) (text : List ℕ) → events_of first ≡ schedule → AreAnswered (setting_of rows H made_replicas) first → ends ≡ finals_of rows (book_of (length rows) H) → text ≡ summary_line (summary_of (book_of (length rows) H) (refused_of H) (scheduled_of (map (λ t. t.1) first)) ends) → text ≡ summary_by rows H schedule
+pub exactly_summed : (rows : List Subscriber) (H : List Admission) (schedule : List Event) (first : List Turn) (ends : List DeviceEnd) (text : List ℕ) → events_of first ≡ schedule → AreAnswered (setting_of rows H made_replicas) first → ends ≡ finals_of rows (book_of (length rows) H) → text ≡ summary_line (summary_of (book_of (length rows) H) (refused_of H) (Some (scheduled_of (map (λ t. t.1) first))) ends) → text ≡ summary_by rows H schedule
 exactly_summed rows H schedule first ends text given are same is =
     let s = setting_of rows H made_replicas in
     let book = book_of (length rows) H in
     let same_turns = are ∙ ap (λ (es : List Event). reverse (history s es)) given in
     is
-    ∙ ap (λ (fs : List DeviceEnd). summary_line (summary_of book (refused_of H) (scheduled_of (map (λ t. t.1) first)) fs)) same
-    ∙ ap (λ (T : List Turn). summary_line (summary_of book (refused_of H) (scheduled_of (map (λ t. t.1) T)) (finals_of rows book))) same_turns
-    ∙ ap (λ (told : List EventAnswer). summary_line (summary_of book (refused_of H) (scheduled_of told) (finals_of rows book))) (turned (history s schedule) [])
+    ∙ ap (λ (fs : List DeviceEnd). summary_line (summary_of book (refused_of H) (Some (scheduled_of (map (λ t. t.1) first))) fs)) same
+    ∙ ap (λ (T : List Turn). summary_line (summary_of book (refused_of H) (Some (scheduled_of (map (λ t. t.1) T))) (finals_of rows book))) same_turns
+    ∙ ap (λ (told : List EventAnswer). summary_line (summary_of book (refused_of H) (Some (scheduled_of told)) (finals_of rows book))) (turned (history s schedule) [])
 
 -- ---- a world of its own
 

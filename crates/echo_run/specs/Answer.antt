@@ -1,41 +1,24 @@
 -- What a command makes of a case text: a text, or a refusal with its number and line.
-use Rattle.std.specs.Prelude.{◌≡◌, ◌≤◌, ◌++◌, ℕ, Bool, true, false, List, length, All, Option, Some, None, Result, Ok, Err, if◌then◌else◌}
-use Rattle.echo_base.specs.Reason.{reason_number}
-use Rattle.echo_base.specs.declared.reason.Reason.{Reason}
+use Rattle.std.specs.Prelude.{◌≡◌, ◌++◌, ℕ, Bool, true, false, List, length, Option, Result, Ok, Err, if◌then◌else◌}
 use Rattle.device_types.specs.declared.event.Event.{Event}
 use Rattle.device_types.specs.declared.finals.DeviceEnd.{DeviceEnd}
 use Rattle.device_types.specs.declared.subscriber.Subscriber.{Subscriber}
 use Rattle.case_form.specs.declared.case.TraceLine.{TraceLine}
 use Rattle.case_form.specs.Case.{first_bad, rows_of, trace_of, schedule_of}
 use Rattle.case_form.specs.Lines.{lines_of}
-use Rattle.device_types.specs.Line.{IsLine}
-use Rattle.entry_edge.specs.declared.admission.Admitted.{Admitted}
-use Rattle.entry_edge.specs.Trace.{Turn, history, book_of, refused_of}
-use Rattle.device_machine.specs.Ends.{finals_of}
+use Rattle.entry_edge.specs.Trace.{Turn, history, book_of}
 use Rattle.schedule_laws.specs.Counts.{Turn as Answered}
 use Rattle.schedule_laws.specs.Setting.{Setting}
 use Rattle.epoch_run.specs.Text.{device_text}
-use Rattle.link_schedule.specs.World.{IsShort}
 use Rattle.report_text.specs.Show.{show_text}
-use Rattle.report_text.specs.Final.{final_text}
 use Rattle.command_words.specs.declared.command.Command.{Command}
 use Rattle.command_words.specs.declared.command.Command.TheVariants.{Plain, Replay, Show, Make, Epochs}
-use Rattle.echo_run.specs.declared.answer.NoText.{NoText}
-use Rattle.echo_run.specs.declared.answer.NoText.TheVariants as no
+use Rattle.top_calls.specs.declared.no_text.NoText.{NoText}
+use Rattle.top_calls.specs.declared.no_text.NoText.TheVariants as no
+use Rattle.top_calls.specs.Answers.{unless_bad}
+use Rattle.top_calls.specs.Ends.{plain_of}
 use Rattle.echo_run.specs.Replay.{setting_of, transcript_of, told_of, IsRun}
 use Rattle.echo_run.specs.Summary.{made_replicas, summary_by, summary_on}
-
--- what admission gives of a case
-pub record IsAdmitted (rows : List Subscriber) (H : List Turn) (admitted : Admitted) : Type 0 where
-  pub book : admitted.book ≡ book_of (length rows) H
-  pub refused : admitted.refused.items ≡ refused_of H
-  pub lines : All IsLine admitted.book
-  pub each : length admitted.book ≡ length rows
-  pub short : All IsShort admitted.book
-
--- the refused lines, and what becomes of each device that is alone with its admitted messages
-abbrev pub plain_of : List Subscriber → List Turn → List ℕ
-plain_of rows H = final_text rows (refused_of H) (finals_of rows (book_of (length rows) H))
 
 -- what the events of the schedule come to with so many replicas, and then that
 abbrev pub replay_of : List Subscriber → List Turn → List Event → ℕ → List ℕ
@@ -60,10 +43,6 @@ text_of (Replay replicas) rows trace schedule = replay_of rows (history rows tra
 text_of Show rows trace schedule = show_text trace
 text_of (Make number devices rounds text) rows trace schedule = summary_by rows (history rows trace) schedule
 text_of (Epochs device number events) rows trace schedule = epochs_of rows (history rows trace) device number events
-
-abbrev pub unless_bad : Option (ℕ × Reason) → List ℕ → Result (List ℕ) (ℕ × ℕ)
-unless_bad None text = Ok text
-unless_bad (Some bad) text = Err (reason_number bad.1, bad.0)
 
 -- the case text where that is wanted; else the refusal of its first bad line, and where none is bad the text of the case
 unfoldable pub answer_of : Command → List ℕ → Result (List ℕ) (ℕ × ℕ)
@@ -114,8 +93,3 @@ abbrev pub IsAnswer : Result (List ℕ) NoText → Result (List ℕ) (ℕ × ℕ
 IsAnswer (Ok text) wanted = wanted ≡ Ok text
 IsAnswer (Err (no.Refused number line)) wanted = wanted ≡ Err (number, line)
 IsAnswer (Err no.OutOfMemory) wanted = Unit {0}
-
--- a refusal is of a line, and these are numbered from 1
-abbrev pub IsOfLine : NoText → Type 0
-IsOfLine (no.Refused number line) = 1 ≤ line
-IsOfLine no.OutOfMemory = Unit {0}

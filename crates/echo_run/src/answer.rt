@@ -1,92 +1,41 @@
 //! What a command makes of a case text.
 
 ghost use Rattle.std.specs.Prelude.{◌≡◌, ◌≢◌, ◌≤◌, ℕ, length, true, false, Ok, Err, IfOk, IfErr, OnOk, All};
-ghost use Rattle.echo_base.specs.Reason.{reason_number};
 ghost use Rattle.device_types.specs.Numbers.{IsWithin};
 ghost use Rattle.entry_edge.specs.Trace.{history};
-ghost use Rattle.echo_run.specs.Answer.{IsAdmitted, plain_of, replay_of, epochs_of, is_case_wanted, text_of, answer_of, text_on, told_by, RunsOn, Ran, IsWithoutFloor, IsAnswer, IsOfLine};
+ghost use Rattle.echo_run.specs.Answer.{replay_of, epochs_of, is_case_wanted, text_of, answer_of, text_on, told_by, RunsOn, Ran, IsWithoutFloor, IsAnswer};
 ghost use Rattle.command_words.specs.Command.{IsInLimits};
 ghost use Rattle.echo_run.specs.Replay.{told_of, IsRun};
 ghost use Rattle.echo_run.specs.Summary.{made_replicas, summary_by, summary_on};
 ghost use Rattle.link_schedule.specs.Floor.{AreEndsOn, IsOpen};
 ghost use Rattle.schedule_laws.specs.Lists.{Begins};
-ghost use Rattle.echo_run.specs.declared.answer.NoText.TheVariants as no_text;
+ghost use Rattle.top_calls.specs.Answers.{IsOfLine};
+ghost use Rattle.top_calls.specs.Ends.{IsAdmitted, plain_of};
+ghost use Rattle.top_calls.specs.declared.no_text.NoText.TheVariants as no_text;
 
 use crate::ends::finals_of;
 use crate::replay::transcript;
-use crate::summary::{scheduled, summary_text};
+use crate::summary::scheduled;
 use case_form::{Case, CaseBad, read_case};
 use command_words::Command;
 use device_types::{Finals, Octets};
-use echo_base::{OutOfMemory, Reason};
-use entry_edge::{Admitted, admit};
+use echo_base::OutOfMemory;
 use epoch_run::device_text;
 use link_schedule::Floor;
 use report_text::{final_text, show_text};
 use std::alloc::Global;
+use top_calls::{NoText, admitted, ends_text, summary_text};
 
 /// How many replicas a made case runs with.
 const MADE_REPLICAS: u32 = 2;
-
-/// Why there is no text.
-#[derive(Clone, Copy, Debug, PartialEq, Eq)]
-pub enum NoText {
-    /// The case is refused.
-    Refused {
-        /// The number of the reason.
-        number: u8,
-        /// The line.
-        line: u32,
-    },
-    /// There was no memory.
-    OutOfMemory,
-}
-
-impl From<OutOfMemory> for NoText {
-    ghost use Rattle.std.specs.Prelude.{◌≡◌};
-    ghost use Rattle.echo_run.specs.declared.answer.NoText.TheVariants.{OutOfMemory};
-
-    ghost from_gives = { λ _ no. no ≡ OutOfMemory };
-
-    fn from(_bad: OutOfMemory) -> NoText {
-        NoText::OutOfMemory
-    }
-}
-
-/// A case that is refused for a line.
-fn refused(reason: Reason, line: u32) -> NoText
-    ensures { result ≡ NoText.Refused (reason_number reason) line }
-{
-    NoText::Refused {
-        number: reason.number(),
-        line,
-    }
-}
-
-/// What admission gives of a case.
-fn admitted(alloc: Global, case: &Case) -> Result<Admitted, OutOfMemory>
-    ensures { IfOk result (IsAdmitted case.now.table (history case.now.table case.now.trace)) }
-{
-    let admitted = admit(alloc, case.table(), case.trace())?;
-    Ok(admitted)
-}
-
-/// The lines that admission refused, and what becomes of the devices.
-fn ends_text(alloc: Global, case: &Case, admitted: &Admitted) -> Result<Octets, OutOfMemory>
-    requires { IsAdmitted case.now.table (history case.now.table case.now.trace) admitted.now }
-    ensures { IfOk result (λ text. text ≡ plain_of case.now.table (history case.now.table case.now.trace)) }
-{
-    let table = case.table();
-    let finals = finals_of(alloc, table, &admitted.book)?;
-    final_text(alloc, table, &admitted.refused, &finals)
-}
 
 /// What becomes of the devices of a case.
 fn plain(alloc: Global, case: &Case) -> Result<Octets, OutOfMemory>
     ensures { IfOk result (λ text. text ≡ plain_of case.now.table (history case.now.table case.now.trace)) }
 {
     let admitted = admitted(alloc, case)?;
-    ends_text(alloc, case, &admitted)
+    let finals = finals_of(alloc, case.table(), &admitted.book)?;
+    ends_text(alloc, case, &admitted, &finals)
 }
 
 /// What became of the devices of a floor, once it has settled.
@@ -144,7 +93,7 @@ fn summary<F: Floor>(alloc: Global, case: &Case, floor: &mut F) -> Result<Octets
     floor.open(alloc, table, &admitted.book, MADE_REPLICAS)?;
     let counts = scheduled(floor, case.schedule())?;
     let ends = settled_ends(alloc, floor)?;
-    let text = summary_text(alloc, &admitted, counts, &ends)?;
+    let text = summary_text(alloc, &admitted, Some(counts), &ends)?;
     Ok(text)
 }
 
@@ -227,7 +176,7 @@ pub fn answer<F: Floor>(
     }
     let case = match read_case(alloc, octets.octets()) {
         Ok(case) => case,
-        Err(CaseBad::Refused { reason, line }) => return Err(refused(reason, line)),
+        Err(CaseBad::Refused { reason, line }) => return Err(NoText::refused(reason, line)),
         Err(CaseBad::OutOfMemory) => return Err(NoText::OutOfMemory),
     };
     let text = text_of(alloc, command, &case, floor)?;

@@ -4,7 +4,8 @@ ghost use Rattle.std.specs.Prelude.{◌≡◌, ◌≢◌, ◌↔◌, ◌⊎◌, 
 ghost use Rattle.echo_base.specs.Outside.{IsTakenBy, IsPut, Rose};
 ghost use Rattle.echo_run.specs.Answer.{IsWithoutFloor};
 ghost use Rattle.command_words.specs.Command.{command_of};
-ghost use Rattle.echo_run.specs.Top.{most_octets, IsMaking, Answers, Tells, Owes};
+ghost use Rattle.echo_run.specs.Top.{IsMaking, Answers, Tells, Owes};
+ghost use Rattle.top_calls.specs.Case.{most_octets};
 ghost use Rattle.command_words.specs.declared.command.Command.{Command};
 ghost use Rattle.link_schedule.specs.Own.{setting_by, given_by, ends_by, IsWhole};
 

@@ -1,65 +1,38 @@
 //! The top call.
 
-ghost use Rattle.std.specs.Prelude.{◌≡◌, ◌≢◌, ◌↔◌, ◌⊎◌, ◌+◌, ◌≤◌, ◌++◌, ℕ, List, length, true, Some, None, Ok, Err, IfOk};
+ghost use Rattle.std.specs.Prelude.{◌≡◌, ◌≢◌, ◌↔◌, ◌⊎◌, ◌+◌, ◌≤◌, ◌++◌, ℕ, List, true, Some, None, Ok, Err, IfSome};
 ghost use Rattle.echo_base.specs.Outside.{IsTakenBy, IsPut, Rose};
 ghost use Rattle.command_words.specs.Command.{command_of, IsInLimits};
 ghost use Rattle.command_words.specs.declared.command.Command.{Command};
-ghost use Rattle.echo_run.specs.Top.{most_octets, made_by, case_of, IsMaking, IsCase, Answers, Tells, Owes};
+ghost use Rattle.echo_run.specs.Top.{made_in, IsMaking, Answers, Tells, Owes};
 ghost use Rattle.echo_run.specs.Answer.{IsWithoutFloor};
+ghost use Rattle.top_calls.specs.Case.{most_octets, IsSmall};
 
-use crate::answer::{NoText, answer};
+use crate::answer::answer;
 use command_words::{Command, command_of};
-use device_types::Octets;
-use echo_base::{OutOfMemory, ReadAll, Reason, Sink, Source, Status, read_all, write_all};
+use echo_base::{OutOfMemory, Sink, Source, Status};
 use link_schedule::Floor;
 use std::alloc::Global;
-use trace_gen::make_case;
+use top_calls::{MadeCase, NoText, case_text, put_text};
 
-/// The most octets of a case text.
-const MOST_OCTETS: usize = 67_108_864;
-
-/// The case text of a command: the case that it makes, or all that the source has.
-fn case_text<S: Source>(alloc: Global, command: Command, input: &mut S) -> Result<Octets, ReadAll>
+/// The numbers of the case that a command makes; the others read one.
+fn made(command: Command) -> Option<MadeCase>
     requires { IsInLimits command }
-    ensures case { IfOk result (λ octets. IsCase (made_by command) (S.left input.old) octets (S.left input.new)) }
-    ensures wanted { (octets : List ℕ) → case_of command (S.left input.old) ≡ Some octets → IfOk result (λ other. other ≡ octets) }
-    ensures fits { (octets : List ℕ) → case_of command (S.left input.old) ≡ Some octets → result ≢ Err ReadAll.TooLong }
-    ensures fault { result ≡ Err ReadAll.ReadFault → Rose (S.faults input.old) (S.faults input.new) }
-    ensures too_long { result ≡ Err ReadAll.TooLong
-        → IsTakenBy (λ n. n ≡ most_octets + 1) (S.left input.old) (S.left input.new) }
-    ensures short { result ≢ Err ReadAll.TooLong
-        → IsTakenBy (λ n. n ≤ most_octets) (S.left input.old) (S.left input.new) }
-    ensures makes { IsMaking command → input.new ≡ input.old }
-    ensures no_fault { IsMaking command → (result ≢ Err ReadAll.ReadFault) × (result ≢ Err ReadAll.TooLong) }
+    ensures made { result ≡ made_in command }
+    ensures small { IfSome result IsSmall }
 {
     match command {
-        Command::Plain | Command::Replay { .. } | Command::Show | Command::Epochs { .. } => {
-            let octets = read_all(alloc, input, MOST_OCTETS)?;
-            Ok(Octets::from(octets))
-        }
+        Command::Plain | Command::Replay { .. } | Command::Show | Command::Epochs { .. } => None,
         Command::Make {
             number,
             devices,
             rounds,
             ..
-        } => {
-            let text = make_case(alloc, number, devices, rounds)?;
-            Ok(text)
-        }
-    }
-}
-
-/// Writes the text to the sink.
-fn put_text<K: Sink>(out: &mut K, text: &Octets) -> Status
-    ensures status { (result ≡ Status.Done) ⊎ (result ≡ Status.WriteFault) }
-    ensures done { result ≡ Status.Done → IsPut (K.held out.old) text.now (K.held out.new) }
-    ensures fault { result ≡ Status.WriteFault → Rose (K.faults out.old) (K.faults out.new) }
-    ensures front { result ≡ Status.WriteFault → (piece rest : List ℕ) × (text.now ≡ piece ++ rest)
-        × IsPut (K.held out.old) piece (K.held out.new) }
-{
-    match write_all(out, text.octets()) {
-        Ok(()) => Status::Done,
-        Err(_) => Status::WriteFault,
+        } => Some(MadeCase {
+            number,
+            devices,
+            rounds,
+        }),
     }
 }
 
@@ -153,16 +126,9 @@ pub fn replay_top<S: Source, K: Sink, F: Floor>(
         Ok(None) => return Status::Usage,
         Err(OutOfMemory) => return Status::OutOfMemory,
     };
-    let octets = match case_text(alloc, command, input) {
+    let octets = match case_text(alloc, made(command), input) {
         Ok(octets) => octets,
-        Err(ReadAll::ReadFault) => return Status::ReadFault,
-        Err(ReadAll::TooLong) => {
-            return Status::CaseRefused {
-                number: Reason::TooLong.number(),
-                line: 0,
-            };
-        }
-        Err(ReadAll::OutOfMemory) => return Status::OutOfMemory,
+        Err(status) => return status,
     };
     let text = match answer(alloc, command, octets, floor) {
         Ok(text) => text,

@@ -11,7 +11,8 @@ use Rattle.report_text.specs.Summary.{summary_line}
 use Rattle.report_text.specs.declared.summary.Scheduled.{Scheduled}
 use Rattle.schedule_laws.specs.Promise.{setting}
 use Rattle.echo_run.specs.Replay.{setting_of}
-use Rattle.echo_run.specs.Summary.{made_replicas, scheduled_of, summary_of}
+use Rattle.echo_run.specs.Summary.{made_replicas, scheduled_of}
+use Rattle.top_calls.specs.Summary.{summary_of}
 use Rattle.echo_run.proofs.Floors.{is_run, exactly_summed}
 use Rattle.echo_run.proofs.Schedule.{case_events}
 use Rattle.echo_run.proofs.answer.summary.Goals as goal
@@ -52,9 +53,9 @@ returns-clause-definition g c = λ exact.
     let is_exact = c.in_ok-counts.ensures.exact ∙ c.in_ok-open.ensures.exact ∙ exact in
     let ends = (returns-clause-run g c).exact_ends exact in
     let text = c.in_ok-text.ensures
-    ∙ ap (λ (x : List (List Message)). summary_line (summary_of x refused counts finals)) c.in_ok-admitted.ensures.book
-    ∙ ap (λ (x : List RefusedLine). summary_line (summary_of (book_of (length rows) H) x counts finals)) c.in_ok-admitted.ensures.refused
-    ∙ ap (λ (x : Scheduled). summary_line (summary_of (book_of (length rows) H) (refused_of H) x finals)) c.in_ok-counts.ensures.counts
-    ∙ ap (λ (x : List DeviceEnd). summary_line (summary_of (book_of (length rows) H) (refused_of H) (scheduled_of (map (λ turn. turn.1) first)) x)) c.in_ok-ends.ensures.ends in
+    ∙ ap (λ (x : List (List Message)). summary_line (summary_of x refused (Some counts) finals)) c.in_ok-admitted.ensures.book
+    ∙ ap (λ (x : List RefusedLine). summary_line (summary_of (book_of (length rows) H) x (Some counts) finals)) c.in_ok-admitted.ensures.refused
+    ∙ ap (λ (x : Scheduled). summary_line (summary_of (book_of (length rows) H) (refused_of H) (Some x) finals)) c.in_ok-counts.ensures.counts
+    ∙ ap (λ (x : List DeviceEnd). summary_line (summary_of (book_of (length rows) H) (refused_of H) (Some (scheduled_of (map (λ turn. turn.1) first))) x)) c.in_ok-ends.ensures.ends in
     exactly_summed rows H c.args.case.now.schedule first (g.F.Floor.ends settled) c.in_ok-text.text
     (c.in_ok-counts.ensures.given ∙ c.schedule.ensures.value) (g.met.F.Floor.answered told (setting_of rows H made_replicas) is_exact on) ends text

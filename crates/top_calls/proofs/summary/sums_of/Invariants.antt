@@ -1,6 +1,6 @@
 use Rattle.std.proofs.Common.{◌≡◌, ◌*◌, ◌≤◌, length, take}
 use Rattle.std.specs.List.{sum_by}
-use Rattle.echo_run.proofs.summary.sums_of.Given as goal
+use Rattle.top_calls.proofs.summary.sums_of.Given as goal
 
 abbrev pub invariant-loop-end : goal.invariant-loop-end
 invariant-loop-end l = record {

@@ -5,7 +5,7 @@ use Rattle.device_types.specs.declared.subscriber.Subscriber.{Subscriber}
 use Rattle.case_form.specs.declared.case.TraceLine.{TraceLine}
 use Rattle.entry_edge.specs.Trace.{history, book_of, refused_of}
 use Rattle.link_schedule.specs.World.{IsShort}
-use Rattle.echo_run.proofs.answer.admitted.Goals as goal
+use Rattle.top_calls.proofs.admission.admitted.Goals as goal
 
 pub returns : goal.returns
 returns c =
@@ -15,6 +15,7 @@ returns c =
     let lent = c.trace.ensures.value in
     let given = c.in_ok-admitted.ensures in
     record {
+      table = c.table.ensures.rows;
       book = given.book ∙ ap (λ (x : List TraceLine). book_of (length table) (history table x)) lent ∙ ap (λ (x : List Subscriber). book_of (length x) (history x trace)) rows;
       refused = given.refused ∙ ap (λ (x : List TraceLine). refused_of (history table x)) lent ∙ ap (λ (x : List Subscriber). refused_of (history x trace)) rows;
       lines = given.lines;

@@ -1,0 +1,4 @@
+pub mod Answers
+pub mod Case
+pub mod Ends
+pub mod Summary
