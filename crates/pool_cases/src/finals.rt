@@ -11,8 +11,8 @@ use std::thread::Threads;
 use subs_table::SubsTable;
 use worker_pool::{OpenGate, run_pool};
 
-/// The first attaches as far as its base station sets up its context: the vectors, the subscription and the session are asked for,
-/// and each answer is a step. The second is refused after its wrong response, the third at once; both are let go.
+/// The first attaches as far as its base station sets up its context: the vectors, the subscription and the session are asked
+/// for, and each answer is a step. The second is refused after its wrong response, the third at once; both are let go.
 const FINALS: &str = "\
 3 messages, 6 steps, 3 downs, [Create] [Vectors, Location] Accepting
 2 messages, 3 steps, 3 downs, [] [Vectors] Releasing

@@ -1,5 +1,5 @@
 -- The calls of a lane, and what an offer leaves of how many were accepted.
-use Rattle.std.proofs.Common.{◌≡◌, ◌≤◌, ◌+◌, ◌-◌, ℕ, true, ⊎_elim, List, [], ◌∷◌, ◌++◌, Some, length, refl, sym, ap, ◌∙◌, subst, arith, append_assoc, length-append}
+use Rattle.std.proofs.Common.{◌≡◌, ◌≤◌, ◌+◌, ◌-◌, ℕ, true, ⊎_elim, List, [], ◌∷◌, Some, length, refl, sym, ap, ◌∙◌, subst, arith, length-append}
 use Rattle.std.specs.Prelude.{All, slice_get}
 use Rattle.std.proofs.lemmas.Bool.{cases_eq}
 use Rattle.std.proofs.lemmas.List.Elements.{All-append, All-get_or, filter_passes}
@@ -78,9 +78,6 @@ told charter d k call accepted (Ahead last) is = let same = is.0 in omega arith
 
 pub whole_more : (charter : CharterState) (d : ℕ) (l : Lane) (old new : List Effect) → Begins old new → HasWhole charter d l old → HasWhole charter d l new
 whole_more charter d l old new more whole = let longer = ap length more.1 ∙ length-append old more.0 in let least = whole in omega arith
-
-pub begins_trans : {X : Type 0} (xs ys zs : List X) → Begins xs ys → Begins ys zs → Begins xs zs
-begins_trans xs ys zs p q = (p.0 ++ q.0, q.1 ∙ (ap (λ w. w ++ q.0) p.1 ∙ append_assoc xs p.0 q.0))
 
 -- of both lanes of calls
 pub both : (P : Lane → Type 0) → P lane.Gateway → P lane.Subscriber → (l : Lane) → IsCallLane l → P l

@@ -92,8 +92,8 @@ fn end_of(alloc: Global, journal: &[Entry]) -> Result<DeviceEnd, AllocError>
     })
 }
 
-/// What became of each of the devices of closed rows, in the order of their numbers: where each journal is whole, what the machine
-/// alone comes to. It fails for want of memory alone.
+/// What became of each of the devices of closed rows, in the order of their numbers: where each journal is whole, what the
+/// machine alone comes to. It fails for want of memory alone.
 pub fn finals<T: SharedRows>(
     alloc: Global,
     closed: &T::Closed,

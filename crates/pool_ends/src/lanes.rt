@@ -4,9 +4,9 @@ ghost use Rattle.device_types.specs.declared.event.Lane.{Lane};
 ghost use Rattle.device_types.specs.Event.{IsCallLane};
 ghost use Rattle.device_types.specs.Journal.{effects_of, effects_on, is_on};
 ghost use Rattle.session_store.specs.Charter.{alone_in};
-ghost use Rattle.session_store.specs.Rows.{Begins, IsDevice};
+ghost use Rattle.session_store.specs.Rows.{IsDevice};
 ghost use Rattle.store_shared.specs.Legal.{lane_of};
-ghost use Rattle.pool_rows.specs.Seats.{IsCall};
+ghost use Rattle.pool_rows.specs.Seats.{GoesOn, IsCall, KnowsCalls};
 ghost use Rattle.pool_ends.specs.Lanes.{HasWhole, told_count};
 
 use device_types::{DeviceId, Effect, Entry, Lane, ListOf, Offer, TryCopy};
@@ -75,9 +75,7 @@ fn offer_call<P: SharedCalls, R: Wait>(
 ) -> Result<u64, AllocError>
     requires call { IsCall (P.charter peers.now) d.0 k call }
     requires seat { P.is_seat peers.now seat.old }
-    ensures seat { P.is_seat peers.now seat.new }
-    ensures speaks { (n : ℕ) → P.speaks seat.old n → P.speaks seat.new n }
-    ensures extends { (i : ℕ) (l : Lane) → Begins (P.known seat.old i l) (P.known seat.new i l) }
+    ensures seat { GoesOn (P.is_seat peers.now) P.speaks (KnowsCalls P.known) seat.old seat.new }
     ensures count { IfOk result (λ count. count ≤ length (P.known seat.new d.0 (lane_of call))) }
     ensures next { OnOk result (k ≤ length (P.known seat.old d.0 (lane_of call)) + 1 → k ≤ length (P.known seat.new d.0 (lane_of call))) }
 {
@@ -100,9 +98,7 @@ fn bring_lane<P: SharedCalls, R: Wait>(
     requires lane { IsCallLane lane }
     requires journal { journal.now ≡ alone_in (P.charter peers.now) d.0 }
     requires seat { P.is_seat peers.now seat.old }
-    ensures seat { P.is_seat peers.now seat.new }
-    ensures speaks { (n : ℕ) → P.speaks seat.old n → P.speaks seat.new n }
-    ensures extends { (i : ℕ) (l : Lane) → Begins (P.known seat.old i l) (P.known seat.new i l) }
+    ensures seat { GoesOn (P.is_seat peers.now) P.speaks (KnowsCalls P.known) seat.old seat.new }
     ensures whole { OnOk result (HasWhole (P.charter peers.now) d.0 lane (P.known seat.new d.0 lane)) }
 {
     let made = effects_of(alloc, journal, lane)?;
@@ -131,9 +127,7 @@ fn bring_device<T: SharedRows, P: SharedCalls, R: Wait>(
     requires closed { T.closes (P.charter peers.now) closed.now }
     requires whole { length (alone_in (P.charter peers.now) d.0) ≤ length (T.journal closed.now d.0) }
     requires seat { P.is_seat peers.now seat.old }
-    ensures seat { P.is_seat peers.now seat.new }
-    ensures speaks { (n : ℕ) → P.speaks seat.old n → P.speaks seat.new n }
-    ensures extends { (i : ℕ) (l : Lane) → Begins (P.known seat.old i l) (P.known seat.new i l) }
+    ensures seat { GoesOn (P.is_seat peers.now) P.speaks (KnowsCalls P.known) seat.old seat.new }
     ensures journal { OnOk result (T.journal closed.now d.0 ≡ alone_in (P.charter peers.now) d.0) }
     ensures whole { OnOk result ((l : Lane) → IsCallLane l → HasWhole (P.charter peers.now) d.0 l (P.known seat.new d.0 l)) }
 {
@@ -156,8 +150,7 @@ pub fn bring_lanes<T: SharedRows, P: SharedCalls, R: Wait>(
     requires closed { T.closes (P.charter peers.now) closed.now }
     requires whole { (d : ℕ) → IsDevice devices d → length (alone_in (P.charter peers.now) d) ≤ length (T.journal closed.now d) }
     requires seat { P.is_seat peers.now seat.old }
-    ensures seat { P.is_seat peers.now seat.new }
-    ensures speaks { (n : ℕ) → P.speaks seat.old n → P.speaks seat.new n }
+    ensures seat { GoesOn (P.is_seat peers.now) P.speaks (KnowsCalls P.known) seat.old seat.new }
     ensures journals { OnOk result ((d : ℕ) → IsDevice devices d → T.journal closed.now d ≡ alone_in (P.charter peers.now) d) }
     ensures whole { OnOk result ((d : ℕ) (l : Lane) → IsDevice devices d → IsCallLane l → HasWhole (P.charter peers.now) d l (P.known seat.new d l)) }
 {

@@ -1,15 +1,15 @@
 -- What a call of the store says of the row that the seat knows behind it.
-use Rattle.std.proofs.Common.{◌≡◌, ◌-◌, ℕ, cond, Bool, true, false, List, [], ◌∷◌, ◌++◌, Option, Some, None, length, refl, sym, ap, ◌∙◌, subst, arith, length-append, eq-eqb}
-use Rattle.std.specs.Prelude.{nat_le, nat_lt, slice_get}
-use Rattle.std.proofs.lemmas.Bool.Decides.{nat_tests}
+use Rattle.std.proofs.Common.{◌≡◌, ◌≤◌, ◌==◌, max, ℕ, cond, Bool, true, false, List, [], ◌∷◌, ◌++◌, Option, length, refl, sym, ap, ◌∙◌, subst, arith, length-append, eq-eqb}
+use Rattle.std.specs.Prelude.{All, slice_get}
+use Rattle.std.proofs.Math.Nat.{le-max_right}
 use Rattle.device_types.specs.declared.effect.Effect.{Effect}
 use Rattle.device_types.specs.declared.event.Lane.{Lane}
+use Rattle.device_types.specs.declared.event.Lane.TheVariants as lanes
 use Rattle.device_types.specs.declared.step.Entry.{Entry}
 use Rattle.device_types.specs.declared.subscriber.DeviceId.{DeviceId}
-use Rattle.device_types.specs.Journal.{effects_of}
 use Rattle.effect_outbox.specs.declared.settled.Settled.{Settled}
-use Rattle.effect_outbox.specs.declared.settled.Settled.TheVariants.{Old, Upto}
-use Rattle.effect_outbox.specs.Outbox.{number_on, settled_by}
+use Rattle.effect_outbox.specs.Outbox.{LaneNumbers, number_on, settled_by, with_number}
+use Rattle.front_lock.specs.declared.front.Front.{Front}
 use Rattle.front_lock.specs.declared.held.Held.{Ghosts}
 use Rattle.front_lock.specs.declared.seat.FrontSeat.{FrontSeat}
 use Rattle.front_lock.specs.Front.{view}
@@ -18,34 +18,95 @@ use Rattle.session_row.specs.declared.commit.Commit.TheVariants.{Committed, Stal
 use Rattle.session_row.specs.Row.{RowState}
 use Rattle.session_store.specs.Charter.{CharterState}
 use Rattle.session_store.specs.Law.{IsLawful}
-use Rattle.session_store.specs.Rows.{Begins, IsDevice, IsKnownAfter, unsettled_effect}
+use Rattle.session_store.specs.Rows.{Begins, IsDevice, IsKnownAfter, opening_row, unsettled_effect}
 use Rattle.session_store.specs.declared.asked.Asked.{Asked}
 use Rattle.session_store.specs.declared.asked.Peeked.{Peeked}
 use Rattle.session_store.specs.declared.asked.Seen.{Seen}
 use Rattle.session_store.specs.Seen.{peeked_of, seen_of}
 use Rattle.session_store.specs.Shards.{shard_of}
 use Rattle.store_shared.specs.declared.basis.ShardBasis.{ShardBasis}
+use Rattle.store_shared.specs.declared.front_row.FrontsSeat.{FrontsSeat}
 use Rattle.store_shared.specs.declared.turn.Turn.{Turn}
 use Rattle.store_shared.specs.declared.turn.TurnAnswer.{TurnAnswer}
 use Rattle.store_shared.specs.declared.turn.TurnAnswer.TheVariants as answers
 use Rattle.store_shared.specs.declared.turn.TurnCall.{TurnCall}
 use Rattle.store_shared.specs.declared.turn.TurnCall.TheVariants as calls
-use Rattle.store_shared.specs.FrontRow.{seen_at}
-use Rattle.store_shared.specs.Legal.{IsBehind, TellsCount, commit_of, journal_in, row_after, row_in}
+use Rattle.store_shared.specs.FrontRow.{AreFreshSeats, AreJoined, IsFreshSeat, seen_at}
+use Rattle.store_shared.specs.Legal.{IsBehind, TellsCount, commit_of, journal_in, row_after, row_from, row_in}
 use Rattle.store_shared.specs.SharedCalls.{Called}
-use Rattle.store_shared.specs.Stays.{journal_begins, row_next}
+use Rattle.store_shared.specs.Stays.{journal_begins, row_from-append, row_next}
 use Rattle.store_shared.specs.StoreShards.{turn_by}
 use Rattle.store_shared.proofs.Items.{get_at}
-use Rattle.pool_rows.specs.Seats.{IsPushed, IsSettled}
-use Rattle.pool_rows.specs.Shared.{journal_known}
-use Rattle.pool_rows.proofs.Seats.{Moves, history_is, sees_more}
+use Rattle.pool_rows.specs.Seats.{IsLater, Settles}
+use Rattle.pool_rows.specs.Shared.{row_known}
+use Rattle.pool_rows.proofs.Seats.{Moves, each_seat, fresh_seen, history_is, joined_seen, seen_before, sees_more}
 
--- a journal of a history begins that of a longer one
-pub journal_more : (d : ℕ) (xs ys : List Turn) → Begins xs ys → Begins (journal_in d xs) (journal_in d ys)
-journal_more d xs ys b = subst (λ (l : List Turn). Begins (journal_in d xs) (journal_in d l)) (sym b.1) (journal_begins d xs b.0)
+-- ---- rows of longer histories
 
-pub known_more : {T : Type 0} {h : Ghosts T Turn ShardBasis} (old new : List (FrontSeat T Turn ShardBasis h)) (at : ℕ) → Moves old new at → (i : ℕ) → Begins (journal_known old i) (journal_known new i)
-known_more old new at m i = journal_more i (seen_at old (shard_of i)) (seen_at new (shard_of i)) (sees_more old new at m (shard_of i))
+grows_on : (n : LaneNumbers) (l m : Lane) (k : ℕ) → number_on n m ≤ number_on (with_number n l k) m
+grows_on n lanes.Down lanes.Down k = le-max_right k n.down
+grows_on n lanes.Down lanes.Gateway k = omega arith
+grows_on n lanes.Down lanes.Subscriber k = omega arith
+grows_on n lanes.Gateway lanes.Down k = omega arith
+grows_on n lanes.Gateway lanes.Gateway k = le-max_right k n.gateway
+grows_on n lanes.Gateway lanes.Subscriber k = omega arith
+grows_on n lanes.Subscriber lanes.Down k = omega arith
+grows_on n lanes.Subscriber lanes.Gateway k = omega arith
+grows_on n lanes.Subscriber lanes.Subscriber k = le-max_right k n.subscriber
+
+number_after : (n : LaneNumbers) (l : Lane) (k : ℕ) → number_on (with_number n l k) l ≡ max k (number_on n l)
+number_after n lanes.Down k = refl
+number_after n lanes.Gateway k = refl
+number_after n lanes.Subscriber k = refl
+
+settled_after : (row : RowState) (call : TurnCall) (answer : TurnAnswer) (l : Lane) → number_on row.settled l ≤ number_on (row_after row call answer).settled l
+settled_after row (calls.Settle m k) answer l = grows_on row.settled m l k
+settled_after row (calls.Read asked) answer l = omega arith
+settled_after row (calls.Peek asked) answer l = omega arith
+settled_after row (calls.Push m k) answer l = omega arith
+settled_after row (calls.Offer k call) answer l = omega arith
+settled_after row (calls.Commit read entry) (answers.Commit (Committed version)) l = omega arith
+settled_after row (calls.Commit read entry) (answers.Commit (Stale asked current)) l = omega arith
+settled_after row (calls.Commit read entry) (answers.Read seen) l = omega arith
+settled_after row (calls.Commit read entry) (answers.Peek seen) l = omega arith
+settled_after row (calls.Commit read entry) (answers.Push effect) l = omega arith
+settled_after row (calls.Commit read entry) (answers.Settle settled) l = omega arith
+settled_after row (calls.Commit read entry) (answers.Offer offer) l = omega arith
+
+settled_when : (b : Bool) (row after : RowState) (l : Lane) → number_on row.settled l ≤ number_on after.settled l → number_on row.settled l ≤ number_on (cond b after row).settled l
+settled_when true row after l h = h
+settled_when false row after l h = omega arith
+
+settled_from : (row : RowState) (d : ℕ) (more : List Turn) (l : Lane) → number_on row.settled l ≤ number_on (row_from row d more).settled l
+settled_from row d [] l = omega arith
+settled_from row d (t ∷ ts) l =
+    let next = cond (t.device.0 == d) (row_after row t.call t.answer) row in
+    let one = settled_when (t.device.0 == d) row (row_after row t.call t.answer) l (settled_after row t.call t.answer l) in
+    let two = settled_from next d ts l in
+    omega arith
+
+-- the row of a longer history is a later one
+pub row_more : (d : ℕ) (xs ys : List Turn) → Begins xs ys → IsLater (row_in d xs) (row_in d ys)
+row_more d xs ys b = subst (λ (l : List Turn). IsLater (row_in d xs) (row_in d l)) (sym b.1) (record {
+  journal = journal_begins d xs b.0;
+  settled = λ l. subst (λ (r : RowState). number_on (row_in d xs).settled l ≤ number_on r.settled l) (sym (row_from-append opening_row d xs b.0)) (settled_from (row_in d xs) d b.0 l);
+})
+
+pub known_more : {T : Type 0} {h : Ghosts T Turn ShardBasis} (old new : List (FrontSeat T Turn ShardBasis h)) (at : ℕ) → Moves old new at → (i : ℕ) → IsLater (row_known old i) (row_known new i)
+known_more old new at m i = row_more i (seen_at old (shard_of i)) (seen_at new (shard_of i)) (sees_more old new at m (shard_of i))
+
+-- of two seats that are joined
+pub known_joined : {T : Type 0} {h : Ghosts T Turn ShardBasis} (into from new : List (FrontSeat T Turn ShardBasis h)) → length from ≡ length into → length new ≡ length into → AreJoined into from new → ((i : ℕ) → IsLater (row_known into i) (row_known new i)) × ((i : ℕ) → IsLater (row_known from i) (row_known new i))
+known_joined into from new a b j = (
+  λ i. row_more i (seen_at into (shard_of i)) (seen_at new (shard_of i)) (joined_seen into from new a b j (shard_of i)).0,
+  λ i. row_more i (seen_at from (shard_of i)) (seen_at new (shard_of i)) (joined_seen into from new a b j (shard_of i)).1,
+)
+
+-- new seats know the row that was never seen
+pub fresh_rows : {T : Type 0} {h : Ghosts T Turn ShardBasis} (basis : T → ShardBasis) (bases : List ShardBasis) (seats : ℕ) (fs : List (Front T Turn ShardBasis)) (made : List (FrontsSeat T Turn ShardBasis h)) → AreFreshSeats basis bases seats fs made → All (λ s. (d : ℕ) → row_known s.seats.items d ≡ opening_row) made
+fresh_rows {T} {h} basis bases seats fs made fresh =
+    each_seat (λ (s : FrontsSeat T Turn ShardBasis h). (d : ℕ) → row_known s.seats.items d ≡ opening_row) (λ (n : ℕ) (s : FrontsSeat T Turn ShardBasis h). IsFreshSeat basis bases seats fs n s) made fresh
+    (λ n s is d. ap (row_in d) (fresh_seen basis bases seats fs n s is (shard_of d)))
 
 module _ {T : Type 0} {h : Ghosts T Turn ShardBasis} {follows : CharterState → ℕ → List Entry → Entry → Type 0} {devices : ℕ} {charter : CharterState} {old new : List (FrontSeat T Turn ShardBasis h)} {d : DeviceId} {call : TurnCall} {answer : TurnAnswer} {says : List Turn → Type 0} where
   -- the row behind the call
@@ -74,39 +135,24 @@ known_after {new = new} {d = d} read entry (Committed version) c t =
     (t.0, t.1, ap (λ l. slice_get l read) now ∙ (ap (slice_get (before ++ entry ∷ [])) place ∙ get_at before [] entry))
 known_after read entry (Stale asked current) c t = (t.0, t.1, λ e. let behind = t.2 in absurd (omega (arith, e)))
 
--- ---- effects
-
-found_when : (b : Bool) (found : Option Effect) (effect : Effect) → cond b found None ≡ Some effect → found ≡ Some effect
-found_when true found effect e = e
-found_when false found effect e = absurd (cc)
-
--- an effect that is not settled is the effect of its number
-pub effect_found : (row : RowState) (l : Lane) (k : ℕ) (effect : Effect) → unsettled_effect row l k ≡ Some effect → slice_get (effects_of l row.journal) (k - 1) ≡ Some effect
-effect_found row l k effect e = found_when (nat_lt (number_on row.settled l) k) (slice_get (effects_of l row.journal) (k - 1)) effect e
-
-pub pushed : (row : RowState) (l : Lane) (k : ℕ) (told : Option Effect) → told ≡ unsettled_effect row l k → IsPushed l k row.journal told
-pushed row l k None e = tt
-pushed row l k (Some effect) e = effect_found row l k effect (sym e)
-
--- what is told of a settling
-settled_at : (b : Bool) (n k : ℕ) → nat_le k n ≡ b → IsSettled k (cond b (Old n) (Upto k))
-settled_at true n k e = grind (arith, nat_tests, e)
-settled_at false n k e = refl
-
-pub settled : (n k : ℕ) (told : Settled) → told ≡ settled_by n k → IsSettled k told
-settled n k told e = subst (IsSettled k) (sym e) (settled_at (nat_le k n) n k refl)
-
 -- ---- what each call tells
 
 module _ {T : Type 0} {h : Ghosts T Turn ShardBasis} {follows : CharterState → ℕ → List Entry → Entry → Type 0} {devices : ℕ} {charter : CharterState} {old new : List (FrontSeat T Turn ShardBasis h)} {d : DeviceId} where
-  pub read_tells : (asked : Asked) (seen : Seen) → Called follows devices charter old new d (calls.Read asked) (answers.Read seen) (λ before. seen ≡ seen_of (journal_in d.0 before) asked) → seen ≡ seen_of (journal_known new d.0) asked
+  pub read_tells : (asked : Asked) (seen : Seen) → Called follows devices charter old new d (calls.Read asked) (answers.Read seen) (λ before. seen ≡ seen_of (journal_in d.0 before) asked) → seen ≡ seen_of (row_known new d.0).journal asked
   read_tells asked seen c = says_still (λ (row : RowState). seen ≡ seen_of row.journal asked) c (λ row. refl) c.value
 
-  pub peek_tells : (asked : Asked) (peeked : Peeked) → Called follows devices charter old new d (calls.Peek asked) (answers.Peek peeked) (λ before. peeked ≡ peeked_of (journal_in d.0 before) asked) → peeked ≡ peeked_of (journal_known new d.0) asked
+  pub peek_tells : (asked : Asked) (peeked : Peeked) → Called follows devices charter old new d (calls.Peek asked) (answers.Peek peeked) (λ before. peeked ≡ peeked_of (journal_in d.0 before) asked) → peeked ≡ peeked_of (row_known new d.0).journal asked
   peek_tells asked peeked c = says_still (λ (row : RowState). peeked ≡ peeked_of row.journal asked) c (λ row. refl) c.value
 
-  pub push_tells : (l : Lane) (k : ℕ) (effect : Option Effect) → Called follows devices charter old new d (calls.Push l k) (answers.Push effect) (λ before. effect ≡ unsettled_effect (row_in d.0 before) l k) → IsPushed l k (journal_known new d.0) effect
-  push_tells l k effect c = pushed (row_in d.0 (seen_at new (shard_of d.0))) l k effect (says_still (λ (row : RowState). effect ≡ unsettled_effect row l k) c (λ row. refl) c.value)
+  pub push_tells : (l : Lane) (k : ℕ) (effect : Option Effect) → Called follows devices charter old new d (calls.Push l k) (answers.Push effect) (λ before. effect ≡ unsettled_effect (row_in d.0 before) l k) → effect ≡ unsettled_effect (row_known new d.0) l k
+  push_tells l k effect c = says_still (λ (row : RowState). effect ≡ unsettled_effect row l k) c (λ row. refl) c.value
 
-  pub settle_tells : (l : Lane) (k : ℕ) (told : Settled) → Called follows devices charter old new d (calls.Settle l k) (answers.Settle told) (λ before. told ≡ settled_by (number_on (row_in d.0 before).settled l) k) → IsSettled k told
-  settle_tells l k told c = settled (number_on (row_in d.0 c.before).settled l) k told c.value
+  pub settle_tells : (l : Lane) (k : ℕ) (told : Settled) → Called follows devices charter old new d (calls.Settle l k) (answers.Settle told) (λ before. told ≡ settled_by (number_on (row_in d.0 before).settled l) k) → Settles (number_on (row_known old d.0).settled l) k (number_on (row_known new d.0).settled l) told
+  settle_tells l k told c =
+      let row = row_in d.0 c.before in
+      record {
+        before = number_on row.settled l;
+        least = (row_more d.0 (seen_at old (shard_of d.0)) c.before (seen_before c)).settled l;
+        says = c.value;
+        behind = ap (λ (r : RowState). number_on r.settled l) (row_is c) ∙ number_after row.settled l k;
+      }

@@ -1,6 +1,6 @@
 -- What an offer says of the calls that the seat knows to be accepted behind it.
-use Rattle.std.proofs.Common.{◌≡◌, ◌≤◌, ◌<◌, ◌+◌, ◌-◌, ◌==◌, ℕ, cond, Bool, true, false, List, [], ◌∷◌, ◌++◌, Some, None, length, take, refl, sym, ap, ◌∙◌, subst, arith, length-append, append-nil, append_assoc, eq-eqb, eqb-true}
-use Rattle.std.specs.Prelude.{nat_le, slice_get}
+use Rattle.std.proofs.Common.{◌≡◌, ◌≤◌, ◌<◌, ◌+◌, ◌-◌, ◌==◌, ℕ, cond, Bool, true, false, List, [], ◌∷◌, ◌++◌, Some, None, length, take, refl, sym, ap, ◌∙◌, subst, arith, length-append, append_assoc, eq-eqb, eqb-true}
+use Rattle.std.specs.Prelude.{All, nat_le, slice_get}
 use Rattle.std.proofs.lemmas.List.{take-append-le, take-take, take_all}
 use Rattle.std.proofs.lemmas.Bool.Decides.{nat_tests}
 use Rattle.device_types.specs.declared.effect.Effect.{Effect}
@@ -14,6 +14,7 @@ use Rattle.device_types.specs.declared.subscriber.DeviceId.{DeviceId}
 use Rattle.device_types.specs.declared.subscriber.Subscriber.{Subscriber}
 use Rattle.device_types.specs.Journal.{effects_of, is_on}
 use Rattle.device_types.specs.PeerAnswer.{answer_of}
+use Rattle.front_lock.specs.declared.front.Front.{Front}
 use Rattle.front_lock.specs.declared.held.Held.{Ghosts}
 use Rattle.front_lock.specs.declared.seat.FrontSeat.{FrontSeat}
 use Rattle.front_lock.specs.Front.{view}
@@ -24,12 +25,13 @@ use Rattle.session_store.specs.Charter.{CharterState, IsCharter, alone_in}
 use Rattle.session_store.specs.Rows.{Begins, IsDevice}
 use Rattle.session_store.specs.Shards.{shard_of}
 use Rattle.store_shared.specs.declared.basis.PeerBasis.{PeerBasis}
+use Rattle.store_shared.specs.declared.front_row.FrontsSeat.{FrontsSeat}
 use Rattle.store_shared.specs.declared.turn.Turn.{Turn}
 use Rattle.store_shared.specs.declared.turn.TurnAnswer.{TurnAnswer}
 use Rattle.store_shared.specs.declared.turn.TurnAnswer.TheVariants as answers
 use Rattle.store_shared.specs.declared.turn.TurnCall.{TurnCall}
 use Rattle.store_shared.specs.declared.turn.TurnCall.TheVariants as calls
-use Rattle.store_shared.specs.FrontRow.{seen_at}
+use Rattle.store_shared.specs.FrontRow.{AreFreshSeats, AreJoined, IsFreshSeat, seen_at}
 use Rattle.store_shared.specs.Legal.{IsAcceptedOf, IsTurn, accepted_after, accepted_from, accepted_in, is_call, lane_of, peers_say}
 use Rattle.store_shared.specs.PeerShards.{offer_by}
 use Rattle.store_shared.specs.SharedOffers.{Offered}
@@ -38,12 +40,9 @@ use Rattle.store_shared.proofs.PeerTurns.{accepted_from-append, accepted_next}
 use Rattle.pool_rows.specs.Seats.{IsCall, IsOffer, IsOwnOf}
 use Rattle.pool_rows.specs.Shared.{calls_known}
 use Rattle.pool_rows.proofs.Charters.{HasLine, alone_is, line_at}
-use Rattle.pool_rows.proofs.Seats.{Moves, offers_are, sees_more}
+use Rattle.pool_rows.proofs.Seats.{Moves, each_seat, fresh_seen, joined_seen, offers_are, same_begins, sees_more}
 
 -- ---- what was accepted stays the beginning
-
-same_begins : {X : Type 0} (xs : List X) → Begins xs xs
-same_begins xs = ([], sym (append-nil xs))
 
 when_on : (b : Bool) (acc : List Effect) (call : Effect) → Begins acc (cond b (acc ++ call ∷ []) acc)
 when_on true acc call = (call ∷ [], refl)
@@ -82,6 +81,19 @@ accepted_begins d l xs ys b =
 
 pub accepted_still : {T : Type 0} {h : Ghosts T Turn PeerBasis} (old new : List (FrontSeat T Turn PeerBasis h)) (at : ℕ) → Moves old new at → (i : ℕ) (l : Lane) → Begins (calls_known old i l) (calls_known new i l)
 accepted_still old new at m i l = accepted_begins i l (seen_at old (shard_of i)) (seen_at new (shard_of i)) (sees_more old new at m (shard_of i))
+
+-- of two seats that are joined
+pub accepted_joined : {T : Type 0} {h : Ghosts T Turn PeerBasis} (into from new : List (FrontSeat T Turn PeerBasis h)) → length from ≡ length into → length new ≡ length into → AreJoined into from new → ((i : ℕ) (l : Lane) → Begins (calls_known into i l) (calls_known new i l)) × ((i : ℕ) (l : Lane) → Begins (calls_known from i l) (calls_known new i l))
+accepted_joined into from new a b j = (
+  λ i l. accepted_begins i l (seen_at into (shard_of i)) (seen_at new (shard_of i)) (joined_seen into from new a b j (shard_of i)).0,
+  λ i l. accepted_begins i l (seen_at from (shard_of i)) (seen_at new (shard_of i)) (joined_seen into from new a b j (shard_of i)).1,
+)
+
+-- new seats know none
+pub fresh_calls : {T : Type 0} {h : Ghosts T Turn PeerBasis} (basis : T → PeerBasis) (bases : List PeerBasis) (seats : ℕ) (fs : List (Front T Turn PeerBasis)) (made : List (FrontsSeat T Turn PeerBasis h)) → AreFreshSeats basis bases seats fs made → All (λ s. (d : ℕ) (l : Lane) → calls_known s.seats.items d l ≡ []) made
+fresh_calls {T} {h} basis bases seats fs made fresh =
+    each_seat (λ (s : FrontsSeat T Turn PeerBasis h). (d : ℕ) (l : Lane) → calls_known s.seats.items d l ≡ []) (λ (n : ℕ) (s : FrontsSeat T Turn PeerBasis h). IsFreshSeat basis bases seats fs n s) made fresh
+    (λ n s is d l. ap (accepted_in d l) (fresh_seen basis bases seats fs n s is (shard_of d)))
 
 -- ---- an offer
 

@@ -1,36 +1,62 @@
 -- What a call leaves of what a seat knows.
-use Rattle.std.proofs.Common.{◌≡◌, ◌≢◌, ℕ, ⊎_elim, List, [], ◌∷◌, ◌++◌, Some, Result, Ok, Err, sym, ap, ◌∙◌, subst, append-nil, append_assoc}
+use Rattle.std.proofs.Common.{◌≡◌, ◌≢◌, ℕ, zero, suc, Bool, true, false, cond, ⊎_elim, List, [], ◌∷◌, ◌++◌, length, map, get_or, Some, Result, Ok, Err, refl, sym, ap, ◌∙◌, subst, arith, append-nil, append_assoc}
 use Rattle.std.specs.Option.{option_map_or}
-use Rattle.std.specs.Prelude.{IfOk, IsTrue, OnErr, slice_get}
+use Rattle.std.specs.Prelude.{All, IfOk, IsTrue, OnErr, nat_le, slice_get}
+use Rattle.std.proofs.lemmas.Option.{slice_get-get_or}
 use Rattle.std.proofs.lemmas.Bool.{cases_eq}
+use mathlib.Core.List.{IsPrefix}
 use Rattle.device_types.specs.declared.effect.Effect.{Effect}
 use Rattle.device_types.specs.declared.input.Offer.{Offer}
 use Rattle.device_types.specs.declared.step.Entry.{Entry}
 use Rattle.device_types.specs.declared.subscriber.DeviceId.{DeviceId}
+use Rattle.front_lock.specs.declared.front.Front.{Front}
 use Rattle.front_lock.specs.declared.held.Held.{Ghosts}
 use Rattle.front_lock.specs.declared.seat.FrontSeat.{FrontSeat}
 use Rattle.front_lock.specs.declared.view.View.{View}
 use Rattle.front_lock.specs.Front.{view}
 use Rattle.front_lock.specs.Numbers.{speaks_for}
+use Rattle.front_lock.specs.View.{fresh_view}
 use Rattle.front_lock.proofs.Histories.{speaks_for-with_turn}
 use Rattle.session_store.specs.Charter.{CharterState}
 use Rattle.session_store.specs.Rows.{Begins}
 use Rattle.session_store.specs.Shards.{shard_of}
 use Rattle.store_shared.specs.declared.basis.PeerBasis.{PeerBasis}
 use Rattle.store_shared.specs.declared.basis.ShardBasis.{ShardBasis}
+use Rattle.store_shared.specs.declared.front_row.FrontsSeat.{FrontsSeat}
 use Rattle.store_shared.specs.declared.turn.Turn.{Turn}
 use Rattle.store_shared.specs.declared.turn.TurnAnswer.{TurnAnswer}
 use Rattle.store_shared.specs.declared.turn.TurnAnswer.TheVariants as answers
 use Rattle.store_shared.specs.declared.turn.TurnCall.{TurnCall}
-use Rattle.store_shared.specs.FrontRow.{MissesAt, SpeaksOnAll, seen_at}
+use Rattle.store_shared.specs.FrontRow.{AreJoined, IsFreshSeat, MissesAt, SpeaksOnAll, seen_at}
 use Rattle.store_shared.specs.PeerShards.{offer_by}
 use Rattle.store_shared.specs.SharedCalls.{Called}
 use Rattle.store_shared.specs.SharedOffers.{Offered}
 use Rattle.store_shared.specs.StoreShards.{turn_by}
 use Rattle.store_shared.proofs.Items.{some_one}
 use Rattle.store_shared.proofs.Turns.{seen_is}
+use Rattle.pool_rows.specs.Seats.{GoesOn}
+
+pub same_begins : {X : Type 0} (xs : List X) → Begins xs xs
+same_begins xs = ([], sym (append-nil xs))
+
+-- of two histories the one begins the other, and both begin the longer one
+longer_begins : {X : Type 0} (b : Bool) (xs ys : List X) → IsPrefix (cond b xs ys) (cond b ys xs) → Begins xs (cond b ys xs) × Begins ys (cond b ys xs)
+longer_begins true xs ys p = ((p.0, sym p.1), same_begins ys)
+longer_begins false xs ys p = (same_begins xs, (p.0, sym p.1))
 
 module _ {T X B : Type 0} {h : Ghosts T X B} where
+  -- on each front a seat that took in another has seen what either had seen
+  pub joined_seen : (into from new : List (FrontSeat T X B h)) → length from ≡ length into → length new ≡ length into → AreJoined into from new → (k : ℕ) → Begins (seen_at into k) (seen_at new k) × Begins (seen_at from k) (seen_at new k)
+  joined_seen [] [] new a b j k = ((seen_at new k, refl), (seen_at new k, refl))
+  joined_seen [] (w ∷ ws) new a b j k = absurd (omega arith)
+  joined_seen (v ∷ vs) [] new a b j k = absurd (omega arith)
+  joined_seen (v ∷ vs) (w ∷ ws) [] a b j k = absurd (omega arith)
+  joined_seen (v ∷ vs) (w ∷ ws) (u ∷ us) a b j zero =
+      let one = j zero v w u refl refl refl in
+      let both = longer_begins (nat_le (length (view v).seen) (length (view w).seen)) (view v).seen (view w).seen one.one_history in
+      subst (λ (l : List X). Begins (view v).seen l × Begins (view w).seen l) (sym (ap (λ (z : View X B). z.seen) one.view_is)) both
+  joined_seen (v ∷ vs) (w ∷ ws) (u ∷ us) a b j (suc k) = joined_seen vs ws us (omega arith) (omega arith) (λ i. j (suc i)) k
+
   -- the seat of one front has seen more, and speaks for the same numbers; those of the others are as before
   pub record Moves (old new : List (FrontSeat T X B h)) (at : ℕ) : Type 0 where
     pub from : FrontSeat T X B h
@@ -76,6 +102,27 @@ module _ {T X B : Type 0} {h : Ghosts T X B} where
   moves turns basis old new at P (Ok a) f others ok err = f a ok
   moves turns basis old new at P (Err e) f others ok err = missed turns basis old new at others err
 
+  -- so the seat goes on
+  pub goes_on : {A E : Type 0} (turns : T → List X) (basis : T → B) (IsSeat : FrontsSeat T X B h → Type 0) (Knows : FrontsSeat T X B h → FrontsSeat T X B h → Type 0) (old new : FrontsSeat T X B h) (at : ℕ) (P : A → Type 0) (r : Result A E) → (Moves old.seats.items new.seats.items at → Knows old new) → ((a : A) → P a → Moves old.seats.items new.seats.items at)
+      → ((k : ℕ) → k ≢ at → slice_get new.seats.items k ≡ slice_get old.seats.items k) → IsSeat new → IfOk r P → OnErr r (MissesAt turns basis old.seats.items at new.seats.items) → GoesOn IsSeat (λ seat n. SpeaksOnAll n seat.seats.items) Knows old new
+  goes_on turns basis IsSeat Knows old new at P r knows f others is ok err =
+      let m = moves turns basis old.seats.items new.seats.items at P r f others ok err in
+      record { seat = is; speaks = speaks_still old.seats.items new.seats.items at m; knows = knows m }
+
+  -- what a new seat has seen
+  fresh_from : (ss : List (FrontSeat T X B h)) (bases : List B) (seats n : ℕ) → map (λ (t : FrontSeat T X B h). view t) ss ≡ map (λ (b : B). fresh_view b seats n) bases → (k : ℕ) → seen_at ss k ≡ []
+  fresh_from [] bases seats n e k = refl
+  fresh_from (s ∷ ss) [] seats n e k = absurd (cc)
+  fresh_from (s ∷ ss) (b ∷ bs) seats n e zero = let here : view s ≡ fresh_view b seats n = cc e in ap (λ (v : View X B). v.seen) here
+  fresh_from (s ∷ ss) (b ∷ bs) seats n e (suc k) = fresh_from ss bs seats n (cc e) k
+
+  pub fresh_seen : (basis : T → B) (bases : List B) (seats : ℕ) (fs : List (Front T X B)) (n : ℕ) (s : FrontsSeat T X B h) → IsFreshSeat basis bases seats fs n s → (k : ℕ) → seen_at s.seats.items k ≡ []
+  fresh_seen basis bases seats fs n s fresh k = fresh_from s.seats.items bases seats n fresh.views k
+
+-- what holds of the seat of each number holds of each
+pub each_seat : {S : Type 0} (P : S → Type 0) (F : ℕ → S → Type 0) (made : List S) → ((n : ℕ) (s : S) → slice_get made n ≡ Some s → F n s) → ((n : ℕ) (s : S) → F n s → P s) → All P made
+each_seat P F made each f k d lt = f k (get_or made k d) (each k (get_or made k d) (slice_get-get_or made k d lt))
+
 -- a list begins what it begins with one more
 begins_one : {X : Type 0} (xs ys zs : List X) (x : X) → (rest : List X) × (xs ++ rest ≡ ys) → zs ≡ ys ++ x ∷ [] → Begins xs zs
 begins_one xs ys zs x p e = (p.0 ++ x ∷ [], e ∙ (ap (λ l. l ++ x ∷ []) (sym p.1) ∙ append_assoc xs p.0 (x ∷ [])))
@@ -84,6 +131,10 @@ module _ {T : Type 0} {h : Ghosts T Turn ShardBasis} {follows : CharterState →
   -- the seat's new history of the shard
   pub history_is : (c : Called follows devices charter old new d call answer says) → seen_at new (shard_of d.0) ≡ c.before ++ turn_by (view c.from).number d call answer ∷ []
   history_is c = seen_is new (shard_of d.0) c.to c.now ∙ ap (λ (v : View Turn ShardBasis). v.seen) c.view_is
+
+  -- what it had seen begins the history before the call
+  pub seen_before : (c : Called follows devices charter old new d call answer says) → Begins (seen_at old (shard_of d.0)) c.before
+  seen_before c = (c.seen.0, sym c.seen.1 ∙ ap (λ l. l ++ c.seen.0) (sym (seen_is old (shard_of d.0) c.from c.was)))
 
   pub called_moves : ((k : ℕ) → k ≢ shard_of d.0 → slice_get new k ≡ slice_get old k) → Called follows devices charter old new d call answer says → Moves old new (shard_of d.0)
   called_moves others c =

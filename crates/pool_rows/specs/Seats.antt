@@ -1,29 +1,52 @@
 -- What is told of rows and peers that are shared.
-use Rattle.std.specs.Prelude.{◌≡◌, ◌≤◌, ◌<◌, ℕ, ◌+◌, ◌-◌, List, length, Option, Some, None, IsSomeAnd, true, slice_get}
+use Rattle.std.specs.Prelude.{◌≡◌, ◌≤◌, ◌<◌, ℕ, ◌+◌, ◌-◌, max, List, length, Some, IsSomeAnd, true, slice_get}
 use Rattle.device_types.specs.declared.effect.Effect.{Effect}
 use Rattle.device_types.specs.declared.event.Lane.{Lane}
 use Rattle.device_types.specs.declared.input.Input.{Input}
 use Rattle.device_types.specs.declared.input.Input.TheVariants as inputs
 use Rattle.device_types.specs.declared.input.Offer.{Offer}
 use Rattle.device_types.specs.declared.input.Offer.TheVariants.{Accepted, Repeat, Ahead}
-use Rattle.device_types.specs.declared.step.Entry.{Entry}
 use Rattle.device_types.specs.Journal.{effects_of}
 use Rattle.effect_outbox.specs.declared.settled.Settled.{Settled}
-use Rattle.effect_outbox.specs.declared.settled.Settled.TheVariants.{Old, Upto}
+use Rattle.effect_outbox.specs.Outbox.{number_on, settled_by}
 use Rattle.replica_worker.specs.Writes.{IsOwnInput}
+use Rattle.session_row.specs.Row.{RowState}
 use Rattle.session_store.specs.Charter.{CharterState, alone_in}
-use Rattle.session_store.specs.Rows.{IsDevice}
+use Rattle.session_store.specs.Rows.{Begins, IsDevice}
 use Rattle.store_shared.specs.Legal.{is_call, lane_of}
 
--- an effect that was told is effect k of its lane of the journal
-abbrev pub IsPushed : Lane → ℕ → List Entry → Option Effect → Type 0
-IsPushed lane k journal None = Unit {0}
-IsPushed lane k journal (Some effect) = slice_get (effects_of lane journal) (k - 1) ≡ Some effect
+-- ---- what a call leaves of a seat
 
--- the effects up to k are settled, now or already
-abbrev pub IsSettled : ℕ → Settled → Type 0
-IsSettled k (Old n) = k ≤ n
-IsSettled k (Upto n) = n ≡ k
+-- a row has all that another one had: its journal begins with that one's, and of no lane fewer effects are settled
+pub record IsLater (old new : RowState) : Type 0 where
+  pub journal : Begins old.journal new.journal
+  pub settled : (l : Lane) → number_on old.settled l ≤ number_on new.settled l
+
+module _ {Seat : Type 0} where
+  -- of each device a seat knows the row that another one knew, or a later one
+  abbrev pub KnowsRows : (Seat → ℕ → RowState) → Seat → Seat → Type 0
+  KnowsRows known old new = (d : ℕ) → IsLater (known old d) (known new d)
+
+  -- of each device and lane it knows the calls that another one knew to be accepted, and maybe more
+  abbrev pub KnowsCalls : (Seat → ℕ → Lane → List Effect) → Seat → Seat → Type 0
+  KnowsCalls known old new = (d : ℕ) (l : Lane) → Begins (known old d l) (known new d l)
+
+  -- a seat goes on from another: it is one of these rows, or of these peers, speaks for what that one spoke for, and knows what
+  -- that one knew
+  pub record GoesOn (IsSeat : Seat → Type 0) (Speaks : Seat → ℕ → Type 0) (Knows : Seat → Seat → Type 0) (old new : Seat) : Type 0 where
+    pub seat : IsSeat new
+    pub speaks : (n : ℕ) → Speaks old n → Speaks new n
+    pub knows : Knows old new
+
+-- ---- what it tells
+
+-- the effects of a lane up to k are settled, and so many of the lane are now. How many were before, no fewer than the seat knew,
+-- says both that number and what is told
+pub record Settles (known k count : ℕ) (told : Settled) : Type 0 where
+  pub before : ℕ
+  pub least : known ≤ before
+  pub says : told ≡ settled_by before k
+  pub behind : count ≡ max k before
 
 -- under a charter, the device's message of its number, or its peer's answer to the call of its number
 abbrev pub IsOwnOf : CharterState → ℕ → Input → Type 0

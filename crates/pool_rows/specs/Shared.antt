@@ -7,6 +7,7 @@ use Rattle.device_types.specs.declared.event.Lane.{Lane}
 use Rattle.device_types.specs.declared.step.Entry.{Entry}
 use Rattle.front_lock.specs.declared.held.Held as held
 use Rattle.front_lock.specs.declared.seat.FrontSeat.{FrontSeat}
+use Rattle.session_row.specs.Row.{RowState}
 use Rattle.session_store.specs.declared.row_law.RowLaw as law
 use Rattle.session_store.specs.Charter.{CharterState}
 use Rattle.session_store.specs.Shards.{shard_of}
@@ -16,15 +17,15 @@ use Rattle.store_shared.specs.declared.peer_shard.PeerShard.{PeerShard}
 use Rattle.store_shared.specs.declared.store_shard.StoreShard.{StoreShard}
 use Rattle.store_shared.specs.declared.turn.Turn.{Turn}
 use Rattle.store_shared.specs.FrontRow.{seen_at}
-use Rattle.store_shared.specs.Legal.{IsPeerHistory, IsStoreHistory, accepted_in, journal_in}
+use Rattle.store_shared.specs.Legal.{IsPeerHistory, IsStoreHistory, accepted_in, journal_in, row_in}
 use Rattle.store_shared.specs.PeerBases.{peer_basis, peer_bases, peer_turns}
 use Rattle.store_shared.specs.StoreBases.{shard_bases, store_basis, store_turns}
 
 -- ---- what a seat knows
 
--- the journal of device d, by the turns on its shard that the seat has seen
-abbrev pub journal_known : {T : Type 0} {h : held.Ghosts T Turn ShardBasis} → List (FrontSeat T Turn ShardBasis h) → ℕ → List Entry
-journal_known seats d = journal_in d (seen_at seats (shard_of d))
+-- the row of device d, by the turns on its shard that the seat has seen
+abbrev pub row_known : {T : Type 0} {h : held.Ghosts T Turn ShardBasis} → List (FrontSeat T Turn ShardBasis h) → ℕ → RowState
+row_known seats d = row_in d (seen_at seats (shard_of d))
 
 -- the calls of device d that were accepted on a lane, likewise
 abbrev pub calls_known : {T : Type 0} {h : held.Ghosts T Turn PeerBasis} → List (FrontSeat T Turn PeerBasis h) → ℕ → Lane → List Effect

@@ -1,12 +1,12 @@
 //! Peers that threads share.
-ghost use Rattle.std.specs.Prelude.{◌≡◌, ◌<◌, ℕ, List, length, slice_get, All, Some, IfOk};
+ghost use Rattle.std.specs.Prelude.{◌≡◌, ◌<◌, ℕ, List, [], length, slice_get, All, Some, IfOk};
 ghost use Rattle.std.specs.Arc.{arc_value};
 ghost use Rattle.device_types.specs.declared.effect.Effect.{Effect};
 ghost use Rattle.device_types.specs.declared.event.Lane.{Lane};
 ghost use Rattle.session_store.specs.Charter.{CharterState, IsCharter};
 ghost use Rattle.session_store.specs.Rows.{Begins, IsDevice};
 ghost use Rattle.store_shared.specs.Legal.{IsAcceptedOf, lane_of};
-ghost use Rattle.pool_rows.specs.Seats.{IsCall, IsOffer};
+ghost use Rattle.pool_rows.specs.Seats.{GoesOn, IsCall, IsOffer, KnowsCalls};
 
 use device_types::{DeviceId, Effect, Lane, Offer};
 use session_store::{Charter, EchoLaw};
@@ -57,6 +57,7 @@ pub trait SharedCalls: Sized {
         ensures charter { IfOk result (λ made. charter made.0 ≡ arc_value law.charter) }
         ensures count { IfOk result (λ made. (count made.0 ≡ seats) × (length made.1.items ≡ seats)) }
         ensures seats { IfOk result (λ made. All (is_seat made.0) made.1.items) }
+        ensures fresh { IfOk result (λ made. All (λ seat. (d : ℕ) (lane : Lane) → known seat d lane ≡ []) made.1.items) }
         ensures speaks { IfOk result (λ made. (n : ℕ) (seat : Self.Seat) → slice_get made.1.items n ≡ Some seat → speaks seat n) };
 
     /// The charter. It takes no memory.
@@ -76,18 +77,15 @@ pub trait SharedCalls: Sized {
     ) -> Result<Offer, AllocError>
         requires seat { is_seat self.now seat.old }
         requires call { IsCall (charter self.now) d.0 k call }
-        ensures seat { is_seat self.now seat.new }
-        ensures speaks { (n : ℕ) → speaks seat.old n → speaks seat.new n }
-        ensures extends { (i : ℕ) (lane : Lane) → Begins (known seat.old i lane) (known seat.new i lane) }
+        ensures seat { GoesOn (is_seat self.now) speaks (KnowsCalls known) seat.old seat.new }
         ensures ok { IfOk result (IsOffer (charter self.now) d.0 k call (known seat.new d.0 (lane_of call))) };
 
-    /// Joins two seats to one, which speaks for the numbers of both. It takes no memory.
+    /// Joins two seats to one, which speaks for the numbers of both and knows what both knew. It takes no memory.
     fn join(&self, into: &mut Self::Seat, from: Self::Seat)
         requires into { is_seat self.now into.old }
         requires from { is_seat self.now from }
-        ensures seat { is_seat self.now into.new }
-        ensures keeps { (n : ℕ) → speaks into.old n → speaks into.new n }
-        ensures gains { (n : ℕ) → speaks from n → speaks into.new n };
+        ensures keeps { GoesOn (is_seat self.now) speaks (KnowsCalls known) into.old into.new }
+        ensures gains { GoesOn (is_seat self.now) speaks (KnowsCalls known) from into.new };
 
     /// Closes the peers, once a seat speaks for every number: what was accepted of each device on a lane begins that lane of the
     /// machine alone, and begins with what the seat has seen. For want of memory all is dropped.

@@ -5,10 +5,12 @@ ghost use Rattle.device_types.specs.declared.effect.Effect.{Effect};
 ghost use Rattle.device_types.specs.declared.step.Entry.{Entry};
 ghost use Rattle.device_types.specs.Journal.{pushed_count};
 ghost use Rattle.session_store.specs.Charter.{CharterState, IsCharter, follows_alone};
+ghost use Rattle.effect_outbox.specs.Outbox.{number_on};
+ghost use Rattle.session_row.specs.Row.{RowState};
 ghost use Rattle.session_store.specs.Law.{IsLawful};
-ghost use Rattle.session_store.specs.Rows.{Begins, IsDevice, IsKnownAfter};
+ghost use Rattle.session_store.specs.Rows.{Begins, IsDevice, IsKnownAfter, opening_row, unsettled_effect};
 ghost use Rattle.session_store.specs.Seen.{IsAsked, peeked_of, seen_of};
-ghost use Rattle.pool_rows.specs.Seats.{IsPushed, IsSettled};
+ghost use Rattle.pool_rows.specs.Seats.{GoesOn, KnowsRows, Settles};
 
 use device_types::{DeviceId, Effect, Entry, Lane, ListOf, NoRoom};
 use effect_outbox::Settled;
@@ -18,7 +20,7 @@ use std::alloc::{AllocError, Global};
 use std::sync::Wait;
 
 /// The rows of all devices under the law of the machine alone, which threads share. Each thread has a seat, and calls by it. A
-/// seat knows of each device a journal, which its calls only extend, and it speaks for numbers of seats: a new one for its own, a
+/// seat knows of each device a row, which its calls only make later, and it speaks for numbers of seats: a new one for its own, a
 /// joined one for those of both.
 pub trait SharedRows: Sized {
     /// What a thread calls by.
@@ -36,8 +38,8 @@ pub trait SharedRows: Sized {
     /// A seat of these rows.
     ghost is_seat: { Self → Self.Seat → Type 0 };
 
-    /// The journal of the device of that number, as far as the seat has seen it.
-    ghost known: { Self.Seat → ℕ → List Entry };
+    /// The row of the device of that number, as far as the seat has seen it.
+    ghost known: { Self.Seat → ℕ → RowState };
 
     /// The seat speaks for that number.
     ghost speaks: { Self.Seat → ℕ → Type 0 };
@@ -60,6 +62,7 @@ pub trait SharedRows: Sized {
         ensures charter { IfOk result (λ made. charter made.0 ≡ arc_value law.charter) }
         ensures count { IfOk result (λ made. (count made.0 ≡ seats) × (length made.1.items ≡ seats)) }
         ensures seats { IfOk result (λ made. All (is_seat made.0) made.1.items) }
+        ensures fresh { IfOk result (λ made. All (λ seat. (d : ℕ) → known seat d ≡ opening_row) made.1.items) }
         ensures speaks { IfOk result (λ made. (n : ℕ) (seat : Self.Seat) → slice_get made.1.items n ≡ Some seat → speaks seat n) };
 
     /// The charter. It takes no memory.
@@ -78,11 +81,9 @@ pub trait SharedRows: Sized {
         requires seat { is_seat self.now seat.old }
         requires device { IsDevice (length (charter self.now).rows) d.0 }
         requires asked { IsAsked asked }
-        ensures seat { is_seat self.now seat.new }
-        ensures speaks { (n : ℕ) → speaks seat.old n → speaks seat.new n }
-        ensures extends { (i : ℕ) → Begins (known seat.old i) (known seat.new i) }
-        ensures lawful { OnOk result (IsLawful (follows_alone (charter self.now) d.0) (known seat.new d.0)) }
-        ensures ok { IfOk result (λ seen. seen ≡ seen_of (known seat.new d.0) asked) };
+        ensures seat { GoesOn (is_seat self.now) speaks (KnowsRows known) seat.old seat.new }
+        ensures lawful { OnOk result (IsLawful (follows_alone (charter self.now) d.0) (known seat.new d.0).journal) }
+        ensures ok { IfOk result (λ seen. seen ≡ seen_of (known seat.new d.0).journal asked) };
 
     /// The same without the session.
     fn peek<R: Wait>(
@@ -95,11 +96,9 @@ pub trait SharedRows: Sized {
         requires seat { is_seat self.now seat.old }
         requires device { IsDevice (length (charter self.now).rows) d.0 }
         requires asked { IsAsked asked }
-        ensures seat { is_seat self.now seat.new }
-        ensures speaks { (n : ℕ) → speaks seat.old n → speaks seat.new n }
-        ensures extends { (i : ℕ) → Begins (known seat.old i) (known seat.new i) }
-        ensures lawful { OnOk result (IsLawful (follows_alone (charter self.now) d.0) (known seat.new d.0)) }
-        ensures ok { IfOk result (λ peeked. peeked ≡ peeked_of (known seat.new d.0) asked) };
+        ensures seat { GoesOn (is_seat self.now) speaks (KnowsRows known) seat.old seat.new }
+        ensures lawful { OnOk result (IsLawful (follows_alone (charter self.now) d.0) (known seat.new d.0).journal) }
+        ensures ok { IfOk result (λ peeked. peeked ≡ peeked_of (known seat.new d.0).journal asked) };
 
     /// Writes an entry, where the row of the device still has the version that was read. For want of memory it is given back.
     fn commit<R: Wait>(
@@ -112,13 +111,11 @@ pub trait SharedRows: Sized {
     ) -> Result<Commit, NoRoom<Entry>>
         requires seat { is_seat self.now seat.old }
         requires device { IsDevice (length (charter self.now).rows) d.0 }
-        requires version { read ≤ length (known seat.old d.0) }
-        requires law { follows_alone (charter self.now) d.0 (take read (known seat.old d.0)) entry }
-        ensures seat { is_seat self.now seat.new }
-        ensures speaks { (n : ℕ) → speaks seat.old n → speaks seat.new n }
-        ensures extends { (i : ℕ) → Begins (known seat.old i) (known seat.new i) }
-        ensures lawful { OnOk result (IsLawful (follows_alone (charter self.now) d.0) (known seat.new d.0)) }
-        ensures ok { IfOk result (IsKnownAfter (known seat.new d.0) read entry) }
+        requires version { read ≤ length (known seat.old d.0).journal }
+        requires law { follows_alone (charter self.now) d.0 (take read (known seat.old d.0).journal) entry }
+        ensures seat { GoesOn (is_seat self.now) speaks (KnowsRows known) seat.old seat.new }
+        ensures lawful { OnOk result (IsLawful (follows_alone (charter self.now) d.0) (known seat.new d.0).journal) }
+        ensures ok { IfOk result (IsKnownAfter (known seat.new d.0).journal read entry) }
         ensures back { IfErr result (λ room. room.0 ≡ entry) };
 
     /// Effect `k` of a lane of the device, from 1, or `None` where it was not made or is settled. It fails for want of memory
@@ -133,11 +130,9 @@ pub trait SharedRows: Sized {
     ) -> Result<Option<Effect>, AllocError>
         requires seat { is_seat self.now seat.old }
         requires device { IsDevice (length (charter self.now).rows) d.0 }
-        ensures seat { is_seat self.now seat.new }
-        ensures speaks { (n : ℕ) → speaks seat.old n → speaks seat.new n }
-        ensures extends { (i : ℕ) → Begins (known seat.old i) (known seat.new i) }
-        ensures lawful { OnOk result (IsLawful (follows_alone (charter self.now) d.0) (known seat.new d.0)) }
-        ensures ok { IfOk result (IsPushed lane k (known seat.new d.0)) };
+        ensures seat { GoesOn (is_seat self.now) speaks (KnowsRows known) seat.old seat.new }
+        ensures lawful { OnOk result (IsLawful (follows_alone (charter self.now) d.0) (known seat.new d.0).journal) }
+        ensures ok { IfOk result (λ effect. effect ≡ unsettled_effect (known seat.new d.0) lane k) };
 
     /// The effects of a lane of the device up to `k` are settled; so many were made, as far as the seat has seen. It fails for
     /// want of memory alone.
@@ -151,19 +146,16 @@ pub trait SharedRows: Sized {
     ) -> Result<Settled, AllocError>
         requires seat { is_seat self.now seat.old }
         requires device { IsDevice (length (charter self.now).rows) d.0 }
-        requires pushed { k ≤ pushed_count lane (known seat.old d.0) }
-        ensures seat { is_seat self.now seat.new }
-        ensures speaks { (n : ℕ) → speaks seat.old n → speaks seat.new n }
-        ensures extends { (i : ℕ) → Begins (known seat.old i) (known seat.new i) }
-        ensures ok { IfOk result (IsSettled k) };
+        requires pushed { k ≤ pushed_count lane (known seat.old d.0).journal }
+        ensures seat { GoesOn (is_seat self.now) speaks (KnowsRows known) seat.old seat.new }
+        ensures ok { IfOk result (Settles (number_on (known seat.old d.0).settled lane) k (number_on (known seat.new d.0).settled lane)) };
 
-    /// Joins two seats to one, which speaks for the numbers of both. It takes no memory.
+    /// Joins two seats to one, which speaks for the numbers of both and knows what both knew. It takes no memory.
     fn join(&self, into: &mut Self::Seat, from: Self::Seat)
         requires into { is_seat self.now into.old }
         requires from { is_seat self.now from }
-        ensures seat { is_seat self.now into.new }
-        ensures keeps { (n : ℕ) → speaks into.old n → speaks into.new n }
-        ensures gains { (n : ℕ) → speaks from n → speaks into.new n };
+        ensures keeps { GoesOn (is_seat self.now) speaks (KnowsRows known) into.old into.new }
+        ensures gains { GoesOn (is_seat self.now) speaks (KnowsRows known) from into.new };
 
     /// Closes the rows, once a seat speaks for every number: the journal of each device begins with what the seat has seen. For
     /// want of memory all is dropped.
@@ -171,7 +163,7 @@ pub trait SharedRows: Sized {
         requires seat { is_seat self seat }
         requires all { (n : ℕ) → n < count self → speaks seat n }
         ensures closed { IfOk result (closes (charter self)) }
-        ensures seen { IfOk result (λ closed. (d : ℕ) → Begins (known seat d) (journal closed d)) };
+        ensures seen { IfOk result (λ closed. (d : ℕ) → Begins (known seat d).journal (journal closed d)) };
 
     /// The journal of a device in closed rows, copied: it is lawful. It fails for want of memory alone.
     fn entries(

@@ -3,7 +3,7 @@ ghost use Rattle.std.specs.Prelude.{◌≡◌, length};
 ghost use Rattle.std.specs.Arc.{arc_value};
 ghost use Rattle.store_shared.specs.FrontRow.{AreSeatsOf, SpeaksOnAll};
 ghost use Rattle.store_shared.specs.StoreBases.{store_basis};
-ghost use Rattle.pool_rows.specs.Shared.{AreClosedRows, closed_journal, journal_known};
+ghost use Rattle.pool_rows.specs.Shared.{AreClosedRows, closed_journal, row_known};
 
 use crate::journals::committed_entries;
 use crate::rows::SharedRows;
@@ -26,7 +26,7 @@ impl SharedRows for SharedStore<EchoLaw> {
 
     ghost is_seat = { λ store seat. AreSeatsOf store_basis store.fronts.fronts.items seat.seats.items × (store.devices ≡ length (arc_value store.law.charter).rows) };
 
-    ghost known = { λ seat d. journal_known seat.seats.items d };
+    ghost known = { λ seat d. row_known seat.seats.items d };
 
     ghost speaks = { λ seat n. SpeaksOnAll n seat.seats.items };
 

@@ -1,6 +1,1 @@
-mod Calls
-mod Closing
-mod Packets
-mod Seen
 mod Speaking
-mod Wholes

@@ -4,10 +4,10 @@ ghost use Rattle.crossbeam_channel.specs.Claims.{IsSeatAt};
 ghost use Rattle.crossbeam_channel.specs.Ends.{sends_on};
 ghost use Rattle.session_store.specs.Rows.{IsDevice};
 
-use crate::board::Board;
-use crate::line::{Line, Named, Place, message_at, send};
-use crate::lines::{device_behind, marked_device, messages_of};
 use device_types::DeviceId;
+use pool_work::{
+    Board, Line, Named, Place, device_behind, marked_device, message_at, messages_of, send,
+};
 use session_store::Charter;
 use std::alloc::{AllocError, Global};
 use std::sync::Wait;
@@ -16,7 +16,7 @@ use std::sync::Wait;
 const WINDOW: u64 = 4;
 
 /// What the entry knows of a device.
-#[derive(Clone, Copy, Debug)]
+#[derive(Clone, Copy)]
 struct Agent {
     /// How many messages were sent, again or not.
     out: u64,
@@ -28,7 +28,7 @@ struct Agent {
 
 /// The entry, with what it looks at.
 #[derive(Drop)]
-pub(crate) struct Entry<'a, R> {
+pub(crate) struct EntryThread<'a, R> {
     /// The handle.
     pub(crate) rt: &'a R,
     /// The table and the book.
@@ -54,7 +54,7 @@ fn new_agents(alloc: Global, devices: usize) -> Result<Vec<Agent>, AllocError> {
     Ok(agents)
 }
 
-impl<'a, R: Wait> Entry<'a, R> {
+impl<'a, R: Wait> EntryThread<'a, R> {
     /// Sends the messages of a device from that place on, at most so many. None where no one is left to take one, or there is no
     /// memory.
     fn send_from<C: Named>(
@@ -72,9 +72,6 @@ impl<'a, R: Wait> Entry<'a, R> {
     {
         let mut sent = 0u64;
         for at in from..from.saturating_add(window) {
-            let Ok(at) = usize::try_from(at) else {
-                break;
-            };
             let Some(packet) = message_at(self.charter, d, at).ok()? else {
                 break;
             };
@@ -86,8 +83,8 @@ impl<'a, R: Wait> Entry<'a, R> {
         Some(sent)
     }
 
-    /// Sends what may be sent of a device, once all that was sent has come out of the channel. Some(true) when its last message is
-    /// acknowledged; None where no one is left to take a packet, or there is no memory.
+    /// Sends what may be sent of a device, once all that was sent has come out of the channel. Some(true) when its last message
+    /// is acknowledged; None where no one is left to take a packet, or there is no memory.
     fn serve<C: Named>(
         &self,
         line: &Line<C>,

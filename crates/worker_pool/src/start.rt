@@ -2,11 +2,12 @@
 ghost use Rattle.std.specs.Prelude.{◌≡◌, ℕ, [], ◌∷◌, ◌++◌, All, IfNone, IfSome};
 ghost use Rattle.crossbeam_channel.specs.Claims.{IsSeatAt};
 ghost use Rattle.crossbeam_channel.specs.Ends.{receives_on, sends_on};
+ghost use Rattle.pool_work.specs.Stores.{AreSeats, AreUnder, BothTakeOver};
 
-use crate::desk::{Desk, Seats};
-use crate::gate::Gate;
-use crate::line::{Ends, Line, Named, Place, another};
+use crate::entry::EntryThread;
+use crate::mover::carry_all;
 use pool_rows::{SharedCalls, SharedRows};
+use pool_work::{Desk, Ends, Gate, Line, Named, Place, Seats, another};
 use std::alloc::Global;
 use std::snapshot::Snapshot;
 use std::sync::Wait;
@@ -20,9 +21,9 @@ pub(crate) struct SeatBack<'a, T: SharedRows> {
 }
 
 impl<'a, T: SharedRows> Promise<T::Seat> for SeatBack<'a, T> {
-    ghost use Rattle.std.specs.Prelude.{ℕ};
+    ghost use Rattle.pool_work.specs.Stores.{TakesOver};
 
-    ghost kept_by = { λ p r. T.is_seat p.rows.now r × ((n : ℕ) → T.speaks p.seat.value n → T.speaks r n) };
+    ghost kept_by = { λ p r. TakesOver (T.is_seat p.rows.now) T.speaks p.seat.value r };
 }
 
 /// The mover gives back both its seats.
@@ -35,9 +36,9 @@ pub(crate) struct SeatsBack<'a, T: SharedRows, P: SharedCalls> {
 }
 
 impl<'a, T: SharedRows, P: SharedCalls> Promise<Seats<T, P>> for SeatsBack<'a, T, P> {
-    ghost use Rattle.std.specs.Prelude.{ℕ};
+    ghost use Rattle.pool_work.specs.Stores.{BothTakeOver};
 
-    ghost kept_by = { λ p r. T.is_seat p.rows.now r.rows × ((n : ℕ) → T.speaks p.row_seat.value n → T.speaks r.rows n) × P.is_seat p.peers.now r.peers × ((n : ℕ) → P.speaks p.peer_seat.value n → P.speaks r.peers n) };
+    ghost kept_by = { λ p r. BothTakeOver (T.is_seat p.rows.now) T.speaks (P.is_seat p.peers.now) P.speaks p.row_seat.value r.rows p.peer_seat.value r.peers };
 }
 
 /// Takes the last of the seats out.
@@ -66,33 +67,25 @@ pub(crate) fn with_mover<
     desk: &'s Desk<'s, T, P, R, G>,
     alloc: Global,
     workers: u32,
-    mine: &mut Seats<T, P>,
+    mut mine: Seats<T, P>,
     seats: Seats<T, P>,
     line: Line<C>,
     mut place: Place,
-)
+) -> Seats<T, P>
 where
     T::Seat: Send + Drop + 's,
     P::Seat: Send + Drop + 's,
-    requires charter { desk.now.charter.now ≡ C.charter }
-    requires rows { T.charter desk.now.rows.now ≡ C.charter }
-    requires peers { P.charter desk.now.peers.now ≡ C.charter }
-    requires mine_rows { T.is_seat desk.now.rows.now mine.old.rows }
-    requires mine_peers { P.is_seat desk.now.peers.now mine.old.peers }
-    requires seat_rows { T.is_seat desk.now.rows.now seats.rows }
-    requires seat_peers { P.is_seat desk.now.peers.now seats.peers }
+    requires under { AreUnder C.charter desk.now.charter.now (T.charter desk.now.rows.now) (P.charter desk.now.peers.now) }
+    requires mine { AreSeats (T.is_seat desk.now.rows.now) (P.is_seat desk.now.peers.now) mine.rows mine.peers }
+    requires seats { AreSeats (T.is_seat desk.now.rows.now) (P.is_seat desk.now.peers.now) seats.rows seats.peers }
     requires place { IsSeatAt (sends_on line) place }
-    ensures mine_rows { T.is_seat desk.now.rows.now mine.new.rows }
-    ensures mine_peers { P.is_seat desk.now.peers.now mine.new.peers }
-    ensures keeps_rows { (n : ℕ) → T.speaks mine.old.rows n → T.speaks mine.new.rows n }
-    ensures gains_rows { (n : ℕ) → T.speaks seats.rows n → T.speaks mine.new.rows n }
-    ensures keeps_peers { (n : ℕ) → P.speaks mine.old.peers n → P.speaks mine.new.peers n }
-    ensures gains_peers { (n : ℕ) → P.speaks seats.peers n → P.speaks mine.new.peers n }
+    ensures keeps { BothTakeOver (T.is_seat desk.now.rows.now) T.speaks (P.is_seat desk.now.peers.now) P.speaks mine.rows result.rows mine.peers result.peers }
+    ensures gains { BothTakeOver (T.is_seat desk.now.rows.now) T.speaks (P.is_seat desk.now.peers.now) P.speaks seats.rows result.rows seats.peers result.peers }
 {
     let Ok(own) = line.try_clone() else {
         desk.board.stop();
-        desk.join(mine, seats);
-        return;
+        desk.join(&mut mine, seats);
+        return mine;
     };
     let own_place = another(&line, &mut place);
     let promise = SeatsBack {
@@ -102,19 +95,26 @@ where
         peer_seat: Snapshot::of(&seats.peers),
     };
     match scope.spawn_with(promise, move || {
-        desk.carry_all::<C>(alloc, seats, own, own_place)
+        carry_all::<C, T, P, R, G>(desk, alloc, seats, own, own_place)
     }) {
         Ok(handle) => {
-            desk.entry(workers).enter::<C>(alloc, line, place);
+            let entry = EntryThread {
+                rt: desk.rt,
+                charter: desk.charter,
+                board: desk.board,
+                workers,
+            };
+            entry.enter::<C>(alloc, line, place);
             let back = handle.join(desk.rt);
-            desk.join(mine, back);
+            desk.join(&mut mine, back);
         }
         Err(refused) => {
             desk.board.stop();
             let back = (refused.value)();
-            desk.join(mine, back);
+            desk.join(&mut mine, back);
         }
     }
+    mine
 }
 
 /// Starts a worker for each seat, then the mover, and sends the messages. What they give back is joined with the seats of the
@@ -133,46 +133,39 @@ pub(crate) fn with_workers<
     alloc: Global,
     workers: u32,
     mut row_seats: Vec<T::Seat>,
-    mine: &mut Seats<T, P>,
+    mine: Seats<T, P>,
     seats: Seats<T, P>,
     line: Line<C>,
     mut place: Place,
     ends: Ends<C>,
-)
+) -> Seats<T, P>
 where
     T::Seat: Send + Drop + 's,
     P::Seat: Send + Drop + 's,
-    requires charter { desk.now.charter.now ≡ C.charter }
-    requires rows { T.charter desk.now.rows.now ≡ C.charter }
-    requires peers { P.charter desk.now.peers.now ≡ C.charter }
+    requires under { AreUnder C.charter desk.now.charter.now (T.charter desk.now.rows.now) (P.charter desk.now.peers.now) }
     requires row_seats { All (T.is_seat desk.now.rows.now) row_seats.items }
-    requires mine_rows { T.is_seat desk.now.rows.now mine.old.rows }
-    requires mine_peers { P.is_seat desk.now.peers.now mine.old.peers }
-    requires seat_rows { T.is_seat desk.now.rows.now seats.rows }
-    requires seat_peers { P.is_seat desk.now.peers.now seats.peers }
+    requires mine { AreSeats (T.is_seat desk.now.rows.now) (P.is_seat desk.now.peers.now) mine.rows mine.peers }
+    requires seats { AreSeats (T.is_seat desk.now.rows.now) (P.is_seat desk.now.peers.now) seats.rows seats.peers }
     requires ends { receives_on ends ≡ sends_on line }
     requires place { IsSeatAt (sends_on line) place }
-    ensures mine_rows { T.is_seat desk.now.rows.now mine.new.rows }
-    ensures mine_peers { P.is_seat desk.now.peers.now mine.new.peers }
-    ensures keeps_rows { (n : ℕ) → T.speaks mine.old.rows n → T.speaks mine.new.rows n }
-    ensures gains_rows { (n : ℕ) → T.speaks seats.rows n → T.speaks mine.new.rows n }
-    ensures gains_each { (n : ℕ) → All (λ seat. T.speaks seat n → T.speaks mine.new.rows n) row_seats.items }
-    ensures keeps_peers { (n : ℕ) → P.speaks mine.old.peers n → P.speaks mine.new.peers n }
-    ensures gains_peers { (n : ℕ) → P.speaks seats.peers n → P.speaks mine.new.peers n }
+    ensures keeps { BothTakeOver (T.is_seat desk.now.rows.now) T.speaks (P.is_seat desk.now.peers.now) P.speaks mine.rows result.rows mine.peers result.peers }
+    ensures gains { BothTakeOver (T.is_seat desk.now.rows.now) T.speaks (P.is_seat desk.now.peers.now) P.speaks seats.rows result.rows seats.peers result.peers }
+    ensures gains_each { (n : ℕ) → All (λ seat. T.speaks seat n → T.speaks result.rows n) row_seats.items }
 {
     let Some(seat) = take_seat(desk.rows, &mut row_seats) else {
         drop(ends);
-        with_mover::<E, C, T, P, R, G>(scope, desk, alloc, workers, mine, seats, line, place);
-        return;
+        return with_mover::<E, C, T, P, R, G>(
+            scope, desk, alloc, workers, mine, seats, line, place,
+        );
     };
     let number = u32::try_from(row_seats.len()).unwrap_or(0);
     let Ok(own) = ends.try_clone() else {
         desk.board.stop();
-        with_workers::<E, C, T, P, R, G>(
+        let mut mine = with_workers::<E, C, T, P, R, G>(
             scope, desk, alloc, workers, row_seats, mine, seats, line, place, ends,
         );
         desk.rows.join(&mut mine.rows, seat);
-        return;
+        return mine;
     };
     let own_place = another(&line, &mut place);
     let promise = SeatBack {
@@ -183,19 +176,21 @@ where
         desk.work::<C>(number, alloc, seat, own, own_place)
     }) {
         Ok(handle) => {
-            with_workers::<E, C, T, P, R, G>(
+            let mut mine = with_workers::<E, C, T, P, R, G>(
                 scope, desk, alloc, workers, row_seats, mine, seats, line, place, ends,
             );
             let back = handle.join(desk.rt);
             desk.rows.join(&mut mine.rows, back);
+            mine
         }
         Err(refused) => {
             desk.board.stop();
             let back = (refused.value)();
-            with_workers::<E, C, T, P, R, G>(
+            let mut mine = with_workers::<E, C, T, P, R, G>(
                 scope, desk, alloc, workers, row_seats, mine, seats, line, place, ends,
             );
             desk.rows.join(&mut mine.rows, back);
+            mine
         }
     }
 }

@@ -3,7 +3,8 @@ use Rattle.device_types.specs.declared.event.Lane.{Lane}
 use Rattle.device_types.specs.declared.event.Lane.TheVariants as lane
 use Rattle.store_shared.proofs.Items.{if_ok}
 use Rattle.pool_ends.specs.Lanes.{HasWhole}
-use Rattle.pool_ends.proofs.Calls.{begins_trans, both, whole_more}
+use Rattle.pool_rows.specs.Laws.{calls_twice}
+use Rattle.pool_ends.proofs.Calls.{both, whole_more}
 use Rattle.pool_ends.proofs.Wholes.{journal_is_whole}
 use Rattle.pool_ends.proofs.lanes.bring_device.Goals as goal
 
@@ -30,12 +31,12 @@ returns-clause-journal g c =
     let whole = journal_is_whole charter c.args.d.0 journal (c.entries.ensures.lawful charter c.requires.closed c.requires.device) c.requires.whole in
     if_ok _ _ c.bring_lane-2.result (λ u last. whole) c.bring_lane-2.ensures.whole
 
-pub returns-clause-extends : goal.returns-clause-extends
-returns-clause-extends g c = λ i l. begins_trans _ _ _ (c.in_ok-bring_lane.ensures.extends i l) (c.bring_lane-2.ensures.extends i l)
+pub returns-clause-seat : goal.returns-clause-seat
+returns-clause-seat g c = calls_twice _ _ _ _ _ _ c.in_ok-bring_lane.ensures.seat c.bring_lane-2.ensures.seat
 
 pub returns-clause-whole : goal.returns-clause-whole
 returns-clause-whole g c =
     let charter = g.P.SharedCalls.charter c.args.peers.now in
     let d = c.args.d.0 in
-    let gateway = whole_more charter d lane.Gateway _ _ (c.bring_lane-2.ensures.extends d lane.Gateway) c.in_ok-bring_lane.ensures.whole in
+    let gateway = whole_more charter d lane.Gateway _ _ (c.bring_lane-2.ensures.seat.knows d lane.Gateway) c.in_ok-bring_lane.ensures.whole in
     if_ok _ _ c.bring_lane-2.result (λ u whole. both (λ (l : Lane). HasWhole charter d l (g.P.SharedCalls.known c.bring_lane-2.new.seat d l)) gateway whole) c.bring_lane-2.ensures.whole

@@ -3,13 +3,13 @@ use Rattle.device_types.specs.declared.event.Lane.{Lane}
 use Rattle.device_types.specs.Event.{IsCallLane}
 use Rattle.session_store.specs.Charter.{alone_in}
 use Rattle.session_store.specs.Rows.{IsDevice}
+use Rattle.pool_rows.specs.Seats.{GoesOn, KnowsCalls}
 use Rattle.pool_ends.specs.Lanes.{HasWhole}
 use Rattle.pool_ends.proofs.lanes.bring_lanes.Given as goal
 
 abbrev pub invariant-loop-index : goal.invariant-loop-index
 invariant-loop-index g l = record {
-  seat : g.P.SharedCalls.is_seat l.peers l.seat;
-  speaks : (n : ℕ) → g.P.SharedCalls.speaks l.initial.seat n → g.P.SharedCalls.speaks l.seat n;
+  seat : GoesOn (g.P.SharedCalls.is_seat l.peers) g.P.SharedCalls.speaks (KnowsCalls g.P.SharedCalls.known) l.initial.seat l.seat;
   journals : (d : ℕ) → IsDevice l.index d → g.T.SharedRows.journal l.closed d ≡ alone_in (g.P.SharedCalls.charter l.peers) d;
   whole : (d : ℕ) (m : Lane) → IsDevice l.index d → IsCallLane m → HasWhole (g.P.SharedCalls.charter l.peers) d m (g.P.SharedCalls.known l.seat d m);
 }

@@ -12,4 +12,4 @@ returns-clause-count g c =
 
 pub returns-clause-next : goal.returns-clause-next
 returns-clause-next g c =
-    counts (g.P.SharedCalls.charter c.args.peers.now) c.args.d.0 c.args.k c.args.call (g.P.SharedCalls.known c.args.seat.now c.args.d.0 (lane_of c.args.call)) (g.P.SharedCalls.known c.offer.new.seat c.args.d.0 (lane_of c.args.call)) c.in_ok-offer.offer c.in_ok-offer.ensures.ok (c.offer.ensures.extends c.args.d.0 (lane_of c.args.call))
+    counts (g.P.SharedCalls.charter c.args.peers.now) c.args.d.0 c.args.k c.args.call (g.P.SharedCalls.known c.args.seat.now c.args.d.0 (lane_of c.args.call)) (g.P.SharedCalls.known c.offer.new.seat c.args.d.0 (lane_of c.args.call)) c.in_ok-offer.offer c.in_ok-offer.ensures.ok (c.offer.ensures.seat.knows c.args.d.0 (lane_of c.args.call))

@@ -6,7 +6,7 @@ use Rattle.store_shared.specs.Legal.{lane_of}
 use Rattle.store_shared.proofs.Items.{if_ok}
 use Rattle.pool_rows.proofs.Charters.{line_at, number_low}
 use Rattle.pool_rows.proofs.Offers.{accepted_still, offer_told}
-use Rattle.pool_rows.proofs.Seats.{moves, offered_moves, speaks_still}
+use Rattle.pool_rows.proofs.Seats.{goes_on, offered_moves}
 use Rattle.pool_rows.proofs.shared_peers.SharedPeersSharedCalls.offer.Goals as goal
 
 pub offer-requires-clause-offered : goal.offer-requires-clause-offered
@@ -23,11 +23,10 @@ offer-requires-clause-offered g c =
       law = is.law;
     }
 
-pub returns-clause-speaks : goal.returns-clause-speaks
-returns-clause-speaks g c = speaks_still c.args.seat.now.seats.items c.offer.new.seat.seats.items (shard_of c.args.d.0) (moves _ _ c.args.seat.now.seats.items c.offer.new.seat.seats.items (shard_of c.args.d.0) _ c.offer.result (λ a offered. offered_moves c.offer.ensures.others offered) c.offer.ensures.others c.offer.ensures.ok c.offer.ensures.err)
-
-pub returns-clause-extends : goal.returns-clause-extends
-returns-clause-extends g c = accepted_still c.args.seat.now.seats.items c.offer.new.seat.seats.items (shard_of c.args.d.0) (moves _ _ c.args.seat.now.seats.items c.offer.new.seat.seats.items (shard_of c.args.d.0) _ c.offer.result (λ a offered. offered_moves c.offer.ensures.others offered) c.offer.ensures.others c.offer.ensures.ok c.offer.ensures.err)
+pub returns-clause-seat : goal.returns-clause-seat
+returns-clause-seat g c =
+    let at = shard_of c.args.d.0 in
+    goes_on _ _ _ _ c.args.seat.now c.offer.new.seat at _ c.offer.result (accepted_still c.args.seat.now.seats.items c.offer.new.seat.seats.items at) (λ a offered. offered_moves c.offer.ensures.others offered) c.offer.ensures.others c.offer.ensures.seat c.offer.ensures.ok c.offer.ensures.err
 
 pub returns-clause-ok : goal.returns-clause-ok
 returns-clause-ok g c =

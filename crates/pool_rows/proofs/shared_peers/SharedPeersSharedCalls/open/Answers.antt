@@ -1,4 +1,5 @@
 use Rattle.store_shared.proofs.Items.{if_ok}
+use Rattle.pool_rows.proofs.Offers.{fresh_calls}
 use Rattle.pool_rows.proofs.Closed.{fresh_speaks, if_both}
 use Rattle.pool_rows.proofs.shared_peers.SharedPeersSharedCalls.open.Goals as goal
 
@@ -7,3 +8,6 @@ returns-clause-count c = if_both _ _ _ c.new.result (λ made seated count. (seat
 
 pub returns-clause-speaks : goal.returns-clause-speaks
 returns-clause-speaks c = if_ok _ _ c.new.result (λ made fresh n s got. fresh_speaks _ _ _ _ n s (fresh n s got)) c.new.ensures.seats
+
+pub returns-clause-fresh : goal.returns-clause-fresh
+returns-clause-fresh c = if_ok _ _ c.new.result (λ made fresh. fresh_calls _ _ _ _ made.1.items fresh) c.new.ensures.seats

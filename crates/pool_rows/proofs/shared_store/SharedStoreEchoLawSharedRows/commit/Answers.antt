@@ -4,14 +4,13 @@ use Rattle.session_store.specs.Shards.{shard_of}
 use Rattle.store_shared.proofs.Items.{if_ok}
 use Rattle.pool_rows.proofs.Closed.{if_both}
 use Rattle.pool_rows.proofs.Known.{known_after, known_more, lawful_now}
-use Rattle.pool_rows.proofs.Seats.{called_moves, moves, speaks_still}
+use Rattle.pool_rows.proofs.Seats.{called_moves, goes_on}
 use Rattle.pool_rows.proofs.shared_store.SharedStoreEchoLawSharedRows.commit.Goals as goal
 
-pub returns-clause-speaks : goal.returns-clause-speaks
-returns-clause-speaks g c = speaks_still c.args.seat.now.seats.items c.commit.new.seat.seats.items (shard_of c.args.d.0) (moves _ _ c.args.seat.now.seats.items c.commit.new.seat.seats.items (shard_of c.args.d.0) _ c.commit.result (λ a called. called_moves c.commit.ensures.others called) c.commit.ensures.others c.commit.ensures.ok c.commit.ensures.err)
-
-pub returns-clause-extends : goal.returns-clause-extends
-returns-clause-extends g c = known_more c.args.seat.now.seats.items c.commit.new.seat.seats.items (shard_of c.args.d.0) (moves _ _ c.args.seat.now.seats.items c.commit.new.seat.seats.items (shard_of c.args.d.0) _ c.commit.result (λ a called. called_moves c.commit.ensures.others called) c.commit.ensures.others c.commit.ensures.ok c.commit.ensures.err)
+pub returns-clause-seat : goal.returns-clause-seat
+returns-clause-seat g c =
+    let at = shard_of c.args.d.0 in
+    goes_on _ _ _ _ c.args.seat.now c.commit.new.seat at _ c.commit.result (known_more c.args.seat.now.seats.items c.commit.new.seat.seats.items at) (λ a called. called_moves c.commit.ensures.others called) c.commit.ensures.others (c.commit.ensures.seat, c.requires.seat.1) c.commit.ensures.ok c.commit.ensures.err
 
 pub returns-clause-lawful : goal.returns-clause-lawful
 returns-clause-lawful g c = if_ok _ _ c.commit.result (λ a called. lawful_now called (subst (λ (n : ℕ). IsDevice n c.args.d.0) (sym c.requires.seat.1) c.requires.device)) c.commit.ensures.ok

@@ -1,6 +1,7 @@
 use Rattle.std.proofs.Common.{length, sym, ap, ◌∙◌}
 use Rattle.session_store.specs.Charter.{CharterState}
 use Rattle.store_shared.proofs.Items.{if_ok}
+use Rattle.pool_rows.proofs.Known.{fresh_rows}
 use Rattle.pool_rows.proofs.Closed.{fresh_speaks, if_all, if_both}
 use Rattle.pool_rows.proofs.shared_store.SharedStoreEchoLawSharedRows.open.Goals as goal
 
@@ -13,3 +14,6 @@ returns-clause-speaks c = if_ok _ _ c.new.result (λ made fresh n s got. fresh_s
 pub returns-clause-seats : goal.returns-clause-seats
 returns-clause-seats c =
     if_all _ _ _ _ c.new.result (λ made held devices charter k s lt. (held k s lt, devices ∙ (c.requires.devices ∙ ap (λ (of : CharterState). length of.rows) (sym charter)))) c.new.ensures.held c.new.ensures.devices c.new.ensures.charter
+
+pub returns-clause-fresh : goal.returns-clause-fresh
+returns-clause-fresh c = if_ok _ _ c.new.result (λ made fresh. fresh_rows _ _ _ _ made.1.items fresh) c.new.ensures.seats

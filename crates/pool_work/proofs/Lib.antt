@@ -1,0 +1,4 @@
+mod Calls
+pub mod Packets
+mod Seen
+mod Wholes

@@ -1,0 +1,230 @@
+//! What the threads tell one another, besides what goes through the channel. No clause rests on it.
+
+use device_types::DeviceId;
+use std::alloc::{AllocError, Global};
+use std::sync::Wait;
+use std::sync::atomic::{AtomicU64, Ordering};
+
+/// A mark for each device, and a bell for the one thread that clears them.
+#[derive(Drop)]
+pub struct Bell {
+    marks: Vec<AtomicU64>,
+    rings: AtomicU64,
+    sleeps: AtomicU64,
+}
+
+/// So many words.
+fn words(alloc: Global, count: usize) -> Result<Vec<AtomicU64>, AllocError> {
+    let mut all = Vec::new(alloc);
+    for _ in 0..count {
+        let Ok(()) = all.push(AtomicU64::new(0)) else {
+            return Err(AllocError);
+        };
+    }
+    Ok(all)
+}
+
+impl Bell {
+    /// A bell for so many devices, none of which is marked.
+    fn new(alloc: Global, devices: usize) -> Result<Bell, AllocError> {
+        Ok(Bell {
+            marks: words(alloc, devices / 64 + 1)?,
+            rings: AtomicU64::new(0),
+            sleeps: AtomicU64::new(0),
+        })
+    }
+
+    /// Marks a device, and wakes the one that clears.
+    pub(crate) fn mark(&self, d: DeviceId) {
+        if let Some(word) = self.marks.get(d.0 as usize / 64) {
+            word.fetch_or(1u64 << (d.0 % 64), Ordering::SeqCst);
+        }
+        self.ring();
+    }
+
+    /// Wakes the one that clears, if it sleeps.
+    pub(crate) fn ring(&self) {
+        if self.sleeps.load(Ordering::SeqCst) == 1 && self.sleeps.swap(0, Ordering::SeqCst) == 1 {
+            self.rings.fetch_add(1, Ordering::SeqCst);
+            self.rings.wake_one();
+        }
+    }
+
+    /// How many words of marks there are.
+    pub fn count(&self) -> usize {
+        self.marks.len()
+    }
+
+    /// Clears a word of marks, and tells it.
+    pub fn take(&self, at: usize) -> u64 {
+        match self.marks.get(at) {
+            Some(word) if word.load(Ordering::SeqCst) != 0 => word.swap(0, Ordering::SeqCst),
+            _ => 0,
+        }
+    }
+
+    /// Is a device marked?
+    fn has_marks(&self) -> bool {
+        for word in &self.marks {
+            if word.load(Ordering::SeqCst) != 0 {
+                return true;
+            }
+        }
+        false
+    }
+
+    /// Sleeps until a device is marked or the threads are to end, or for less.
+    fn wait<R: Wait>(&self, rt: &R, over: &AtomicU64) {
+        let heard = self.rings.load(Ordering::SeqCst);
+        self.sleeps.store(1, Ordering::SeqCst);
+        if over.load(Ordering::SeqCst) == 0 && !self.has_marks() {
+            self.rings.park(rt, (heard % 4294967296) as u32);
+        }
+        self.sleeps.store(0, Ordering::SeqCst);
+    }
+}
+
+/// What a write tells of its device.
+#[derive(Clone, Copy)]
+pub(crate) struct News {
+    /// The number of its message, if it took one.
+    pub(crate) taken: Option<u64>,
+    /// How many steps were committed.
+    pub(crate) version: u64,
+    /// No answer is awaited.
+    pub(crate) rests: bool,
+    /// There are effects to be brought.
+    pub(crate) has_effects: bool,
+}
+
+/// What is told of a device.
+#[derive(Drop)]
+struct Told {
+    /// How many of its messages were taken.
+    taken: AtomicU64,
+    /// Twice the number of its steps, and one more where no answer is awaited.
+    status: AtomicU64,
+    /// How many of its messages came out of the channel and were dealt with.
+    done: AtomicU64,
+}
+
+/// What the threads tell one another.
+#[derive(Drop)]
+pub struct Board {
+    told: Vec<Told>,
+    /// The devices whose messages the entry looks at.
+    pub entry: Bell,
+    /// The devices whose effects the mover looks at.
+    pub mover: Bell,
+    over: AtomicU64,
+}
+
+impl Board {
+    /// A board of so many devices, at which nothing was told.
+    pub fn new(alloc: Global, devices: usize) -> Result<Board, AllocError> {
+        let mut told = Vec::new(alloc);
+        for _ in 0..devices {
+            let Ok(()) = told.push(Told {
+                taken: AtomicU64::new(0),
+                status: AtomicU64::new(1),
+                done: AtomicU64::new(0),
+            }) else {
+                return Err(AllocError);
+            };
+        }
+        Ok(Board {
+            told,
+            entry: Bell::new(alloc, devices)?,
+            mover: Bell::new(alloc, devices)?,
+            over: AtomicU64::new(0),
+        })
+    }
+
+    /// What is told of a device.
+    fn told(&self, d: DeviceId) -> Option<&Told> {
+        self.told.get((d.0 as usize).checked_sub(1)?)
+    }
+
+    /// Tells the threads to end.
+    pub fn stop(&self) {
+        self.over.store(1, Ordering::SeqCst);
+        self.entry.ring();
+        self.mover.ring();
+    }
+
+    /// Are the threads to end?
+    pub fn is_over(&self) -> bool {
+        self.over.load(Ordering::SeqCst) != 0
+    }
+
+    /// The entry looks at each of so many devices.
+    pub fn mark_all(&self, devices: usize) {
+        for number in 1..devices.saturating_add(1) {
+            if let Ok(number) = u32::try_from(number) {
+                self.entry.mark(DeviceId(number));
+            }
+        }
+    }
+
+    /// The entry sleeps until a device is marked for it or the threads are to end, or for less.
+    pub fn await_entry<R: Wait>(&self, rt: &R) {
+        self.entry.wait(rt, &self.over);
+    }
+
+    /// So does the mover.
+    pub fn await_mover<R: Wait>(&self, rt: &R) {
+        self.mover.wait(rt, &self.over);
+    }
+
+    /// Tells of a write. Of two the later one in the journal counts.
+    pub(crate) fn tell(&self, d: DeviceId, news: News) {
+        if let Some(told) = self.told(d) {
+            if let Some(number) = news.taken {
+                told.taken.fetch_max(number, Ordering::SeqCst);
+            }
+            let rests = if news.rests { 1 } else { 0 };
+            let status = news.version.saturating_mul(2).saturating_add(rests);
+            told.status.fetch_max(status, Ordering::SeqCst);
+        }
+        if news.has_effects {
+            self.mover.mark(d);
+        }
+    }
+
+    /// An input of the device was dealt with.
+    pub(crate) fn finish(&self, d: DeviceId, is_message: bool) {
+        if is_message {
+            if let Some(told) = self.told(d) {
+                told.done.fetch_add(1, Ordering::SeqCst);
+            }
+        }
+        self.entry.mark(d);
+    }
+
+    /// How many messages of the device were dealt with.
+    pub fn done(&self, d: DeviceId) -> u64 {
+        match self.told(d) {
+            Some(told) => told.done.load(Ordering::SeqCst),
+            None => 0,
+        }
+    }
+
+    /// How many messages of all devices were dealt with, those that were sent again among them.
+    pub fn dealt(&self) -> u64 {
+        let mut dealt = 0u64;
+        for told in &self.told {
+            dealt = dealt.saturating_add(told.done.load(Ordering::SeqCst));
+        }
+        dealt
+    }
+
+    /// How many messages of the device were taken, where no answer is awaited.
+    pub fn rests_at(&self, d: DeviceId) -> Option<u64> {
+        let told = self.told(d)?;
+        if told.status.load(Ordering::SeqCst) % 2 == 1 {
+            Some(told.taken.load(Ordering::SeqCst))
+        } else {
+            None
+        }
+    }
+}

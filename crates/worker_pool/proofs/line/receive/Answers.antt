@@ -1,6 +1,0 @@
-use Rattle.std.proofs.lemmas.List.Elements.{All-head, All-tail}
-use Rattle.worker_pool.specs.Packets.{IsPacket}
-use Rattle.worker_pool.proofs.line.receive.Goals as goal
-
-pub recv_as-requires-clause-rule : goal.recv_as-requires-clause-rule
-recv_as-requires-clause-rule g c = (λ x items views h at. (tt, All-tail (IsPacket g.C.Named.charter) x items h, All-head (IsPacket g.C.Named.charter) x items h), λ items views h at. tt)

@@ -1,9 +1,0 @@
-use Rattle.worker_pool.specs.Stores.{Kept}
-use Rattle.worker_pool.proofs.mover.carry_downs.Given as goal
-
-abbrev pub invariant-loop : goal.invariant-loop
-invariant-loop g l = record {
-  can_next : (goal.iterator-loop g).can_next l.iterator';
-  is_finite : (goal.iterator-loop g).is_finite l.iterator';
-  store : Kept g.T.SharedRows.speaks g.T.SharedRows.known l.initial.store l.store;
-}
