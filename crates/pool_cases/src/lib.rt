@@ -1,4 +1,4 @@
-//! Tests of the pool of workers, by public calls alone. There is nothing else here.
+//! Tests of the pool of workers, by public calls alone, and a gate for them that other tests hold their workers by.
 #![tactic(auto)]
 
 #[cfg(test)]
@@ -7,5 +7,8 @@ mod devices;
 mod finals;
 #[cfg(test)]
 mod held;
+mod holding;
 #[cfg(test)]
 mod long;
+
+pub use holding::HoldingGate;
