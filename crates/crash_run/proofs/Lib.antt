@@ -1,0 +1,4 @@
+pub mod Courses
+mod Made
+mod Shares
+mod Stores

@@ -1,0 +1,4 @@
+pub mod Course
+pub mod Made
+pub mod Stores
+pub mod Text
