@@ -1,18 +1,33 @@
 -- The rows of two devices.
-use Rattle.std.proofs.Common.{◌≡◌, ◌≤◌, ◌<◌, ◌-◌, ◌^◌, ℕ, List, [], ◌∷◌, length, take, set, Some, sym, ap, ◌∙◌, arith, length-set}
-use Rattle.std.proofs.lemmas.List.{take_all}
+use Rattle.std.proofs.Common.{◌≡◌, ◌≤◌, ◌<◌, ◌-◌, ◌^◌, ℕ, ◌⊎◌, inl, inr, List, [], ◌∷◌, length, take, set, Some, sym, ap, ◌∙◌, arith, length-set}
+use Rattle.std.proofs.lemmas.Bool.{cases_lt}
+use Rattle.std.proofs.lemmas.List.{take_all, length-take-le}
+use Rattle.std.proofs.lemmas.Option.{slice_get-get_or}
 use Rattle.device_types.specs.declared.step.Entry.{Entry}
 use Rattle.session_row.specs.Row.{RowState}
 use Rattle.session_store.specs.Charter.{CharterState}
-use Rattle.session_store.specs.Rows.{StoreState, row_of, journal_of}
+use Rattle.session_store.specs.Law.{IsLawful}
+use Rattle.session_store.specs.Rows.{StoreState, AreLawful, row_of, journal_of}
 use Rattle.session_disk.specs.Stored.{entry_count}
-use Rattle.disk_cases.specs.Numbered.{numbered_at, follows_number}
+use Rattle.disk_cases.specs.Numbered.{numbered, numbered_at, is_numbered, follows_number}
 
-pub few_entries : (rows : List RowState) → length rows ≡ 2 → length (journal_of rows 1) ≤ 9 → length (journal_of rows 2) ≤ 9 → entry_count rows < 2 ^ 40
-few_entries [] count one two = absurd (omega (arith, count))
-few_entries (a ∷ []) count one two = absurd (omega (arith, count))
-few_entries (a ∷ b ∷ []) count one two = omega (arith, one, two)
-few_entries (a ∷ b ∷ c ∷ rows) count one two = absurd (omega (arith, count))
+few : (charter : CharterState) (d : ℕ) (journal : List Entry) → IsLawful (follows_number charter d) journal → length journal ≤ 1000000
+few charter d journal lawful = parted (cases_lt 1000000 (length journal))
+  where
+    parted : (1000000 < length journal) ⊎ (length journal ≤ 1000000) → length journal ≤ 1000000
+    parted (inr is) = is
+    parted (inl many) =
+        let at = slice_get-get_or journal 1000000 (numbered 0 0) many in
+        let t = is_numbered d (length (take 1000000 journal)) _ (lawful 1000000 _ at) in
+        absurd (omega (arith, many, t.1, length-take-le 1000000 journal (omega (arith, many))))
+
+-- a law has no more entries than there is room for
+pub few_entries : (charter : CharterState) (rows : List RowState) → length rows ≡ 2 → AreLawful (follows_number charter) rows → entry_count rows < 2 ^ 40
+few_entries charter [] count lawful = absurd (omega (arith, count))
+few_entries charter (a ∷ []) count lawful = absurd (omega (arith, count))
+few_entries charter (a ∷ b ∷ []) count lawful =
+    omega (arith, few charter 1 a.journal (lawful 1 (omega arith, omega arith)), few charter 2 b.journal (lawful 2 (omega arith, omega arith)))
+few_entries charter (a ∷ b ∷ c ∷ rows) count lawful = absurd (omega (arith, count))
 
 -- the entry that is made at the length of a journal may follow the whole of it
 pub next_follows : (charter : CharterState) (d read : ℕ) (journal : List Entry) (entry : Entry) → read ≡ length journal → Some entry ≡ numbered_at d read → follows_number charter d (take read journal) entry

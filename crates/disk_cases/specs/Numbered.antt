@@ -20,20 +20,20 @@ numbered d v = record {
   step = record { session = record opening { teid = d; ip = v + 1 }; effects = [] };
 }
 
--- 99 devices have three of them
+-- 99 devices have a million of them
 abbrev pub numbered_at : ℕ → ℕ → Option Entry
-numbered_at d v = if nat_lt d 100 && nat_lt v 3 then Some (numbered d v) else None
+numbered_at d v = if nat_lt d 100 && nat_lt v 1000000 then Some (numbered d v) else None
 
 abbrev pub follows_number : CharterState → ℕ → List Entry → Entry → Type 0
 follows_number charter d journal entry = numbered_at d (length journal) ≡ Some entry
 
 -- ---- a row takes it
 
-is_numbered : (d v : ℕ) (entry : Entry) → numbered_at d v ≡ Some entry → (d < 100) × (v < 3) × (numbered d v ≡ entry)
+pub is_numbered : (d v : ℕ) (entry : Entry) → numbered_at d v ≡ Some entry → (d < 100) × (v < 1000000) × (numbered d v ≡ entry)
 is_numbered d v entry at =
-    let t = cond_some (ltb d 100 && ltb v 3) (numbered d v) entry at in
-    let both = and_parts (ltb d 100) (ltb v 3) t.0 in
-    (ltb-true d 100 both.0, ltb-true v 3 both.1, t.1)
+    let t = cond_some (ltb d 100 && ltb v 1000000) (numbered d v) entry at in
+    let both = and_parts (ltb d 100) (ltb v 1000000) t.0 in
+    (ltb-true d 100 both.0, ltb-true v 1000000 both.1, t.1)
 
 all_taken : (journal : List Entry) → ((v : ℕ) (entry : Entry) → slice_get journal v ≡ Some entry → is_message entry.input ≡ true) → taken_count journal ≡ length journal
 all_taken [] each = refl

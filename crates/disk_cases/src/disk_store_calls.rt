@@ -1,12 +1,9 @@
 //! A store on disks in memory that fail, and on files that were cut or changed.
-ghost use Rattle.std.specs.Prelude.{◌≡◌, ◌<◌, ◌^◌, true, length, IfOk};
-ghost use Rattle.session_store.specs.Rows.{IsDevice, journal_of};
-ghost use Rattle.session_disk.specs.Stored.{entry_count};
+ghost use Rattle.std.specs.Prelude.{◌≡◌, ◌<◌, true, length};
 
 use crate::numbered_law::NumberedLaw;
-use device_types::DeviceId;
-use session_disk::{DiskBad, DiskStore, Maker, OpenCause, OpenFault};
-use session_store::{Asked, RowLaw};
+use crate::two_devices::{commit_in_turns, open_two, version};
+use session_disk::{DiskStore, OpenFault};
 use std::alloc::AllocError;
 use std::test::Fail;
 use store_disk::{Disk, FuseDisk};
@@ -53,94 +50,6 @@ const CUT: &str = "\
 223: 1 1
 ";
 
-/// The version of a device.
-fn version<D: Disk, L: RowLaw>(store: &mut DiskStore<D, L>, d: u32) -> Result<u64, AllocError>
-    requires open { store.old.is_open ≡ true }
-    requires device { IsDevice (length store.old.store.rows) d }
-    ensures same { (store.new.is_open ≡ true) × (store.new.store.rows ≡ store.old.store.rows) }
-    ensures version { IfOk result (λ version. version ≡ length (journal_of store.old.store.rows d)) }
-{
-    let seen = store.read(DeviceId(d), Asked::Message(1))?;
-    Ok(seen.version)
-}
-
-/// Has each device at most nine entries? Then a commit has room.
-#[tactic(auto, using(crate::proofs::Two::few_entries))]
-fn has_room<D: Disk>(store: &mut DiskStore<D, NumberedLaw>) -> Result<bool, AllocError>
-    requires open { store.old.is_open ≡ true }
-    requires count { length store.old.store.rows ≡ 2 }
-    ensures same { (store.new.is_open ≡ true) × (store.new.store.rows ≡ store.old.store.rows) }
-    ensures room { IfOk result (λ has. has ≡ true → entry_count store.old.store.rows < 2 ^ 40) }
-{
-    let one = version(store, 1)?;
-    let two = version(store, 2)?;
-    Ok(one <= 9 && two <= 9)
-}
-
-/// Commits the next entry of a device: was it acknowledged?
-#[tactic(auto, using(crate::proofs::Two::next_follows, crate::proofs::Two::same_length))]
-fn commit_next<D: Disk>(
-    store: &mut DiskStore<D, NumberedLaw>,
-    law: &NumberedLaw,
-    d: u32,
-) -> Result<bool, AllocError>
-    requires open { store.old.is_open ≡ true }
-    requires count { length store.old.store.rows ≡ 2 }
-    requires device { IsDevice 2 d }
-    ensures open { IfOk result (λ made. made ≡ true → store.new.is_open ≡ true) }
-    ensures count { IfOk result (λ made. made ≡ true → length store.new.store.rows ≡ 2) }
-{
-    if !has_room(store)? {
-        return Ok(false);
-    }
-    let read = version(store, d)?;
-    let Some(entry) = law.entry(DeviceId(d), read)? else {
-        return Ok(false);
-    };
-    match store.commit(DeviceId(d), read, entry) {
-        Ok(_) => Ok(true),
-        Err(DiskBad::NoRoom(_)) => Err(AllocError),
-        Err(DiskBad::DiskFault) => Ok(false),
-    }
-}
-
-/// Commits three entries of two devices, until one is not acknowledged: how many were.
-pub fn commit_three<D: Disk>(
-    store: &mut DiskStore<D, NumberedLaw>,
-    law: &NumberedLaw,
-) -> Result<u32, AllocError>
-    requires open { store.old.is_open ≡ true }
-    requires count { length store.old.store.rows ≡ 2 }
-{
-    if !commit_next(store, law, 1)? {
-        return Ok(0);
-    }
-    if !commit_next(store, law, 2)? {
-        return Ok(1);
-    }
-    if !commit_next(store, law, 1)? {
-        return Ok(2);
-    }
-    Ok(3)
-}
-
-/// Opens a store of two devices on a disk.
-pub fn open_two<D: Disk>(
-    law: &NumberedLaw,
-    disk: D,
-) -> Result<DiskStore<D, NumberedLaw>, OpenFault<D>>
-    ensures open { IfOk result (λ s. s.is_open ≡ true) }
-    ensures count { IfOk result (λ s. length s.store.rows ≡ 2) }
-{
-    let Ok(copy) = law.copy() else {
-        return Err(OpenFault {
-            disk,
-            cause: OpenCause::OutOfMemory,
-        });
-    };
-    DiskStore::open(law.alloc(), disk, copy, 2, law)
-}
-
 /// Tells the versions of the two devices.
 fn tell_versions<D: Disk>(
     told: &mut String,
@@ -171,8 +80,9 @@ fn run(law: &NumberedLaw, calls: u64) -> Result<(u32, Vec<u8>), AllocError> {
     let disk = FuseDisk::new(Vec::new(law.alloc()), calls);
     match open_two(law, disk) {
         Ok(mut store) => {
-            let made = commit_three(&mut store, law)?;
-            Ok((made, store.into_disk().image()))
+            let made = commit_in_turns(&mut store, law, 3);
+            let image = store.into_disk().image();
+            Ok((made?, image))
         }
         Err(OpenFault { disk, .. }) => Ok((0, disk.image())),
     }
@@ -209,7 +119,7 @@ fn two_records(law: &NumberedLaw) -> Result<Vec<u8>, AllocError> {
 }
 
 /// Opens a disk, and tells that behind a number, unless it is what was told last.
-pub fn tell_next<D: Disk + Drop>(
+pub(crate) fn tell_next<D: Disk + Drop>(
     told: &mut String,
     last: &mut String,
     law: &NumberedLaw,

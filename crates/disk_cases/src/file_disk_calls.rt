@@ -1,8 +1,10 @@
 //! A store on a file of the system: written, opened again, and cut.
 ghost use Rattle.std.specs.Prelude.{◌≤◌, length};
 
-use crate::disk_store_calls::{commit_three, open_two, tell_next};
+use crate::disk_store_calls::tell_next;
 use crate::numbered_law::NumberedLaw;
+use crate::two_devices::{commit_in_turns, open_two};
+use std::alloc::AllocError;
 use std::fs::{self, OpenOptions};
 use std::io;
 use std::test::Fail;
@@ -32,13 +34,12 @@ fn file_disk(rt: &HostRuntime) -> io::Result<FileDisk> {
     Ok(FileDisk::new(file))
 }
 
-/// Three commits on a file that is empty.
-fn write_three(rt: &HostRuntime, law: &NumberedLaw) -> Result<(), Fail> {
-    let Ok(mut store) = open_two(law, file_disk(rt)?) else {
-        return Ok(());
-    };
-    commit_three(&mut store, law)?;
-    Ok(())
+/// Three commits on a file that is empty: how many were acknowledged.
+fn write_three(law: &NumberedLaw, disk: FileDisk) -> Result<u32, AllocError> {
+    match open_two(law, disk) {
+        Ok(mut store) => commit_in_turns(&mut store, law, 3),
+        Err(_) => Ok(0),
+    }
 }
 
 /// Opens the file cut behind each of its octets.
@@ -61,7 +62,7 @@ fn a_file_keeps_what_was_committed(rt: HostRuntime) -> Result<(), Fail> {
     let law = NumberedLaw::new(rt.alloc())?;
     let _ = fs::remove_dir_all(&rt, FOLDER);
     fs::create_dir(&rt, FOLDER)?;
-    write_three(&rt, &law)?;
+    assert_eq!(rt; write_three(&law, file_disk(&rt)?)?, 3);
     let mut told = String::new(rt.alloc());
     tell_cuts(&rt, &mut told, &law, &fs::read(&rt, PATH)?)?;
     assert_eq!(rt; told.as_str(), CUT);

@@ -10,3 +10,5 @@ mod file_disk_calls;
 mod fuse_disk_calls;
 #[cfg(test)]
 mod numbered_law;
+#[cfg(test)]
+mod two_devices;

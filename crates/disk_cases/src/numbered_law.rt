@@ -8,7 +8,7 @@ use session_store::{Charter, EchoLaw, RowLaw};
 use std::alloc::{AllocError, Global};
 use subs_table::SubsTable;
 
-/// Entry v of device d, from 0, is message v + 1, behind which the session tells both; there are three for each device.
+/// Entry v of device d, from 0, is message v + 1, behind which the session tells both; there are a million for each of 99 devices.
 #[derive(Drop)]
 pub struct NumberedLaw {
     under: EchoLaw,
@@ -17,13 +17,13 @@ pub struct NumberedLaw {
 
 impl NumberedLaw {
     /// The law, under no subscriber.
-    pub fn new(alloc: Global) -> Result<NumberedLaw, AllocError> {
+    pub(crate) fn new(alloc: Global) -> Result<NumberedLaw, AllocError> {
         let under = EchoLaw::new(alloc, &SubsTable::new(alloc), &Book::new(alloc))?;
         Ok(NumberedLaw { under, alloc })
     }
 
     /// Where it takes its memory.
-    pub fn alloc(&self) -> Global {
+    pub(crate) fn alloc(&self) -> Global {
         self.alloc
     }
 }
@@ -55,7 +55,7 @@ impl Maker<NumberedLaw> for NumberedLaw {
     ghost only = { λ charter d journal entry lawful. (λ h. h, λ h. h) };
 
     fn entry(&self, d: DeviceId, version: u64) -> Result<Option<Entry>, AllocError> {
-        if d.0 >= 100 || version >= 3 {
+        if d.0 >= 100 || version >= 1_000_000 {
             return Ok(None);
         }
         let mut session = Session::opening(self.alloc);
