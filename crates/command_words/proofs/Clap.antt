@@ -15,7 +15,7 @@ use Rattle.clap.specs.declared.builder.action.ArgAction.{ArgAction}
 use Rattle.clap.specs.declared.builder.action.ArgAction.TheVariants.{Set, SetTrue}
 use Rattle.clap.specs.declared.parser.matches.ValueSource.TheVariants.{DefaultValue, CommandLine}
 use Rattle.command_words.specs.declared.options.Name.{Name}
-use Rattle.command_words.specs.declared.options.Name.TheVariants.{Replicas, Number, Devices, Rounds, Text, Device, Events, Workers}
+use Rattle.command_words.specs.declared.options.Name.TheVariants.{Replicas, Number, Devices, Rounds, Text, Device, Events, After, Workers}
 use Rattle.command_words.specs.declared.options.Takes.{Takes}
 use Rattle.command_words.specs.declared.options.Takes.TheVariants as takes
 use Rattle.command_words.specs.Matches.{action_for, asked, asked_by, is_flag}
@@ -60,7 +60,7 @@ itself a = (bytes_eq-Decides a a).1 refl
 
 -- every option
 every : List Name
-every = Replicas ∷ Number ∷ Devices ∷ Rounds ∷ Text ∷ Device ∷ Events ∷ Workers ∷ []
+every = Replicas ∷ Number ∷ Devices ∷ Rounds ∷ Text ∷ Device ∷ Events ∷ After ∷ Workers ∷ []
 
 has_name : (o : Name) → option_named every (text_of o) ≡ Some o
 unfolding every
@@ -71,6 +71,7 @@ has_name Rounds = refl
 has_name Text = refl
 has_name Device = refl
 has_name Events = refl
+has_name After = refl
 has_name Workers = refl
 
 some_name : (o : Name) → text_of o ≡ [] → ⊥
@@ -81,6 +82,7 @@ some_name Rounds e = cc
 some_name Text e = cc
 some_name Device e = cc
 some_name Events e = cc
+some_name After e = cc
 some_name Workers e = cc
 
 -- two options of one name are one

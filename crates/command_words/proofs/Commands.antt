@@ -7,7 +7,7 @@ use Rattle.command_words.specs.declared.command.AnyCommand.TheVariants as any
 use Rattle.command_words.specs.declared.command.Command.TheVariants as command
 use Rattle.command_words.specs.declared.command.ThreadsCommand.TheVariants as threads
 use Rattle.command_words.specs.declared.command.Word.{Word}
-use Rattle.command_words.specs.declared.command.Word.TheVariants.{Replay, Make, Epochs, Run, Load}
+use Rattle.command_words.specs.declared.command.Word.TheVariants.{Replay, Make, Epochs, Crash, Run, Load}
 use Rattle.command_words.specs.declared.options.Name.{Name}
 use Rattle.command_words.specs.declared.options.Name.TheVariants as option
 use Rattle.command_words.specs.Command.{command_by, options_of}
@@ -57,6 +57,10 @@ epochs_read word words m device number events read d n e =
       number_is word Epochs words m option.Number number read refl refl n,
       number_is word Epochs words m option.Events events read refl refl e,
     ) refl
+
+pub crash_read : (word : Word) (words : List (List ℕ)) (m : ArgMatches) (after : ℕ) → Read word Crash words m → IsNumber m option.After after → any.Replay (command.Crash after) ≡ command_by word words
+unfolding command_by
+crash_read word words m after read a = rw (read.0, number_is word Crash words m option.After after read refl refl a) refl
 
 pub run_read : (word : Word) (words : List (List ℕ)) (m : ArgMatches) (workers : ℕ) → Read word Run words m → IsNumber m option.Workers workers → any.Threads (threads.Run workers) ≡ command_by word words
 unfolding command_by

@@ -13,7 +13,7 @@ use Rattle.std.proofs.lemmas.Str.Parse.{IsNumeralModel, numerals_by_value, parse
 use Rattle.std.proofs.lemmas.Str.{IsUtf8-from_ascii}
 use Rattle.std.proofs.lemmas.Fmt.{IsAscii-from_digits}
 use Rattle.command_words.specs.declared.command.Word.{Word}
-use Rattle.command_words.specs.declared.command.Word.TheVariants.{Plain, Replay, Show, Make, Epochs, Run, Load}
+use Rattle.command_words.specs.declared.command.Word.TheVariants.{Plain, Replay, Show, Make, Epochs, Crash, Run, Load}
 use Rattle.command_words.specs.declared.options.Name.TheVariants.{Devices, Rounds, Workers}
 use Rattle.device_types.specs.Numbers.{IsWithin}
 use Rattle.command_words.specs.Command.{are_of, command_by, has_few_visits, options_of, HasFewVisits, IsAnyInLimits}
@@ -80,5 +80,6 @@ in_limits Epochs words e = (
   number_within 1 4096 1 (value_in (codes "device") words) (omega arith) (omega arith),
   (number_within 0 100000 100 (value_in (codes "events") words) (omega arith) (omega arith)).1,
 )
+in_limits Crash words e = tt
 in_limits Run words e = workers_within words
 in_limits Load words e = (few_visits words (are_options (options_of Load) words) e, workers_within words)

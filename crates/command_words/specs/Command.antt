@@ -12,9 +12,9 @@ use Rattle.command_words.specs.declared.command.AnyCommand.TheVariants as any
 use Rattle.command_words.specs.declared.command.TopCall.{TopCall}
 use Rattle.command_words.specs.declared.command.TopCall.TheVariants as top
 use Rattle.command_words.specs.declared.command.Word.{Word}
-use Rattle.command_words.specs.declared.command.Word.TheVariants.{Plain, Replay, Show, Make, Epochs, Run, Load}
+use Rattle.command_words.specs.declared.command.Word.TheVariants.{Plain, Replay, Show, Make, Epochs, Crash, Run, Load}
 use Rattle.command_words.specs.declared.options.Name.{Name}
-use Rattle.command_words.specs.declared.options.Name.TheVariants.{Replicas, Number, Devices, Rounds, Text, Device, Events, Workers}
+use Rattle.command_words.specs.declared.options.Name.TheVariants.{Replicas, Number, Devices, Rounds, Text, Device, Events, After, Workers}
 use Rattle.command_words.specs.Options.{are_options, is_given, number_in, text_of}
 
 -- the word of a command; each top call knows its own commands only
@@ -25,6 +25,7 @@ word_of top.Replay name =
     else if bytes_eq name (codes "show") then Some Show
     else if bytes_eq name (codes "make") then Some Make
     else if bytes_eq name (codes "epochs") then Some Epochs
+    else if bytes_eq name (codes "crash") then Some Crash
     else None
 word_of top.Threads name =
     if bytes_eq name (codes "run") then Some Run
@@ -38,6 +39,7 @@ options_of Replay = Replicas ∷ []
 options_of Show = []
 options_of Make = Number ∷ Devices ∷ Rounds ∷ Text ∷ []
 options_of Epochs = Device ∷ Number ∷ Events ∷ []
+options_of Crash = After ∷ []
 options_of Run = Workers ∷ []
 options_of Load = Number ∷ Devices ∷ Rounds ∷ Workers ∷ []
 
@@ -55,6 +57,7 @@ is_small Replay words = true
 is_small Show words = true
 is_small Make words = has_few_visits words
 is_small Epochs words = true
+is_small Crash words = true
 is_small Run words = true
 is_small Load words = has_few_visits words
 
@@ -65,6 +68,7 @@ command_by Replay words = any.Replay (command.Replay (number_in words Replicas))
 command_by Show words = any.Replay command.Show
 command_by Make words = any.Replay (command.Make (number_in words Number) (number_in words Devices) (number_in words Rounds) (is_given words (text_of Text)))
 command_by Epochs words = any.Replay (command.Epochs (number_in words Device) (number_in words Number) (number_in words Events))
+command_by Crash words = any.Replay (command.Crash (number_in words After))
 command_by Run words = any.Threads (threads.Run (number_in words Workers))
 command_by Load words = any.Threads (threads.Load (number_in words Number) (number_in words Devices) (number_in words Rounds) (number_in words Workers))
 
@@ -106,6 +110,7 @@ IsInLimits (command.Replay replicas) = IsWithin 16 replicas
 IsInLimits command.Show = Unit {0}
 IsInLimits (command.Make number devices rounds text) = HasFewVisits devices rounds
 IsInLimits (command.Epochs device number events) = IsWithin 4096 device × (events ≤ 100000)
+IsInLimits (command.Crash after) = Unit {0}
 
 abbrev pub IsThreadsInLimits : ThreadsCommand → Type 0
 IsThreadsInLimits (threads.Run workers) = IsWithin 16 workers

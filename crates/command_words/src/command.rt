@@ -46,6 +46,11 @@ pub enum Command {
         /// How many events are drawn.
         events: u32,
     },
+    /// What a disk keeps that fails after so many calls.
+    Crash {
+        /// How many calls it passes.
+        after: u32,
+    },
 }
 
 /// A command of the top call that runs threads.
@@ -91,6 +96,7 @@ enum Word {
     Show,
     Make,
     Epochs,
+    Crash,
     Run,
     Load,
 }
@@ -105,6 +111,7 @@ fn word_of(top: TopCall, name: &str) -> Option<Word>
         (TopCall::Replay, "show") => Some(Word::Show),
         (TopCall::Replay, "make") => Some(Word::Make),
         (TopCall::Replay, "epochs") => Some(Word::Epochs),
+        (TopCall::Replay, "crash") => Some(Word::Crash),
         (TopCall::Threads, "run") => Some(Word::Run),
         (TopCall::Threads, "load") => Some(Word::Load),
         _ => None,
@@ -120,6 +127,7 @@ fn options_of(word: Word) -> &'static [Name]
         Word::Replay => &[Name::Replicas],
         Word::Make => &[Name::Number, Name::Devices, Name::Rounds, Name::Text],
         Word::Epochs => &[Name::Device, Name::Number, Name::Events],
+        Word::Crash => &[Name::After],
         Word::Run => &[Name::Workers],
         Word::Load => &[Name::Number, Name::Devices, Name::Rounds, Name::Workers],
     }
@@ -130,7 +138,7 @@ fn is_small(word: Word, words: &[String]) -> bool
     ensures { result ≡ is_small word (map string_bytes words.now) }
 {
     match word {
-        Word::Plain | Word::Replay | Word::Show | Word::Epochs | Word::Run => true,
+        Word::Plain | Word::Replay | Word::Show | Word::Epochs | Word::Crash | Word::Run => true,
         Word::Make | Word::Load => {
             let devices = u64::from(number_in(words, Name::Devices));
             let rounds = u64::from(number_in(words, Name::Rounds));
@@ -168,6 +176,9 @@ fn command_from(word: Word, matches: &ArgMatches<'_>) -> AnyCommand
             device: number(matches, Name::Device),
             number: number(matches, Name::Number),
             events: number(matches, Name::Events),
+        }),
+        Word::Crash => AnyCommand::Replay(Command::Crash {
+            after: number(matches, Name::After),
         }),
         Word::Run => AnyCommand::Threads(ThreadsCommand::Run {
             workers: number(matches, Name::Workers),

@@ -25,6 +25,8 @@ pub(crate) enum Name {
     Device,
     /// How many events are drawn.
     Events,
+    /// How many calls a disk passes before it fails.
+    After,
     /// How many workers there are.
     Workers,
 }
@@ -57,6 +59,7 @@ pub(crate) fn text_of(name: Name) -> &'static str
         Name::Text => "text",
         Name::Device => "device",
         Name::Events => "events",
+        Name::After => "after",
         Name::Workers => "workers",
     }
 }
@@ -67,7 +70,7 @@ pub(crate) fn takes_of(name: Name) -> Takes
 {
     let (least, most, default) = match name {
         Name::Replicas => (1, 16, Some(2)),
-        Name::Number => (0, u32::MAX, None),
+        Name::Number | Name::After => (0, u32::MAX, None),
         Name::Devices => (1, 800, None),
         Name::Rounds => (0, 799, None),
         Name::Text => return Takes::Nothing,

@@ -12,6 +12,7 @@ use std::test::Fail;
 const NAMES: &str = "\
 row {\"imsi\":\"208930000000001\",\"tmsi\":1,\"rand\":\"000102030405060708090a0b0c0d0e0f\",\"autn\":\"101112131415161718191a1b1c1d1e1f\",\"res\":\"a0a1a2a3a4a5a6a7\",\"key\":\"1111111111111111111111111111111111111111111111111111111111111111\",\"apn\":\"internet\",\"ip\":\"0a2d0001\",\"sgw\":\"c0a80001\",\"teid\":1,\"ambr_dl\":1000000000,\"ambr_ul\":1000000000,\"forbidden\":[9]}
 second-row {\"imsi\":\"208930000000002\",\"tmsi\":2,\"rand\":\"000102030405060708090a0b0c0d0e0f\",\"autn\":\"101112131415161718191a1b1c1d1e1f\",\"res\":\"a0a1a2a3a4a5a6a7\",\"key\":\"1111111111111111111111111111111111111111111111111111111111111111\",\"apn\":\"internet\",\"ip\":\"0a2d0002\",\"sgw\":\"c0a80001\",\"teid\":2,\"ambr_dl\":1000000000,\"ambr_ul\":1000000000,\"forbidden\":[]}
+third-row {\"imsi\":\"208930000000003\",\"tmsi\":3,\"rand\":\"000102030405060708090a0b0c0d0e0f\",\"autn\":\"101112131415161718191a1b1c1d1e1f\",\"res\":\"a0a1a2a3a4a5a6a7\",\"key\":\"1111111111111111111111111111111111111111111111111111111111111111\",\"apn\":\"internet\",\"ip\":\"0a2d0003\",\"sgw\":\"c0a80001\",\"teid\":3,\"ambr_dl\":1000000000,\"ambr_ul\":1000000000,\"forbidden\":[]}
 short-row {\"imsi\":\"20893000000001\",\"rand\":\"000102030405060708090a0b0c0d0e0f\",\"autn\":\"101112131415161718191a1b1c1d1e1f\",\"res\":\"a0a1a2a3a4a5a6a7\",\"key\":\"1111111111111111111111111111111111111111111111111111111111111111\",\"apn\":\"internet\",\"ip\":\"0a2d0001\",\"sgw\":\"c0a80001\",\"teid\":1,\"ambr_dl\":1000000000,\"ambr_ul\":1000000000,\"forbidden\":[9]}
 row-without-gateway {\"imsi\":\"208930000000001\",\"tmsi\":1,\"rand\":\"000102030405060708090a0b0c0d0e0f\",\"autn\":\"101112131415161718191a1b1c1d1e1f\",\"res\":\"a0a1a2a3a4a5a6a7\",\"key\":\"1111111111111111111111111111111111111111111111111111111111111111\",\"apn\":\"internet\",\"ip\":\"0a2d0001\",\"sgw\":\"c0a80001\",\"teid\":0,\"ambr_dl\":1000000000,\"ambr_ul\":1000000000,\"forbidden\":[9]}
 attach 000c403e000005000800020001001a00161507417108298039000000001002e0e000040201d011004300060002f8390001006440080002f839000000100086400130
@@ -22,6 +23,7 @@ no-cause 0012400f000002000000020001000800020001
 other 000c403e000005000800020001001a00161507417108298039000000002002e0e000040201d011004300060002f8390001006440080002f839000000100086400130
 moved 000c403e000005000800020002001a00161507417108298039000000001002e0e000040201d011004300060002f8390001006440080002f839000000100086400130
 service 000c4037000006000800020001001a000504c7000000004300060002f8390001006440080002f83900000010008640014000600006004000000001
+third-service 000c4037000006000800020003001a000504c7000000004300060002f8390001006440080002f83900000010008640014000600006004000000003
 area 000c4038000005000800020002001a00100f0748700bf602f83900010100000001004300060002f8390009006440080002f839000000100086400130
 detach 000c4035000005000800020001001a000d0c074509082980390000000010004300060002f8390001006440080002f839000000100086400130
 response 000d4035000005000000020001000800020001001a000c0b075308a0a1a2a3a4a5a6a7006440080002f83900000010004340060002f8390001
@@ -108,6 +110,10 @@ show = [subscribers]|row|[schedule]|take 1 2 1 = echo: case refused 26 BadLine l
 plain = [schedule]|[trace] = echo: case refused 25 BadSection line 2
 epochs --device=1 --number=22830 --events=40 = [subscribers]|row|[trace]|1 attach|1 response|1 secured|2 service|2 request|1 service = event 1: void link|event 2: sent|event 3: sent|event 4: committed 1|event 5: sent|event 6: low 1|event 7: renamed 2|event 8: sent|event 9: sent|event 10: ahead 0|event 11: old|event 12: void link|event 13: void link|event 14: sent|event 15: sent|event 16: committed 2|event 17: committed 3|event 18: repeat 1|event 19: over 1|event 20: sent|event 21: void link|event 22: sent|event 23: repeat 1|event 24: sent|event 25: sent|event 26: void link|event 27: acked 1|event 28: void link|event 29: old|event 30: sent|event 31: void link|event 32: void link|event 33: sent|event 34: over|event 35: void link|event 36: void window|event 37: sent|event 38: void link|event 39: old|event 40: void link|merge 1 2 1 1|merge 2 1 1 1|merge 1 1 2 1|session authenticating link 1/1 area 02f839 1 bearer none radio 0
 epochs --events 14 --number 999 --device 2 = [subscribers]|row|second-row|[trace]|1 service|1 other|2 other|1 service = event 1: void link|event 2: sent|event 3: sent|event 4: sent|event 5: committed 1|event 6: low 1|event 7: sent|event 8: void link|event 9: repeat 1|event 10: void link|event 11: sent|event 12: void link|event 13: void link|event 14: low 1|merge 2 1 1 1|session authenticating link 2/1 area 02f839 1 bearer none radio 0
+crash --after=18 = [subscribers]|row|[trace]|1 attach|1 response|1 secured|1 done|1 capability|1 complete = acknowledged 4 found 4|device 208930000000001 version 4
+crash --after 19 = [subscribers]|row|[trace]|1 attach|1 response|1 secured|1 done|1 capability|1 complete = acknowledged 4 found 5|device 208930000000001 version 5
+crash --after=0 = [subscribers] = acknowledged 0 found 0
+crash --after=0 = [schedule]|[trace] = echo: case refused 25 BadSection line 2
 ";
 
 /// The messages of the first subscriber from base station 1, and what becomes of the device: each row of the step table
@@ -185,7 +191,7 @@ fn put_line(text: &mut String, line: &str) -> Result<(), AllocError> {
 }
 
 /// Puts the lines that stand between bars behind a text.
-fn put_lines(text: &mut String, bars: &str) -> Result<(), AllocError> {
+pub(crate) fn put_lines(text: &mut String, bars: &str) -> Result<(), AllocError> {
     for line in bars.split('|') {
         put_line(text, line)?;
     }
@@ -193,7 +199,7 @@ fn put_lines(text: &mut String, bars: &str) -> Result<(), AllocError> {
 }
 
 /// The text of lines that stand between bars.
-fn lines(alloc: Global, bars: &str) -> Result<String, AllocError> {
+pub(crate) fn lines(alloc: Global, bars: &str) -> Result<String, AllocError> {
     let mut text = String::new(alloc);
     put_lines(&mut text, bars)?;
     Ok(text)
@@ -315,6 +321,8 @@ make --number=7 --devices=40 --rounds=20
 make --number=7 --devices=40 --rounds=19 --text=1
 run
 load
+crash
+crash --after=4294967296
 ";
 
 /// Words of `replay`, and how many replicas there are.

@@ -32,7 +32,7 @@ use Rattle.echo_run.specs.Summary.{made_replicas, scheduled_of, summary_by}
 use Rattle.top_calls.specs.Summary.{summary_of}
 use Rattle.echo_run.specs.Top.{Tells}
 use Rattle.command_words.specs.declared.command.Command.{Command}
-use Rattle.command_words.specs.declared.command.Command.TheVariants.{Plain, Replay, Show, Make, Epochs}
+use Rattle.command_words.specs.declared.command.Command.TheVariants.{Plain, Replay, Show, Make, Epochs, Crash}
 
 -- ---- what was given first is still there first
 
@@ -98,3 +98,4 @@ whole_world words (Make number devices rounds wanted) before after o text is run
     let rows = rows_of (lines_of told.octets) in
     whole (setting_of rows (admission.history rows (trace_of (lines_of told.octets))) made_replicas) ran.of_case (ran.exact_ends refl)
 whole_world words (Epochs device number events) before after o text is runs told whole = absurd (runs tt)
+whole_world words (Crash after_calls) before after o text is runs told whole = absurd (runs tt)

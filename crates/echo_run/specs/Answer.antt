@@ -9,10 +9,11 @@ use Rattle.case_form.specs.Lines.{lines_of}
 use Rattle.entry_edge.specs.Trace.{Turn, history, book_of}
 use Rattle.schedule_laws.specs.Counts.{Turn as Answered}
 use Rattle.schedule_laws.specs.Setting.{Setting}
+use Rattle.crash_run.specs.Text.{crash_text}
 use Rattle.epoch_run.specs.Text.{device_text}
 use Rattle.report_text.specs.Show.{show_text}
 use Rattle.command_words.specs.declared.command.Command.{Command}
-use Rattle.command_words.specs.declared.command.Command.TheVariants.{Plain, Replay, Show, Make, Epochs}
+use Rattle.command_words.specs.declared.command.Command.TheVariants.{Plain, Replay, Show, Make, Epochs, Crash}
 use Rattle.top_calls.specs.declared.no_text.NoText.{NoText}
 use Rattle.top_calls.specs.declared.no_text.NoText.TheVariants as no
 use Rattle.top_calls.specs.Answers.{unless_bad}
@@ -28,6 +29,10 @@ replay_of rows H schedule replicas = transcript_of (setting_of rows H replicas) 
 abbrev pub epochs_of : List Subscriber → List Turn → ℕ → ℕ → ℕ → List ℕ
 epochs_of rows H device number events = device_text rows (book_of (length rows) H) device number events
 
+-- what a disk keeps of the devices that fails after so many calls
+abbrev pub crash_of : List Subscriber → List Turn → ℕ → List ℕ
+crash_of rows H after = crash_text rows (book_of (length rows) H) after
+
 -- the case text itself is wanted, and not what comes of it
 abbrev pub is_case_wanted : Command → Bool
 is_case_wanted Plain = false
@@ -35,6 +40,7 @@ is_case_wanted (Replay replicas) = false
 is_case_wanted Show = false
 is_case_wanted (Make number devices rounds text) = text
 is_case_wanted (Epochs device number events) = false
+is_case_wanted (Crash after) = false
 
 -- the text that a command makes of a case
 unfoldable pub text_of : Command → List Subscriber → List TraceLine → List Event → List ℕ
@@ -43,6 +49,7 @@ text_of (Replay replicas) rows trace schedule = replay_of rows (history rows tra
 text_of Show rows trace schedule = show_text trace
 text_of (Make number devices rounds text) rows trace schedule = summary_by rows (history rows trace) schedule
 text_of (Epochs device number events) rows trace schedule = epochs_of rows (history rows trace) device number events
+text_of (Crash after) rows trace schedule = crash_of rows (history rows trace) after
 
 -- the case text where that is wanted; else the refusal of its first bad line, and where none is bad the text of the case
 unfoldable pub answer_of : Command → List ℕ → Result (List ℕ) (ℕ × ℕ)
@@ -59,6 +66,7 @@ text_on (Replay replicas) rows trace schedule given ends = told_of rows (history
 text_on Show rows trace schedule given ends = show_text trace
 text_on (Make number devices rounds text) rows trace schedule given ends = summary_on rows (history rows trace) schedule given ends
 text_on (Epochs device number events) rows trace schedule given ends = epochs_of rows (history rows trace) device number events
+text_on (Crash after) rows trace schedule given ends = crash_of rows (history rows trace) after
 
 -- the text of a case that is not refused
 unfoldable pub told_by : Command → List ℕ → List Answered → List DeviceEnd → Result (List ℕ) (ℕ × ℕ)
@@ -73,6 +81,7 @@ RunsOn (Replay replicas) rows trace schedule exact setting given ends = IsRun ro
 RunsOn Show rows trace schedule exact setting given ends = Unit {0}
 RunsOn (Make number devices rounds text) rows trace schedule exact setting given ends = IsRun rows (history rows trace) schedule made_replicas exact setting given ends
 RunsOn (Epochs device number events) rows trace schedule exact setting given ends = Unit {0}
+RunsOn (Crash after) rows trace schedule exact setting given ends = Unit {0}
 
 -- `replay`, and `make` where its text is not wanted, ran the schedule of the case; of the other commands it says nothing
 unfoldable pub Ran : Command → List ℕ → Bool → Option Setting → List Answered → List DeviceEnd → Type 0
@@ -87,6 +96,7 @@ IsWithoutFloor (Replay replicas) = ⊥
 IsWithoutFloor Show = Unit {0}
 IsWithoutFloor (Make number devices rounds text) = text ≡ true
 IsWithoutFloor (Epochs device number events) = Unit {0}
+IsWithoutFloor (Crash after) = Unit {0}
 
 -- that answer, unless memory ran out
 abbrev pub IsAnswer : Result (List ℕ) NoText → Result (List ℕ) (ℕ × ℕ) → Type 0

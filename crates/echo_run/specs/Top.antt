@@ -2,7 +2,7 @@
 use Rattle.std.specs.Prelude.{◌≡◌, ℕ, Bool, true, List, Option, Some, None, is_some, option_map, Result, Ok, String}
 use Rattle.std.specs.declared.alloc.Global.{Global}
 use Rattle.command_words.specs.declared.command.Command.{Command}
-use Rattle.command_words.specs.declared.command.Command.TheVariants.{Plain, Replay, Show, Make, Epochs}
+use Rattle.command_words.specs.declared.command.Command.TheVariants.{Plain, Replay, Show, Make, Epochs, Crash}
 use Rattle.command_words.specs.Command.{command_of}
 use Rattle.device_types.specs.declared.finals.DeviceEnd.{DeviceEnd}
 use Rattle.schedule_laws.specs.Counts.{Turn}
@@ -21,6 +21,7 @@ made_in (Replay replicas) = None
 made_in Show = None
 made_in (Make number devices rounds text) = Some (record { number = number; devices = devices; rounds = rounds })
 made_in (Epochs device number events) = None
+made_in (Crash after) = None
 
 abbrev pub made_by : Command → Option (List ℕ)
 made_by command = option_map case_made (made_in command)

@@ -3,7 +3,7 @@
 ghost use Rattle.std.specs.Prelude.{◌≡◌, ◌≢◌, ◌≤◌, ℕ, length, true, false, Ok, Err, IfOk, IfErr, OnOk, All};
 ghost use Rattle.device_types.specs.Numbers.{IsWithin};
 ghost use Rattle.entry_edge.specs.Trace.{history};
-ghost use Rattle.echo_run.specs.Answer.{replay_of, epochs_of, is_case_wanted, text_of, answer_of, text_on, told_by, RunsOn, Ran, IsWithoutFloor, IsAnswer};
+ghost use Rattle.echo_run.specs.Answer.{replay_of, epochs_of, crash_of, is_case_wanted, text_of, answer_of, text_on, told_by, RunsOn, Ran, IsWithoutFloor, IsAnswer};
 ghost use Rattle.command_words.specs.Command.{IsInLimits};
 ghost use Rattle.echo_run.specs.Replay.{told_of, IsRun};
 ghost use Rattle.echo_run.specs.Summary.{made_replicas, summary_by, summary_on};
@@ -18,6 +18,7 @@ use crate::replay::transcript;
 use crate::summary::scheduled;
 use case_form::{Case, CaseBad, read_case};
 use command_words::Command;
+use crash_run::crash_text;
 use device_types::{Finals, Octets};
 use echo_base::OutOfMemory;
 use epoch_run::device_text;
@@ -115,6 +116,15 @@ fn epochs(
     device_text(alloc, table.rows(), &admitted.book, device, number, events)
 }
 
+/// What a disk keeps of the devices of a case that fails after so many calls.
+fn crash(alloc: Global, case: &Case, after: u32) -> Result<Octets, OutOfMemory>
+    ensures { let turns = history case.now.table case.now.trace in
+        IfOk result (λ text. text ≡ crash_of case.now.table turns after) }
+{
+    let admitted = admitted(alloc, case)?;
+    crash_text(alloc, case.table(), &admitted.book, after)
+}
+
 /// Is the case text itself wanted, and not what comes of it?
 fn is_case_wanted(command: Command) -> bool
     ensures { result ≡ is_case_wanted command }
@@ -148,6 +158,7 @@ fn text_of<F: Floor>(
             number,
             events,
         } => epochs(alloc, case, device, number, events),
+        Command::Crash { after } => crash(alloc, case, after),
     }
 }
 

@@ -33,6 +33,11 @@ epochs --number 7 --events=40 --device 3: Epochs { device: 3, number: 7, events:
 epochs --events 0 --device=1 --number=0: Epochs { device: 1, number: 0, events: 0 }
 epochs --device=4096 --events=100000 --number 4294967295: Epochs { device: 4096, number: 4294967295, events: 100000 }
 epochs --number=08 --device 0000000009 --events=010: Epochs { device: 9, number: 8, events: 10 }
+crash --after=18: Crash { after: 18 }
+crash --after 19: Crash { after: 19 }
+crash --after=0: Crash { after: 0 }
+crash --after=4294967295: Crash { after: 4294967295 }
+crash --after=0000000007: Crash { after: 7 }
 ";
 
 /// Words of the top call that runs threads, and the command that they are.
@@ -54,6 +59,7 @@ show
 replay --replicas=2
 make --number=7 --devices=40 --rounds=19
 epochs --device=3 --number=7
+crash --after=18
 Run
 run run
 run 4
@@ -214,6 +220,24 @@ epochs --device=1 --number=7 --text
 epochs --device=1 --number=7 100
 epochs 1 7
 --device=1 epochs --number=7
+crash
+crash 18
+crash --after
+crash --after=
+crash --after=-1
+crash --after=+1
+crash --after=18x
+crash --after=4294967296
+crash --after=00000000018
+crash --after=18 --after=18
+crash --after=18 --after 19
+crash --after=18 19
+crash --After=18
+crash --before=18
+crash --after=18 --number=7
+crash --after=18 --text
+--after=18 crash
+plain --after=18
 ";
 
 /// The words of a line. A space parts the words, and an empty line has none.
@@ -235,7 +259,7 @@ enum TopCall {
 }
 
 /// Tells words again, and the command that they are.
-fn tell_command<C: Debug>(
+fn tell_command<C: Debug + Drop>(
     text: &mut String,
     line: &str,
     command: Option<C>,

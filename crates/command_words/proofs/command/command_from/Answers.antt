@@ -1,4 +1,4 @@
-use Rattle.command_words.proofs.Commands.{replay_read, make_read, epochs_read, run_read, load_read}
+use Rattle.command_words.proofs.Commands.{replay_read, make_read, epochs_read, crash_read, run_read, load_read}
 use Rattle.command_words.proofs.command.command_from.Goals as goal
 
 pub returns-in-Replay : goal.returns-in-Replay
@@ -9,6 +9,9 @@ returns-in-Make c = λ words read. make_read c.args.word words c.args.matches.no
 
 pub returns-in-Epochs : goal.returns-in-Epochs
 returns-in-Epochs c = λ words read. epochs_read c.args.word words c.args.matches.now c.number-in-Epochs.result c.number-in-Epochs-2.result c.number-in-Epochs-3.result (c.in-Epochs.is, read) c.number-in-Epochs.ensures c.number-in-Epochs-2.ensures c.number-in-Epochs-3.ensures
+
+pub returns-in-Crash : goal.returns-in-Crash
+returns-in-Crash c = λ words read. crash_read c.args.word words c.args.matches.now c.number-in-Crash.result (c.in-Crash.is, read) c.number-in-Crash.ensures
 
 pub returns-in-Run : goal.returns-in-Run
 returns-in-Run c = λ words read. run_read c.args.word words c.args.matches.now c.number-in-Run.result (c.in-Run.is, read) c.number-in-Run.ensures
