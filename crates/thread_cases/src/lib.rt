@@ -1,0 +1,9 @@
+//! Tests of the top call with threads, by public calls alone. There is nothing else here.
+#![tactic(auto)]
+
+#[cfg(test)]
+mod held;
+#[cfg(test)]
+mod runs;
+#[cfg(test)]
+mod texts;
