@@ -82,8 +82,8 @@ def main():
     for devices, count in [(40, 1000), (40, options.e), (4000, options.e)]:
         with tempfile.NamedTemporaryFile() as text:
             size = write_case(text.name, lambda: case(devices, count))
-            seconds, memory, _ = min(run(options.program, "replay", text.name) for _ in range(options.r))
-            plain, _, _ = min(run(options.program, "plain", text.name) for _ in range(options.r))
+            seconds, memory, _ = min(run(options.program, ["replay"], text.name) for _ in range(options.r))
+            plain, _, _ = min(run(options.program, ["plain"], text.name) for _ in range(options.r))
             each = (seconds - plain) / count * 1e6
             print("%8d %8d %10d %8.1f %10d %9.1f %10.2f %9.2f" % (devices, count, size, seconds * 1000, memory, plain * 1000, each, seconds / plain), flush=True)
 

@@ -99,15 +99,15 @@ def write_case(path, make):
     return os.path.getsize(path)
 
 
-def run(program, word, path):
+def run(program, words, path):
     """Seconds and KiB of one run, and how many octets it wrote."""
     with open(path, "rb") as text, tempfile.TemporaryFile() as out:
         start = time.perf_counter()
-        process = subprocess.Popen([program, word], stdin=text, stdout=out)
+        process = subprocess.Popen([program, *words], stdin=text, stdout=out)
         _, status, used = os.wait4(process.pid, 0)
         seconds = time.perf_counter() - start
         process.returncode = os.waitstatus_to_exitcode(status)
-        assert process.returncode == 0, "%s %s ended with %d" % (program, word, process.returncode)
+        assert process.returncode == 0, "%s %s ended with %d" % (program, " ".join(words), process.returncode)
         return seconds, used.ru_maxrss, out.seek(0, 2)
 
 
@@ -128,7 +128,7 @@ def main():
         for lines in (options.l // 4, options.l // 2, options.l):
             with tempfile.NamedTemporaryFile() as text:
                 size = write_case(text.name, lambda: case(lines, options.d, name))
-                runs = [run(options.program, word, text.name) for _ in range(options.r)]
+                runs = [run(options.program, [word], text.name) for _ in range(options.r)]
                 seconds, memory, out = min(runs)
                 print("%-24s %8d %10d %8.0f %10d %10d" % (label, lines, size, seconds * 1000, memory, out), flush=True)
 
