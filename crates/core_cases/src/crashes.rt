@@ -1,8 +1,8 @@
 //! What `crash` tells, by how many calls of the disk pass behind the three of opening. A commit makes four calls, the third of which
 //! brings it onto the disk: so it is found from three on, and acknowledged from four on.
 
+use crate::case_texts::{lines, put_lines};
 use crate::runs::tell_run;
-use crate::top_calls::{lines, put_lines};
 use std::alloc::Global;
 use std::test::Fail;
 

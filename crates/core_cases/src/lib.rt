@@ -2,6 +2,8 @@
 #![tactic(auto)]
 
 #[cfg(test)]
+mod case_texts;
+#[cfg(test)]
 mod crashes;
 #[cfg(test)]
 mod events;
@@ -11,7 +13,5 @@ mod made_cases;
 mod runs;
 #[cfg(test)]
 mod schedules;
-#[cfg(test)]
-mod top_calls;
 #[cfg(test)]
 mod worlds;
