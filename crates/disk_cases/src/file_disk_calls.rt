@@ -14,9 +14,10 @@ const FOLDER: &str = "disk_cases_files";
 
 const PATH: &str = "disk_cases_files/rows";
 
-/// A file of three records, cut behind so many octets: a gate and a record have 111 octets. The counts that come to the same are
-/// told by the first. The whole file has 334.
-const CUT: &str = "\
+/// How many of three commits were acknowledged; and the file of three records, cut behind so many octets: a gate and a record have
+/// 111 octets. The counts that come to the same are told by the first. The whole file has 334.
+const WRITTEN: &str = "\
+3 made
 0: 0 0
 2: Foreign { at: 0 }
 112: Foreign { at: 111 }
@@ -57,15 +58,22 @@ fn tell_cuts(
     Ok(())
 }
 
+/// Tells how many of three commits were acknowledged on a file, and what it opens to, cut behind each of its octets.
+fn tell_file(rt: &HostRuntime, told: &mut String, law: &NumberedLaw) -> Result<(), Fail> {
+    let _ = fs::remove_dir_all(rt, FOLDER);
+    fs::create_dir(rt, FOLDER)?;
+    let made = write_three(law, file_disk(rt)?)?;
+    writeln!(told, "{made} made")?;
+    tell_cuts(rt, told, law, &fs::read(rt, PATH)?)?;
+    fs::remove_dir_all(rt, FOLDER)?;
+    Ok(())
+}
+
 #[test]
 fn a_file_keeps_what_was_committed(rt: HostRuntime) -> Result<(), Fail> {
     let law = NumberedLaw::new(rt.alloc())?;
-    let _ = fs::remove_dir_all(&rt, FOLDER);
-    fs::create_dir(&rt, FOLDER)?;
-    assert_eq!(rt; write_three(&law, file_disk(&rt)?)?, 3);
     let mut told = String::new(rt.alloc());
-    tell_cuts(&rt, &mut told, &law, &fs::read(&rt, PATH)?)?;
-    assert_eq!(rt; told.as_str(), CUT);
-    fs::remove_dir_all(&rt, FOLDER)?;
+    tell_file(&rt, &mut told, &law)?;
+    assert_eq!(rt; told.as_str(), WRITTEN);
     Ok(())
 }

@@ -4,7 +4,7 @@ ghost use Rattle.session_store.specs.Rows.{IsDevice, AreLawful, journal_of};
 
 use crate::numbered_law::NumberedLaw;
 use device_types::DeviceId;
-use session_disk::{DiskBad, DiskStore, Maker, OpenCause, OpenFault};
+use session_disk::{DiskStore, Maker, OpenCause, OpenFault};
 use session_store::{Asked, RowLaw};
 use std::alloc::AllocError;
 use store_disk::Disk;
@@ -57,8 +57,7 @@ fn commit_next<D: Disk>(
     };
     match store.commit(DeviceId(d), read, entry) {
         Ok(_) => Ok(true),
-        Err(DiskBad::NoRoom(_)) => Err(AllocError),
-        Err(DiskBad::DiskFault) => Ok(false),
+        Err(_) => Ok(false),
     }
 }
 
