@@ -52,11 +52,11 @@ const THREE_TOLD: &str = "\
 16: acknowledged 4 found 4|device 208930000000001 version 1|device 208930000000002 version 2|device 208930000000003 version 1
 ";
 
-/// What `crash` tells of a case for each number of calls up to this one, where it is not what was told last.
-fn told_crashes(alloc: Global, case: &str, most: u32) -> Result<String, Fail> {
+/// What `crash` tells of a case for each number of calls below this one, where it is not what was told last.
+fn told_crashes(alloc: Global, case: &str, numbers: u32) -> Result<String, Fail> {
     let text = lines(alloc, case)?;
     let (mut told, mut last) = (String::new(alloc), String::new(alloc));
-    for after in 0..most + 1 {
+    for after in 0..numbers {
         let words = format!(in alloc; "crash --after={after}")?;
         let mut next = String::new(alloc);
         tell_run(&mut next, alloc, &words, text.as_bytes(), &[], &[])?;
@@ -79,8 +79,8 @@ fn wanted(alloc: Global, table: &str) -> Result<String, Fail> {
 
 #[test]
 fn each_number_of_calls_keeps_its_entries(rt: HostRuntime) -> Result<(), Fail> {
-    let mut told = told_crashes(rt.alloc(), ATTACH, 44)?;
-    told.push_str(told_crashes(rt.alloc(), THREE, 20)?.as_str())?;
+    let mut told = told_crashes(rt.alloc(), ATTACH, 45)?;
+    told.push_str(told_crashes(rt.alloc(), THREE, 21)?.as_str())?;
     let mut table = wanted(rt.alloc(), ATTACHED)?;
     table.push_str(wanted(rt.alloc(), THREE_TOLD)?.as_str())?;
     assert_eq!(rt; told.as_str(), table.as_str());
