@@ -7,6 +7,7 @@ use aper_fields::{
     BitWriter, EnumValue, Ranged, write_bits_fixed, write_enum, write_len, write_octet_string,
     write_octets_fixed, write_open,
 };
+use echo_base::OutOfMemory;
 use std::alloc::Global;
 use std::test::Fail;
 
@@ -94,17 +95,20 @@ fn write_piece(w: &mut BitWriter, piece: &str, value: u64) -> Result<(), Fail> {
     }
 }
 
+/// Writes the octets of a piece and a value that the table names.
+fn tell_piece(alloc: Global, text: &mut String, piece: &str, value: u64) -> Result<(), Fail> {
+    let mut w = BitWriter::new(alloc);
+    write_piece(&mut w, piece, value)?;
+    Ok(text.push_str(&hex::encode(alloc, w.bytes())?)?)
+}
+
 /// Writes a case again: the octets that are written, and behind them the piece and the value.
 fn tell_case(alloc: Global, text: &mut String, line: &str) -> Result<(), Fail> {
     let (_, case) = line.split_once(' ').ok_or("no piece")?;
     let (piece, value) = case.rsplit_once(' ').ok_or("no value")?;
-    let mut w = BitWriter::new(alloc);
-    write_piece(&mut w, piece, value.parse()?)?;
-    let digits = hex::encode(alloc, w.bytes())?;
-    text.push_str(&digits)?;
+    tell_piece(alloc, text, piece, value.parse()?)?;
     text.push(' ')?;
-    text.push_str(case)?;
-    Ok(())
+    Ok(text.push_str(case)?)
 }
 
 #[test]
@@ -120,22 +124,36 @@ fn pieces(rt: HostRuntime) -> Result<(), Fail> {
     Ok(())
 }
 
+/// Two numbers, each in as many octets as it has, behind two bits.
+fn write_numbers(w: &mut BitWriter) -> Result<(), OutOfMemory> {
+    write_bits_fixed(w, 0, 2)?;
+    Ranged::<0, 10000000000>::write(w, 1000000000)?;
+    Ranged::<0, 10000000000>::write(w, 1000000000)
+}
+
 #[test]
-fn pieces_behind_bits(rt: HostRuntime) -> Result<(), Fail> {
+fn numbers_behind_bits(rt: HostRuntime) -> Result<(), Fail> {
     let mut w = BitWriter::new(rt.alloc());
-    write_bits_fixed(&mut w, 0, 2)?;
-    Ranged::<0, 10000000000>::write(&mut w, 1000000000)?;
-    Ranged::<0, 10000000000>::write(&mut w, 1000000000)?;
+    write_numbers(&mut w)?;
     assert_eq!(rt;
         w.bytes(),
         b"\x18\x3b\x9a\xca\x00\x60\x3b\x9a\xca\x00".as_slice()
     );
+    Ok(())
+}
 
+/// Strings of bits and of octets behind a bit.
+fn write_strings(w: &mut BitWriter) -> Result<(), OutOfMemory> {
+    write_bits_fixed(w, 1, 1)?;
+    write_bits_fixed(w, 0xffff, 16)?;
+    write_bits_fixed(w, 0xabcdef, 28)?;
+    write_octets_fixed(w, b"\x01\x02\x03")
+}
+
+#[test]
+fn strings_behind_bits(rt: HostRuntime) -> Result<(), Fail> {
     let mut w = BitWriter::new(rt.alloc());
-    write_bits_fixed(&mut w, 1, 1)?;
-    write_bits_fixed(&mut w, 0xffff, 16)?;
-    write_bits_fixed(&mut w, 0xabcdef, 28)?;
-    write_octets_fixed(&mut w, b"\x01\x02\x03")?;
+    write_strings(&mut w)?;
     assert_eq!(rt;
         w.bytes(),
         b"\xff\xff\x80\x0a\xbc\xde\xf0\x01\x02\x03".as_slice()
@@ -143,15 +161,20 @@ fn pieces_behind_bits(rt: HostRuntime) -> Result<(), Fail> {
     Ok(())
 }
 
-#[test]
+/// An octet string, and open types round a value of no bits and of one.
 #[tactic(auto, unfolding(aper_fields::specs::Bits::bits, aper_fields::specs::Run::fixed_bits_run))]
-fn contents(rt: HostRuntime) -> Result<(), Fail> {
-    let mut body = BitWriter::new(rt.alloc());
-    let mut w = BitWriter::new(rt.alloc());
-    write_octet_string(&mut w, b"\xc7\x00\x00\x00")?;
-    write_open(&mut w, &body)?;
+fn write_contents(alloc: Global, w: &mut BitWriter) -> Result<(), OutOfMemory> {
+    let mut body = BitWriter::new(alloc);
+    write_octet_string(w, b"\xc7\x00\x00\x00")?;
+    write_open(w, &body)?;
     write_bits_fixed(&mut body, 1, 1)?;
-    write_open(&mut w, &body)?;
+    write_open(w, &body)
+}
+
+#[test]
+fn contents(rt: HostRuntime) -> Result<(), Fail> {
+    let mut w = BitWriter::new(rt.alloc());
+    write_contents(rt.alloc(), &mut w)?;
     assert_eq!(rt;
         w.bytes(),
         b"\x04\xc7\x00\x00\x00\x01\x00\x01\x80".as_slice()
@@ -159,14 +182,19 @@ fn contents(rt: HostRuntime) -> Result<(), Fail> {
     Ok(())
 }
 
+/// Three bits, and one behind them in the place of others that were taken back.
+fn write_again(w: &mut BitWriter) -> Result<(), OutOfMemory> {
+    write_bits_fixed(w, 0b101, 3)?;
+    let mark = w.mark();
+    write_bits_fixed(w, 0xffff, 16)?;
+    w.back_to(mark);
+    write_bits_fixed(w, 1, 1)
+}
+
 #[test]
 fn taken_back(rt: HostRuntime) -> Result<(), Fail> {
     let mut w = BitWriter::new(rt.alloc());
-    write_bits_fixed(&mut w, 0b101, 3)?;
-    let mark = w.mark();
-    write_bits_fixed(&mut w, 0xffff, 16)?;
-    w.back_to(mark);
-    write_bits_fixed(&mut w, 1, 1)?;
+    write_again(&mut w)?;
     assert_eq!(rt; w.bytes(), b"\xb0".as_slice());
     Ok(())
 }

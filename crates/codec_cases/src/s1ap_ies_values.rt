@@ -6,7 +6,6 @@ use crate::s1ap_ies_tables::{
 use crate::s1ap_ies_written::Written;
 use crate::tables::told;
 use aper_fields::{BitReader, BitWriter, end};
-use device_types::Octets;
 use echo_base::{Bad, OutOfMemory};
 use s1ap_ies::{
     BitRates, Cause, Cgi, ErabDone, ErabToSetup, OwnedValue, PlainValue, SecCaps, Stmsi, Tai,
@@ -44,6 +43,19 @@ fn tell_rest(text: &mut String, r: &mut BitReader) -> Result<(), OutOfMemory> {
     write!(text, ", then {next:?}")
 }
 
+/// Writes a value that was read of the octets, how it is written, and what stands behind it.
+fn tell_value<T: Written + Debug>(
+    alloc: Global,
+    text: &mut String,
+    value: &T,
+    octets: &[u8],
+    r: &mut BitReader,
+) -> Result<(), OutOfMemory> {
+    write!(text, "{value:?}")?;
+    tell_octets(alloc, text, value, octets)?;
+    tell_rest(text, r)
+}
+
 /// Writes what the octets are read as: the value, how it is written, and what stands behind it; or the refusal.
 fn tell<T: Written + Debug>(
     alloc: Global,
@@ -52,11 +64,7 @@ fn tell<T: Written + Debug>(
 ) -> Result<(), OutOfMemory> {
     let mut r = BitReader::new(octets, 0);
     match <T as OwnedValue>::read(alloc, &mut r) {
-        Ok(value) => {
-            write!(text, "{value:?}")?;
-            tell_octets(alloc, text, &value, octets)?;
-            tell_rest(text, &mut r)
-        }
+        Ok(value) => tell_value(alloc, text, &value, octets, &mut r),
         Err(Bad::Refused(refusal)) => write!(text, "{refusal}"),
         Err(Bad::OutOfMemory) => Err(OutOfMemory),
     }
@@ -69,11 +77,9 @@ fn tell_each<T: Written + Debug>(
     table: &str,
 ) -> Result<(), Fail> {
     let told = told(alloc, table, |alloc, text, octets| {
-        tell::<T>(alloc, text, octets)?;
-        Ok(())
+        Ok(tell::<T>(alloc, text, octets)?)
     })?;
-    text.push_str(&told)?;
-    Ok(())
+    Ok(text.push_str(&told)?)
 }
 
 /// All tables of values, one behind another.
@@ -95,20 +101,24 @@ fn wanted(alloc: Global) -> Result<String, OutOfMemory> {
     Ok(text)
 }
 
+/// All tables, with what the octets of each case are read as.
+fn tell_all(alloc: Global, text: &mut String) -> Result<(), Fail> {
+    tell_each::<Tai>(alloc, text, TAIS)?;
+    tell_each::<Cgi>(alloc, text, CGIS)?;
+    tell_each::<Stmsi>(alloc, text, STMSIS)?;
+    tell_each::<BitRates>(alloc, text, BIT_RATES)?;
+    tell_each::<SecCaps>(alloc, text, SEC_CAPS)?;
+    tell_each::<Cause>(alloc, text, CAUSES)?;
+    tell_each::<UeIds>(alloc, text, UE_IDS)?;
+    tell_each::<ErabDone>(alloc, text, ERABS_DONE)?;
+    tell_each::<ErabToSetup>(alloc, text, ERABS_TO_SETUP)
+}
+
 #[test]
 fn values(rt: HostRuntime) -> Result<(), Fail> {
-    let alloc = rt.alloc();
-    let mut text = String::new(alloc);
-    tell_each::<Tai>(alloc, &mut text, TAIS)?;
-    tell_each::<Cgi>(alloc, &mut text, CGIS)?;
-    tell_each::<Stmsi>(alloc, &mut text, STMSIS)?;
-    tell_each::<BitRates>(alloc, &mut text, BIT_RATES)?;
-    tell_each::<SecCaps>(alloc, &mut text, SEC_CAPS)?;
-    tell_each::<Cause>(alloc, &mut text, CAUSES)?;
-    tell_each::<UeIds>(alloc, &mut text, UE_IDS)?;
-    tell_each::<ErabDone>(alloc, &mut text, ERABS_DONE)?;
-    tell_each::<ErabToSetup>(alloc, &mut text, ERABS_TO_SETUP)?;
-    assert_eq!(rt; text.as_str(), wanted(alloc)?.as_str());
+    let mut text = String::new(rt.alloc());
+    tell_all(rt.alloc(), &mut text)?;
+    assert_eq!(rt; text.as_str(), wanted(rt.alloc())?.as_str());
     Ok(())
 }
 
@@ -139,28 +149,56 @@ fn items(rt: HostRuntime) -> Result<(), Fail> {
     Ok(())
 }
 
-/// An item with a NAS-PDU of so many zeros, whose length is 10 and 14 bits.
-fn long_item(alloc: Global, high: u8, low: u8, count: usize) -> Result<Octets, Fail> {
-    let mut octets = Octets::from(hex::decode(alloc, "4500093d0f80c0a8000100000001")?);
-    octets.push(high)?;
-    octets.push(low)?;
+/// Puts an item with a NAS-PDU of so many zeros, whose length is 10 and 14 bits, behind the octets.
+fn push_item(octets: &mut Vec<u8>, length: [u8; 2], count: usize) -> Result<(), OutOfMemory> {
+    octets.extend_from_slice(b"\x45\x00\x09\x3d\x0f\x80\xc0\xa8\x00\x01\x00\x00\x00\x01")?;
+    octets.extend_from_slice(&length)?;
     for _ in 0..count {
         octets.push(0)?;
     }
-    Ok(octets)
+    Ok(())
+}
+
+/// How many octets the NAS-PDU of an item has.
+fn nas_len(item: &ErabToSetup) -> usize {
+    match &item.nas {
+        Some(nas) => nas.items().len(),
+        None => 0,
+    }
+}
+
+/// Writes how many octets the NAS-PDU has of the item that the octets are, and what stands behind it; or the refusal.
+fn tell_nas(alloc: Global, text: &mut String, octets: &[u8]) -> Result<(), OutOfMemory> {
+    let mut r = BitReader::new(octets, 0);
+    match <ErabToSetup as OwnedValue>::read(alloc, &mut r) {
+        Ok(item) => {
+            let count = nas_len(&item);
+            let ends = end(&r);
+            write!(text, "{count} {ends:?}\n")
+        }
+        Err(Bad::Refused(refusal)) => write!(text, "{refusal}\n"),
+        Err(Bad::OutOfMemory) => Err(OutOfMemory),
+    }
+}
+
+/// Writes what is told of an item with a NAS-PDU of so many zeros.
+fn tell_zeros(
+    alloc: Global,
+    text: &mut String,
+    length: [u8; 2],
+    count: usize,
+) -> Result<(), OutOfMemory> {
+    let mut octets = Vec::new(alloc);
+    push_item(&mut octets, length, count)?;
+    tell_nas(alloc, text, &octets)
 }
 
 #[test]
 fn longest_nas_pdu(rt: HostRuntime) -> Result<(), Fail> {
-    // 2,048 is 0800, behind 10; one more is refused at the length
-    let octets = long_item(rt.alloc(), 0x88, 0x00, 2048)?;
-    let mut r = BitReader::new(octets.items(), 0);
-    let item = <ErabToSetup as OwnedValue>::read(rt.alloc(), &mut r)?;
-    assert_eq!(rt; item.nas.map(|nas| nas.items().len()), Some(2048));
-    assert_eq!(rt; end(&r), Ok(()));
-    let more = long_item(rt.alloc(), 0x88, 0x01, 2049)?;
     let mut text = String::new(rt.alloc());
-    tell::<ErabToSetup>(rt.alloc(), &mut text, more.items())?;
-    assert_eq!(rt; text.as_str(), "6 TooLong at 14");
+    // 2,048 is 0800, behind 10; one more is refused at the length
+    tell_zeros(rt.alloc(), &mut text, [0x88, 0x00], 2048)?;
+    tell_zeros(rt.alloc(), &mut text, [0x88, 0x01], 2049)?;
+    assert_eq!(rt; text.as_str(), "2048 Ok(())\n6 TooLong at 14\n");
     Ok(())
 }

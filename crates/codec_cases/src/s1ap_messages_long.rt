@@ -1,101 +1,130 @@
-//! Long fields: NAS-PDUs and radio capabilities.
+//! Long fields: NAS-PDUs and radio capabilities. Of each line: octets, how many octets ab stand behind them, and those behind these;
+//! and how many are written for what they are read as, or why they are refused.
 
-use crate::s1ap_messages_refused::tell_refusal;
+use crate::tables::digits_of;
+use echo_base::{Bad, OutOfMemory};
 use s1ap_messages::{Pdu, read_pdu, write_pdu};
 use std::alloc::Global;
 use std::test::Fail;
 
-/// The octets of the text, and behind them so many octets ab.
-fn with_octets(alloc: Global, text: &str, number: usize) -> Result<Vec<u8>, Fail> {
-    let mut octets = hex::decode(alloc, text)?;
+const MESSAGES: &str = "
+# a NAS-PDU of 2,048 octets: 8800; with their length 2,050: 8802; all IEs with the octets before them 2,070: 8816
+000b408816000003000000020001000800020001001a0088028800 2048 : 2075 alike
+# one of 2,049, whose length stands in octet 25; and of as many none, whose length stands in octet 23
+000b408817000003000000020001000800020001001a0088038801 2049 : 6 TooLong at 25
+000b4015000003000000020001000800020001001a00028801 0 : 6 TooLong at 23
+# a radio capability of 2,049 octets, 8801; with their length 2,051: 8803; all IEs with the octets before them 2,071: 8817
+0016408817000003000000020001000800020001004a4088038801 2049 : 2076 alike, capability 1 1 of 2049
+# one of 16,354 octets, bfe2; 16,356: bfe4; 16,376: bff8
+001640bff8000003000000020001000800020001004a40bfe4bfe2 16354 : 16381 alike, capability 1 1 of 16354
+# one of 16,000, the longest that goes the short way, be80; 16,002: be82; 16,022: be96; and of 16,001, which goes piece by piece
+001640be96000003000000020001000800020001004a40be82be80 16000 : 16027 alike, capability 1 1 of 16000
+001640be97000003000000020001000800020001004a40be83be81 16001 : 16028 alike, capability 1 1 of 16001
+# the NAS-PDU of an E-RAB that is to be set up, 2,048 octets, 8800; the item's 14 octets before it make 2,064: 8810; the list of one item,
+# with the count and the item's id, criticality and length, 2,070: 8816; all IEs 2,149: 8865
+00090088650000060000000200010008000200010042000a183b9aca00603b9aca000018008816000034008810450009200f80c0a80001000000018800 2048 006b000518000c0000004900201111111111111111111111111111111111111111111111111111111111111111: 2154 alike
+";
+
+/// Puts so many octets ab behind the octets.
+fn push_many(octets: &mut Vec<u8>, number: usize) -> Result<(), OutOfMemory> {
     for _ in 0..number {
         octets.push(0xab)?;
     }
+    Ok(())
+}
+
+/// Puts the octets of the digits behind the octets.
+fn push_digits(alloc: Global, octets: &mut Vec<u8>, digits: &str) -> Result<(), Fail> {
+    Ok(octets.extend_from_slice(&hex::decode(alloc, digits)?)?)
+}
+
+/// Puts the octets of a case behind the octets.
+fn push_case(alloc: Global, octets: &mut Vec<u8>, case: &str) -> Result<(), Fail> {
+    let (digits, rest) = case.split_once(' ').ok_or("no number")?;
+    let (number, behind) = rest.split_once(' ').ok_or("no digits")?;
+    push_digits(alloc, octets, digits)?;
+    push_many(octets, number.parse()?)?;
+    push_digits(alloc, octets, behind)
+}
+
+/// Writes how many octets are written for the message, and whether they are these.
+fn tell_written(
+    alloc: Global,
+    text: &mut String,
+    octets: &[u8],
+    pdu: &Pdu,
+) -> Result<(), OutOfMemory> {
+    let written = write_pdu(alloc, pdu)?;
+    let count = written.items().len();
+    let likeness = if written.items() == octets {
+        "alike"
+    } else {
+        "unlike"
+    };
+    write!(text, "{count} {likeness}")
+}
+
+/// Writes the identities of a message with a radio capability, and how many octets that has.
+fn tell_capability(text: &mut String, pdu: &Pdu) -> Result<(), OutOfMemory> {
+    match pdu {
+        Pdu::UeCapabilityInfoIndication { mme, enb, radio } => {
+            let count = radio.items().len();
+            write!(text, ", capability {mme} {enb} of {count}")
+        }
+        _ => Ok(()),
+    }
+}
+
+/// Writes what is told of a message that was read of the octets.
+fn tell_message(
+    alloc: Global,
+    text: &mut String,
+    octets: &[u8],
+    pdu: &Pdu,
+) -> Result<(), OutOfMemory> {
+    tell_written(alloc, text, octets, pdu)?;
+    tell_capability(text, pdu)
+}
+
+/// Writes what is told of the octets.
+fn tell(alloc: Global, text: &mut String, octets: &[u8]) -> Result<(), OutOfMemory> {
+    match read_pdu(alloc, octets) {
+        Ok(pdu) => tell_message(alloc, text, octets, &pdu),
+        Err(Bad::Refused(refusal)) => write!(text, "{refusal}"),
+        Err(Bad::OutOfMemory) => Err(OutOfMemory),
+    }
+}
+
+/// The octets of a case.
+fn octets_of(alloc: Global, case: &str) -> Result<Vec<u8>, Fail> {
+    let mut octets = Vec::new(alloc);
+    push_case(alloc, &mut octets, case)?;
     Ok(octets)
 }
 
-/// Are the octets read as a message that is written as them?
-fn comes_back(alloc: Global, octets: &[u8]) -> Result<bool, Fail> {
-    let pdu = read_pdu(alloc, octets)?;
-    let written = write_pdu(alloc, &pdu)?;
-    Ok(written.items() == octets)
+/// Writes a case again, and what is told of its octets.
+fn tell_case(alloc: Global, text: &mut String, line: &str) -> Result<(), Fail> {
+    let (case, _) = line.split_once(": ").ok_or("nothing told")?;
+    write!(text, "{case}: ")?;
+    Ok(tell(alloc, text, &octets_of(alloc, case)?)?)
 }
 
-#[test]
-fn longest_nas(rt: HostRuntime) -> Result<(), Fail> {
-    let alloc = rt.alloc();
-    // 2,048 octets: 8800; with their length 2,050: 8802; all IEs with the octets before them 2,070: 8816
-    let head = "000b408816000003000000020001000800020001001a0088028800";
-    let back = comes_back(alloc, &with_octets(alloc, head, 2048)?)?;
-    let mut text = String::new(alloc);
-    // 2,049 octets behind their length in octet 25; and of as many none, behind their length in octet 23
-    let head = "000b408817000003000000020001000800020001001a0088038801";
-    tell_refusal(alloc, &mut text, &with_octets(alloc, head, 2049)?)?;
-    text.push_str(", ")?;
-    let head = "000b4015000003000000020001000800020001001a00028801";
-    tell_refusal(alloc, &mut text, &hex::decode(alloc, head)?)?;
-    assert_eq!(rt;
-        (back, text.as_str()),
-        (true, "6 TooLong at 25, 6 TooLong at 23")
-    );
-    Ok(())
+/// Writes a line again, with what is told of it where it is a case.
+fn tell_line(alloc: Global, text: &mut String, line: &str) -> Result<(), Fail> {
+    if digits_of(line).is_some() {
+        tell_case(alloc, text, line)?;
+    } else {
+        text.push_str(line)?;
+    }
+    Ok(text.push('\n')?)
 }
 
 #[test]
 fn long_fields(rt: HostRuntime) -> Result<(), Fail> {
-    let alloc = rt.alloc();
-    // a radio capability of 2,049 octets, 8801; with their length 2,051: 8803; all IEs with the octets before them 2,071: 8817
-    let head = "0016408817000003000000020001000800020001004a4088038801";
-    let short = comes_back(alloc, &with_octets(alloc, head, 2049)?)?;
-    // one of 16,354 octets, bfe2; 16,356: bfe4; 16,376: bff8
-    let head = "001640bff8000003000000020001000800020001004a40bfe4bfe2";
-    let long = comes_back(alloc, &with_octets(alloc, head, 16354)?)?;
-    // the NAS-PDU of an E-RAB that is to be set up, 2,048 octets, 8800; the item's 14 octets before it make 2,064: 8810; the list
-    // of one item, with the count and the item's id, criticality and length, 2,070: 8816; all IEs 2,149: 8865
-    let mut octets = with_octets(alloc, BEFORE_NAS, 2048)?;
-    octets.extend_from_slice(&hex::decode(alloc, BEHIND_NAS)?)?;
-    let inside = comes_back(alloc, &octets)?;
-    assert_eq!(rt; (short, long, inside), (true, true, true));
-    Ok(())
-}
-
-/// Writes the kind of the message that the octets are, its identities, and how many octets its radio capability has.
-fn tell_capability(alloc: Global, text: &mut String, octets: &[u8]) -> Result<(), Fail> {
-    match read_pdu(alloc, octets)? {
-        Pdu::UeCapabilityInfoIndication { mme, enb, radio } => {
-            let count = radio.items().len();
-            write!(text, "capability {mme} {enb} {count}")?;
-        }
-        _ => text.push_str("another kind")?,
+    let mut text = String::new(rt.alloc());
+    for line in MESSAGES.lines() {
+        tell_line(rt.alloc(), &mut text, line)?;
     }
+    assert_eq!(rt; text.as_str(), MESSAGES);
     Ok(())
 }
-
-#[test]
-fn longest_capability_the_short_way(rt: HostRuntime) -> Result<(), Fail> {
-    let alloc = rt.alloc();
-    let mut text = String::new(alloc);
-    // 16,000 octets: be80; with their length 16,002: be82; all IEs with the octets before them 16,022: be96; all octets 16,027
-    let head = "001640be96000003000000020001000800020001004a40be82be80";
-    let octets = with_octets(alloc, head, 16000)?;
-    tell_capability(alloc, &mut text, &octets)?;
-    let count = octets.len();
-    write!(text, " of {count}")?;
-    // 16,001 octets go piece by piece: be81, be83, be97
-    let head = "001640be97000003000000020001000800020001004a40be83be81";
-    let back = (
-        comes_back(alloc, &octets)?,
-        comes_back(alloc, &with_octets(alloc, head, 16001)?)?,
-    );
-    assert_eq!(rt;
-        (text.as_str(), back),
-        ("capability 1 1 16000 of 16027", (true, true))
-    );
-    Ok(())
-}
-
-const BEFORE_NAS: &str =
-    "00090088650000060000000200010008000200010042000a183b9aca00603b9aca000018008816000034008810450009200f80c0a80001000000018800";
-
-const BEHIND_NAS: &str =
-    "006b000518000c0000004900201111111111111111111111111111111111111111111111111111111111111111";

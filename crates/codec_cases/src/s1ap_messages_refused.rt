@@ -31,17 +31,12 @@ pub(crate) fn told(alloc: Global, table: &str) -> Result<String, Fail> {
 
 #[test]
 fn refused_messages(rt: HostRuntime) -> Result<(), Fail> {
-    assert_eq!(rt; told(rt.alloc(), HEADERS)?.as_str(), HEADERS);
-    assert_eq!(rt; told(rt.alloc(), SEQUENCES)?.as_str(), SEQUENCES);
-    assert_eq!(rt; told(rt.alloc(), IES)?.as_str(), IES);
-    assert_eq!(rt;
-        told(rt.alloc(), ATTACH_REQUESTS)?.as_str(),
-        ATTACH_REQUESTS
-    );
+    assert_eq!(rt; told(rt.alloc(), MESSAGES)?.as_str(), MESSAGES);
     Ok(())
 }
 
-const HEADERS: &str = "
+const MESSAGES: &str = "
+# ---- headers
  1 Truncated at 0
 # the extension bit of the outcome; an outcome 3
 8017000f000002000040020001000840020001 8 BadChoice at 0
@@ -65,9 +60,8 @@ const HEADERS: &str = "
 2017000f0000020000400200010008400200 1 Truncated at 3
 201700800f000002000040020001000840020001 2 LongLength at 3
 201700c1000002000040020001000840020001 6 TooLong at 3
-";
 
-const SEQUENCES: &str = "
+# ---- the SEQUENCE of IEs
 # nothing in the message; a count of one octet
 20170000 1 Truncated at 4
 201700020000 1 Truncated at 5
@@ -83,9 +77,8 @@ const SEQUENCES: &str = "
 # an octet behind the IEs, within the length and behind it
 2017001000000200004002000100084002000100 13 TrailingBytes at 19
 2017000f00000200004002000100084002000100 13 TrailingBytes at 19
-";
 
-const IES: &str = "
+# ---- IEs
 # one octet of an id; an id alone; an id and a criticality
 2017000a00000200004002000100 1 Truncated at 13
 2017000b0000020000400200010008 1 Truncated at 15
@@ -108,9 +101,8 @@ const IES: &str = "
 2017000f000002000040020101000840020001 3 NonZeroPadding at 11
 2017001000000200004002000100084003400001 4 NotMinimal at 18
 2017001200000200004002000100084005c001000000 5 OutOfRange at 17
-";
 
-const ATTACH_REQUESTS: &str = "
+# ---- attach requests
 # its length of 62 in two octets; an octet more; its eNB UE S1AP ID 1 in three octets, 10 p(6)
 000c40803e000005000800020001001a00161507417108298039000000001002e0e000040201d011004300060002f8390001006440080002f839000000100086400130 2 LongLength at 3
 000c403e000005000800020001001a00161507417108298039000000001002e0e000040201d011004300060002f8390001006440080002f83900000010008640013000 13 TrailingBytes at 66

@@ -5,14 +5,12 @@ use std::test::Fail;
 
 #[test]
 fn ies_in_messages(rt: HostRuntime) -> Result<(), Fail> {
-    assert_eq!(rt; told(rt.alloc(), VALUES)?.as_str(), VALUES);
-    assert_eq!(rt; told(rt.alloc(), REPEATED_IES)?.as_str(), REPEATED_IES);
-    assert_eq!(rt; told(rt.alloc(), MISSING_IES)?.as_str(), MISSING_IES);
-    assert_eq!(rt; told(rt.alloc(), LISTS)?.as_str(), LISTS);
+    assert_eq!(rt; told(rt.alloc(), MESSAGES)?.as_str(), MESSAGES);
     Ok(())
 }
 
-const VALUES: &str = "
+const MESSAGES: &str = "
+# ---- values
 # a cause, the last content of 25 octets: padding behind its bits; and then an octet too many
 00124015000003000000020001000800020001000240020281 3 NonZeroPadding at 24
 0012401600000300000002000100080002000100024003028100 3 NonZeroPadding at 24
@@ -25,9 +23,8 @@ const VALUES: &str = "
 # a NAS-PDU of 22 octets, of which there are 21; of 20, behind which there is one
 000c403e000005000800020001001a00161607417108298039000000001002e0e000040201d011004300060002f8390001006440080002f839000000100086400130 1 Truncated at 17
 000c403e000005000800020001001a00161407417108298039000000001002e0e000040201d011004300060002f8390001006440080002f839000000100086400130 13 TrailingBytes at 38
-";
 
-const REPEATED_IES: &str = "
+# ---- IEs that come twice
 2017000f000002000040020001000040020001 12 RepeatedIe 0 at 13
 20170015000003000040020001000840020001000040020001 12 RepeatedIe 0 at 19
 20170015000003000040020001000840020001000840020001 12 RepeatedIe 8 at 19
@@ -39,9 +36,8 @@ const REPEATED_IES: &str = "
 20170014000003000040020001001a000100000040020001 12 RepeatedIe 0 at 18
 # the S-TMSI of a service request
 000c4041000007000800020001001a000504c7000000004300060002f8390001006440080002f8390000001000864001400060000600400000000100600006004000000001 12 RepeatedIe 96 at 59
-";
 
-const MISSING_IES: &str = "
+# ---- IEs that are missing
 # a release request without its cause
 0012400f000002000000020001000800020001 11 MissingIe 2 at 19
 # the first of two; either
@@ -63,9 +59,8 @@ const MISSING_IES: &str = "
 # octets too many come before: in the message, and behind it
 2017000a00000100004002000100 13 TrailingBytes at 13
 2017000900000100004002000100 13 TrailingBytes at 13
-";
 
-const LISTS: &str = "
+# ---- lists
 # items with another id, and what stands behind it is not looked at
 200900220000030000400200010008400200010033400f000033400a0a1fc0a8000200000002 11 MissingIe 50 at 24
 200900220000030000400200010008400200010033400f000034400a0a1fc0a8000200000002 11 MissingIe 50 at 24

@@ -21,11 +21,12 @@ fn tell(alloc: Global, text: &mut String, octets: &[u8]) -> Result<(), Fail> {
 
 #[test]
 fn received(rt: HostRuntime) -> Result<(), Fail> {
-    assert_eq!(rt; told(rt.alloc(), RECEIVED, tell)?.as_str(), RECEIVED);
+    assert_eq!(rt; told(rt.alloc(), MESSAGES, tell)?.as_str(), MESSAGES);
     Ok(())
 }
 
-const RECEIVED: &str = "
+const MESSAGES: &str = "
+# ---- received
 000c403e000005000800020001001a00161507417108298039000000001002e0e000040201d011004300060002f8390001006440080002f839000000100086400130 InitialUeMessage
 000d4032000005000000020001000800020001001a000908470000000000075e006440080002f83900000010004340060002f8390001 UplinkNasTransport
 200900220000030000400200010008400200010033400f000032400a0a1fc0a8000200000002 InitialContextSetupResponse
@@ -33,18 +34,8 @@ const RECEIVED: &str = "
 00124015000003000000020001000800020001000240020280 UeContextReleaseRequest
 2017000f000002000040020001000840020001 UeContextReleaseComplete
 00164016000003000000020001000800020001004a4003020102 UeCapabilityInfoIndication
-";
 
-#[test]
-fn not_received(rt: HostRuntime) -> Result<(), Fail> {
-    assert_eq!(rt;
-        told(rt.alloc(), NOT_RECEIVED, tell)?.as_str(),
-        NOT_RECEIVED
-    );
-    Ok(())
-}
-
-const NOT_RECEIVED: &str = "
+# ---- not received
 # a downlink NAS transport, and one that is cut, that has an octet too many, or that lacks its NAS-PDU
 000b4017000003000000020001000800020001001a000403074e0a 14 WrongDirection at 1
 000b4017000003000000020001000800020001001a000403074e 1 Truncated at 3

@@ -20,34 +20,60 @@ fn is_read_usually(alloc: Global, octets: &[u8], pdu: &Pdu) -> Result<bool, Fail
     }
 }
 
-/// Writes whether the octets are read and written octet by octet, and whether they are the same piece by piece.
-fn tell(alloc: Global, text: &mut String, octets: &[u8]) -> Result<(), Fail> {
-    let pdu = read_pdu(alloc, octets)?;
-    if is_read_usually(alloc, octets, &pdu)? {
+/// Is the message written octet by octet as these octets?
+fn is_written_usually(alloc: Global, octets: &[u8], pdu: &Pdu) -> Result<bool, Fail> {
+    match write_usual(alloc, pdu)? {
+        Some(written) => Ok(written.items() == octets),
+        None => Ok(false),
+    }
+}
+
+/// Is that message read piece by piece?
+fn is_read_in_pieces(alloc: Global, octets: &[u8], pdu: &Pdu) -> Result<bool, Fail> {
+    let found = read_pieces(alloc, octets)?;
+    are_alike(alloc, &found, pdu)
+}
+
+/// Is the message written piece by piece as these octets?
+fn is_written_in_pieces(alloc: Global, octets: &[u8], pdu: &Pdu) -> Result<bool, Fail> {
+    let written = write_pieces(alloc, pdu)?;
+    Ok(written.items() == octets)
+}
+
+/// Writes whether the octets are read and written octet by octet, and whether they are that message piece by piece.
+fn tell_message(alloc: Global, text: &mut String, octets: &[u8], pdu: &Pdu) -> Result<(), Fail> {
+    if is_read_usually(alloc, octets, pdu)? {
         text.push_str(" read")?;
     }
-    if let Some(written) = write_usual(alloc, &pdu)? {
-        if written.items() == octets {
-            text.push_str(" written")?;
-        }
+    if is_written_usually(alloc, octets, pdu)? {
+        text.push_str(" written")?;
     }
-    let found = read_pieces(alloc, octets)?;
-    let written = write_pieces(alloc, &pdu)?;
-    if are_alike(alloc, &found, &pdu)? && written.items() == octets {
+    if is_read_in_pieces(alloc, octets, pdu)? && is_written_in_pieces(alloc, octets, pdu)? {
         text.push_str(" alike")?;
     }
     Ok(())
+}
+
+/// Writes whether the octets are read and written octet by octet, and whether they are the same piece by piece.
+fn tell(alloc: Global, text: &mut String, octets: &[u8]) -> Result<(), Fail> {
+    let pdu = read_pdu(alloc, octets)?;
+    tell_message(alloc, text, octets, &pdu)
+}
+
+/// Writes a line again: the digits, and what is told of their octets.
+fn tell_line(alloc: Global, text: &mut String, line: &str) -> Result<(), Fail> {
+    if let Some(digits) = digits_of(line) {
+        text.push_str(digits)?;
+        tell(alloc, text, &hex::decode(alloc, digits)?)?;
+    }
+    Ok(text.push('\n')?)
 }
 
 #[test]
 fn each_kind(rt: HostRuntime) -> Result<(), Fail> {
     let mut text = String::new(rt.alloc());
     for line in KINDS.lines() {
-        if let Some(digits) = digits_of(line) {
-            text.push_str(digits)?;
-            tell(rt.alloc(), &mut text, &hex::decode(rt.alloc(), digits)?)?;
-        }
-        text.push('\n')?;
+        tell_line(rt.alloc(), &mut text, line)?;
     }
     assert_eq!(rt; text.as_str(), KINDS);
     Ok(())

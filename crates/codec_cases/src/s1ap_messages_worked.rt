@@ -4,45 +4,45 @@
 
 use crate::tables::told;
 use s1ap_ies::Criticality;
-use s1ap_messages::{MessageKind, ies_of, message_name, read_pdu, write_pdu};
+use s1ap_messages::{MessageKind, Pdu, ies_of, message_name, read_pdu, write_pdu};
 use std::alloc::Global;
 use std::test::Fail;
+
+/// Writes what was written, or `=` for the same octets.
+fn tell_octets(
+    alloc: Global,
+    text: &mut String,
+    octets: &[u8],
+    written: &[u8],
+) -> Result<(), Fail> {
+    if written == octets {
+        return Ok(text.push('=')?);
+    }
+    let digits = hex::encode(alloc, written)?;
+    Ok(text.push_str(&digits)?)
+}
+
+/// Writes what is written for a message, or `=` for the same octets.
+fn tell_written(alloc: Global, text: &mut String, octets: &[u8], pdu: &Pdu) -> Result<(), Fail> {
+    let written = write_pdu(alloc, pdu)?;
+    tell_octets(alloc, text, octets, written.items())
+}
+
+/// Writes what is written for a message, and the message.
+fn tell_message(alloc: Global, text: &mut String, octets: &[u8], pdu: &Pdu) -> Result<(), Fail> {
+    tell_written(alloc, text, octets, pdu)?;
+    Ok(write!(text, " {pdu:?}")?)
+}
 
 /// Writes what is written for the message that the octets are, or `=` for the same octets, and the message.
 pub(crate) fn tell(alloc: Global, text: &mut String, octets: &[u8]) -> Result<(), Fail> {
     let pdu = read_pdu(alloc, octets)?;
-    let written = write_pdu(alloc, &pdu)?;
-    if written.items() == octets {
-        text.push('=')?;
-    } else {
-        let digits = hex::encode(alloc, written.items())?;
-        text.push_str(&digits)?;
-    }
-    write!(text, " {pdu:?}")?;
-    Ok(())
+    tell_message(alloc, text, octets, &pdu)
 }
 
 #[test]
 fn worked_messages(rt: HostRuntime) -> Result<(), Fail> {
-    assert_eq!(rt;
-        told(rt.alloc(), NAS_TRANSPORTS, tell)?.as_str(),
-        NAS_TRANSPORTS
-    );
-    assert_eq!(rt; told(rt.alloc(), CONTEXTS, tell)?.as_str(), CONTEXTS);
-    assert_eq!(rt; told(rt.alloc(), OTHER_IES, tell)?.as_str(), OTHER_IES);
-    assert_eq!(rt;
-        told(rt.alloc(), EXTENDED_ITEMS, tell)?.as_str(),
-        EXTENDED_ITEMS
-    );
-    Ok(())
-}
-
-#[test]
-fn unlike_fields(rt: HostRuntime) -> Result<(), Fail> {
-    assert_eq!(rt;
-        told(rt.alloc(), UNLIKE_FIELDS, tell)?.as_str(),
-        UNLIKE_FIELDS
-    );
+    assert_eq!(rt; told(rt.alloc(), MESSAGES, tell)?.as_str(), MESSAGES);
     Ok(())
 }
 
@@ -105,7 +105,8 @@ UeContextReleaseComplete UEContextReleaseComplete 0:1 8:1
 UeCapabilityInfoIndication UECapabilityInfoIndication 0:0 8:0 74:1
 ";
 
-const NAS_TRANSPORTS: &str = "
+const MESSAGES: &str = "
+# ---- what carries NAS-PDUs
 # an attach request; the IEs 8, 26, 67, 100, 134
 000c403e000005000800020001001a00161507417108298039000000001002e0e000040201d011004300060002f8390001006440080002f839000000100086400130 = InitialUeMessage { enb: 1, nas: ListOf { items: [7, 65, 113, 8, 41, 128, 57, 0, 0, 0, 0, 16, 2, 224, 224, 0, 4, 2, 1, 208, 17] }, tai: Tai { plmn: 194617, tac: 1 }, cgi: Cgi { plmn: 194617, cell: 1 }, rrc: EnumValue { extended: false, index: 3 }, stmsi: None }
 # a service request; the IE 96 behind them: e o 00000001 p(6), the MME code 1, is 00 40
@@ -130,11 +131,9 @@ const NAS_TRANSPORTS: &str = "
 000b4016000003000000020001000800020001001a0003020754 = DownlinkNasTransport { mme: 1, enb: 1, nas: ListOf { items: [7, 84] } }
 # a tracking area update reject
 000b4017000003000000020001000800020002001a000403074b0c = DownlinkNasTransport { mme: 1, enb: 2, nas: ListOf { items: [7, 75, 12] } }
-";
 
-/// One of each kind, whose like fields all differ: the MME UE S1AP ID 2 and the eNB UE S1AP ID 3; the TAI with the PLMN 02f839, 194617, and
-/// the CGI with 00f110, 61712.
-const UNLIKE_FIELDS: &str = "
+# ---- one of each kind, whose like fields all differ: the MME UE S1AP ID 2 and the eNB UE S1AP ID 3; the TAI with the PLMN 02f839, 194617,
+# and the CGI with 00f110, 61712
 # the NAS-PDU 075e; the area 7; the cell a5, 165, four bits higher as it stands; the RRC cause 2, e 010 p(4); the MME code 2, e o 00000010 p(6), is
 # 00 80, the M-TMSI 9. IEs of 6, 7, 10, 12, 5 and 10 octets
 000c4035000006000800020003001a000302075e004300060002f8390007006440080000f11000000a50008640012000600006008000000009 = InitialUeMessage { enb: 3, nas: ListOf { items: [7, 94] }, tai: Tai { plmn: 194617, tac: 7 }, cgi: Cgi { plmn: 61712, cell: 165 }, rrc: EnumValue { extended: false, index: 2 }, stmsi: Some(Stmsi { mmec: 2, tmsi: 9 }) }
@@ -154,9 +153,8 @@ const UNLIKE_FIELDS: &str = "
 001700110000020063000400020003000240020850 = UeContextReleaseCommand { ids: Pair { mme: 2, enb: 3 }, cause: Cause { group: 0, extended: true, index: 5 } }
 2017000f000002000040020002000840020003 = UeContextReleaseComplete { mme: 2, enb: 3 }
 00164016000003000000020002000800020003004a4003020102 = UeCapabilityInfoIndication { mme: 2, enb: 3, radio: ListOf { items: [1, 2] } }
-";
 
-const CONTEXTS: &str = "
+# ---- contexts
 # an initial context setup request. Header, and 132 octets in two octets of length, 8084; six IEs; the IEs 0 and 8.
 # 66: 1000000000 is 3b9aca00, four octets: e o 011 p(3) is 18, and 011 p(5) is 60
 # 24: one E-RAB, so 00; the item 52 of 49 octets: e o o with o = 10, e 0101, 45; e e e p(5), QCI, 0009; e o 1000 0 0, e 00011111 p(7),
@@ -185,9 +183,8 @@ const CONTEXTS: &str = "
 2017000f000002000040020001000840020001 = UeContextReleaseComplete { mme: 1, enb: 1 }
 # the IEs 0, 8, 74
 00164016000003000000020001000800020001004a4003020102 = UeCapabilityInfoIndication { mme: 1, enb: 1, radio: ListOf { items: [1, 2] } }
-";
 
-const OTHER_IES: &str = "
+# ---- other criticalities, and IEs that are passed over
 # any criticality
 2017000f000002000000020001000800020001 2017000f000002000040020001000840020001 UeContextReleaseComplete { mme: 1, enb: 1 }
 2017400f000002000040020001000840020001 2017000f000002000040020001000840020001 UeContextReleaseComplete { mme: 1, enb: 1 }
@@ -210,9 +207,8 @@ const OTHER_IES: &str = "
 200900220000030000400200010008400200010033400f000032000a0a1fc0a8000200000002 200900220000030000400200010008400200010033400f000032400a0a1fc0a8000200000002 InitialContextSetupResponse { mme: 1, enb: 1, done: ListOf { items: [ErabDone { id: 5, address: 3232235522, teid: 2 }] } }
 200900220000030000400200010008400200010033400f000032800a0a1fc0a8000200000002 200900220000030000400200010008400200010033400f000032400a0a1fc0a8000200000002 InitialContextSetupResponse { mme: 1, enb: 1, done: ListOf { items: [ErabDone { id: 5, address: 3232235522, teid: 2 }] } }
 000900610000060000000200010008000200010042000a183b9aca00603b9aca0000180013000034400e050009200f80c0a8000100000001006b000518000c0000004900201111111111111111111111111111111111111111111111111111111111111111 000900610000060000000200010008000200010042000a183b9aca00603b9aca0000180013000034000e050009200f80c0a8000100000001006b000518000c0000004900201111111111111111111111111111111111111111111111111111111111111111 InitialContextSetupRequest { mme: 1, enb: 1, rates: BitRates { dl: 1000000000, ul: 1000000000 }, bearers: ListOf { items: [ErabToSetup { id: 5, qci: 9, arp: 32, address: 3232235521, teid: 1, nas: None }] }, caps: SecCaps { eea: 49152, eia: 49152 }, key: ListOf { items: [17, 17, 17, 17, 17, 17, 17, 17, 17, 17, 17, 17, 17, 17, 17, 17, 17, 17, 17, 17, 17, 17, 17, 17, 17, 17, 17, 17, 17, 17, 17, 17] } }
-";
 
-const EXTENDED_ITEMS: &str = "
+# ---- iE-Extensions in items
 # iE-Extensions in the item of a request, which are passed over
 # in the priority: e o 100000 with o = 1 is 60; behind it one entry, 0000, the id 7, to be ignored, the octet aa
 000900680000060000000200010008000200010042000a183b9aca00603b9aca000018001a000034001505000960000000074001aa0f80c0a8000100000001006b000518000c0000004900201111111111111111111111111111111111111111111111111111111111111111 000900610000060000000200010008000200010042000a183b9aca00603b9aca0000180013000034000e050009200f80c0a8000100000001006b000518000c0000004900201111111111111111111111111111111111111111111111111111111111111111 InitialContextSetupRequest { mme: 1, enb: 1, rates: BitRates { dl: 1000000000, ul: 1000000000 }, bearers: ListOf { items: [ErabToSetup { id: 5, qci: 9, arp: 32, address: 3232235521, teid: 1, nas: None }] }, caps: SecCaps { eea: 49152, eia: 49152 }, key: ListOf { items: [17, 17, 17, 17, 17, 17, 17, 17, 17, 17, 17, 17, 17, 17, 17, 17, 17, 17, 17, 17, 17, 17, 17, 17, 17, 17, 17, 17, 17, 17, 17, 17] } }

@@ -12,7 +12,27 @@ pub(crate) fn digits_of(line: &str) -> Option<&str> {
     line.split(' ').next()
 }
 
-/// The table again, with what `tell` writes of the octets of each case. It fails where a case has no octets in hexadecimal digits.
+/// Writes a line of a table again, with what `tell` writes of its octets. It fails where a case has no octets in hexadecimal digits.
+fn tell_line<F: Fn(Global, &mut String, &[u8]) -> Result<(), Fail>>(
+    alloc: Global,
+    text: &mut String,
+    line: &str,
+    tell: &F,
+) -> Result<(), Fail>
+    requires { F.IsAlwaysCallable tell.now }
+{
+    match digits_of(line) {
+        Some(digits) => {
+            text.push_str(digits)?;
+            text.push(' ')?;
+            tell(alloc, text, &hex::decode(alloc, digits)?)?;
+        }
+        None => text.push_str(line)?,
+    }
+    Ok(text.push('\n')?)
+}
+
+/// The table again, with what `tell` writes of the octets of each case.
 pub(crate) fn told<F: Fn(Global, &mut String, &[u8]) -> Result<(), Fail>>(
     alloc: Global,
     table: &str,
@@ -22,15 +42,7 @@ pub(crate) fn told<F: Fn(Global, &mut String, &[u8]) -> Result<(), Fail>>(
 {
     let mut text = String::new(alloc);
     for line in table.lines() {
-        match digits_of(line) {
-            Some(digits) => {
-                text.push_str(digits)?;
-                text.push(' ')?;
-                tell(alloc, &mut text, &hex::decode(alloc, digits)?)?;
-            }
-            None => text.push_str(line)?,
-        }
-        text.push('\n')?;
+        tell_line(alloc, &mut text, line, &tell)?;
     }
     Ok(text)
 }
