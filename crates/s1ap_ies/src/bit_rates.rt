@@ -10,7 +10,7 @@ use aper_fields::{
 use echo_base::{OutOfMemory, Reason, Refusal};
 
 /// The aggregate maximum bit rates of a UE (TS 36.413, 9.2.1.20), in bit/s.
-#[derive(Clone, Copy, Debug, PartialEq, Eq)]
+#[derive(Clone, Copy, Debug)]
 pub struct BitRates {
     /// Downlink, at most 10,000,000,000.
     pub dl: u64,

@@ -9,7 +9,7 @@ use aper_fields::{
 use echo_base::{OutOfMemory, Refusal};
 
 /// Why something was done (TS 36.413, 9.2.1.3).
-#[derive(Clone, Copy, Debug, PartialEq, Eq)]
+#[derive(Clone, Copy, Debug)]
 pub struct Cause {
     /// The group: 0 radio network, 1 transport, 2 NAS, 3 protocol, 4 miscellaneous.
     pub group: u8,

@@ -4,7 +4,7 @@ ghost use Rattle.std.specs.Prelude.{◌≡◌, ◌≤◌};
 ghost use Rattle.s1ap_ies.specs.Criticalities.{criticality_number};
 
 /// What a receiver is to do with what it does not understand (3GPP TS 36.413, 10.3).
-#[derive(Clone, Copy, Debug, PartialEq, Eq)]
+#[derive(Clone, Copy)]
 pub enum Criticality {
     /// It rejects the message.
     Reject,

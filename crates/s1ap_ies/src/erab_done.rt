@@ -12,7 +12,7 @@ use echo_base::{Bad, OutOfMemory, Reason, Refusal};
 use std::alloc::Global;
 
 /// An E-RAB that was set up: the E-RAB Setup Item of a response (TS 36.413, 9.1.4.3).
-#[derive(Clone, Copy, Debug, PartialEq, Eq)]
+#[derive(Clone, Copy, Debug)]
 pub struct ErabDone {
     /// The E-RAB ID, below 16.
     pub id: u8,

@@ -14,7 +14,7 @@ use aper_fields::{
 use echo_base::{OutOfMemory, Reason, Refusal};
 
 /// The security capabilities of a UE (TS 36.413, 9.2.1.40): a bit for each algorithm, the first one highest.
-#[derive(Clone, Copy, Debug, PartialEq, Eq)]
+#[derive(Clone, Copy, Debug)]
 pub struct SecCaps {
     /// Encryption algorithms.
     pub eea: u16,

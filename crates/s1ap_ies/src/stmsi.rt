@@ -7,7 +7,7 @@ use aper_fields::{BitReader, BitWriter, PlainValue};
 use echo_base::{OutOfMemory, Refusal};
 
 /// An S-TMSI (TS 36.413, 9.2.3.6).
-#[derive(Clone, Copy, Debug, PartialEq, Eq)]
+#[derive(Clone, Copy, Debug)]
 pub struct Stmsi {
     /// The MME code, an octet.
     pub mmec: u8,

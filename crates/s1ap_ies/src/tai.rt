@@ -7,7 +7,7 @@ use aper_fields::{BitReader, BitWriter, PlainValue};
 use echo_base::{OutOfMemory, Refusal};
 
 /// A tracking area identity (TS 36.413, 9.2.3.16).
-#[derive(Clone, Copy, Debug, PartialEq, Eq)]
+#[derive(Clone, Copy, Debug)]
 pub struct Tai {
     /// The three octets of the PLMN identity as one number, the first octet highest, below 2^24.
     pub plmn: u32,

@@ -10,7 +10,7 @@ use aper_fields::{
 use echo_base::{OutOfMemory, Reason, Refusal};
 
 /// The UE S1AP IDs (TS 36.413, 9.1.4.6): both, as a UE S1AP ID pair (9.2.3.18), or that of the MME alone.
-#[derive(Clone, Copy, Debug, PartialEq, Eq)]
+#[derive(Clone, Copy, Debug)]
 pub enum UeIds {
     /// Both.
     Pair {

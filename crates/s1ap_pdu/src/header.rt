@@ -16,7 +16,7 @@ use echo_base::{OutOfMemory, Reason, Refusal};
 use s1ap_ies::Criticality;
 
 /// The alternatives of S1AP-PDU (TS 36.413, 9.3.2).
-#[derive(Clone, Copy, Debug)]
+#[derive(Clone, Copy)]
 pub enum Outcome {
     /// An initiating message.
     Initiating,
@@ -73,7 +73,7 @@ impl Outcome {
 }
 
 /// The beginning of a message (TS 36.413, 9.3.2).
-#[derive(Clone, Copy, Debug)]
+#[derive(Clone, Copy)]
 pub struct Header {
     /// What kind of outcome it is.
     pub outcome: Outcome,

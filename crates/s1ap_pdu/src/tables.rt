@@ -36,7 +36,7 @@ pub enum MessageKind {
 }
 
 /// An information element that a message has.
-#[derive(Clone, Copy, Debug, PartialEq, Eq)]
+#[derive(Clone, Copy)]
 pub struct IeRow {
     /// Its id.
     pub id: u16,
@@ -47,7 +47,7 @@ pub struct IeRow {
 }
 
 /// The information elements of a kind of message.
-#[derive(Clone, Copy, Debug, PartialEq, Eq)]
+#[derive(Clone, Copy)]
 pub struct IeTable {
     /// The elements in order, and behind them rows of zeros.
     pub rows: [IeRow; 6],
