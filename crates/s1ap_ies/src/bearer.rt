@@ -3,13 +3,13 @@
 ghost use Rattle.std.specs.Prelude.{◌≡◌, ◌<◌, ◌^◌, IfOk, OnOk, OnErr};
 ghost use Rattle.echo_base.specs.Reading.{Gives};
 ghost use Rattle.aper_fields.specs.Run.{then_written};
-ghost use Rattle.aper_fields.specs.Asn1.{reading, run};
+ghost use Rattle.aper_fields.specs.Asn1.{reading, run, CanBeWritten};
 ghost use Rattle.aper_fields.specs.Kept.{Keeps};
-ghost use Rattle.s1ap_ies.specs.Values.{erab_id, address, arp};
+ghost use Rattle.s1ap_ies.specs.Values.{erab_id, address, arp, qos};
 
 use aper_fields::{
-    BitReader, BitWriter, PlainValue, Ranged, read_bits_fixed, read_present, read_zero_bit,
-    skip_extensions, write_bits_fixed, write_preamble,
+    BitReader, BitWriter, Ranged, read_bits_fixed, read_present, read_zero_bit, skip_extensions,
+    write_bits_fixed, write_preamble,
 };
 use echo_base::{OutOfMemory, Reason, Refusal};
 
@@ -102,34 +102,35 @@ fn write_arp(w: &mut BitWriter, value: u8) -> Result<(), OutOfMemory>
     write_bits_fixed(w, u64::from(value), 6)
 }
 
-impl PlainValue for Qos {
-    ghost use Rattle.std.specs.Prelude.{◌≡◌, OnOk, OnErr};
-    ghost use Rattle.s1ap_ies.specs.Values.{qos};
+/// Reads the QoS of an E-RAB (TS 36.413, 9.2.1.15).
+#[tactic(auto, unfolding(aper_fields::specs::Asn1::reading, aper_fields::specs::Asn1::flags_at, aper_fields::specs::Asn1::fields_at, crate::specs::Values::qos))]
+pub fn read_qos(r: &mut BitReader) -> Result<Qos, Refusal>
+    ensures { Gives result r.old r.new (reading qos r.old) }
+{
+    let mut ahead = r.ahead();
+    read_zero_bit(&mut ahead, Reason::SequenceExtension)?;
+    read_zero_bit(&mut ahead, Reason::OutOfRange)?;
+    let more = read_present(&mut ahead)?;
+    let qci = Ranged::<0, 255>::read(&mut ahead)?;
+    let arp = read_arp(&mut ahead)?;
+    skip_extensions(&mut ahead, more)?;
+    *r = ahead;
+    Ok(Qos {
+        qci: qci as u8,
+        arp: arp as u8,
+    })
+}
 
-    ghost asn1 = { qos };
-
-    #[tactic(auto, unfolding(aper_fields::specs::Asn1::reading, aper_fields::specs::Asn1::flags_at, aper_fields::specs::Asn1::fields_at, crate::specs::Values::qos))]
-    fn read_pieces(r: &mut BitReader) -> Result<Qos, Refusal> {
-        let mut ahead = r.ahead();
-        read_zero_bit(&mut ahead, Reason::SequenceExtension)?;
-        read_zero_bit(&mut ahead, Reason::OutOfRange)?;
-        let more = read_present(&mut ahead)?;
-        let qci = Ranged::<0, 255>::read(&mut ahead)?;
-        let arp = read_arp(&mut ahead)?;
-        skip_extensions(&mut ahead, more)?;
-        *r = ahead;
-        Ok(Qos {
-            qci: qci as u8,
-            arp: arp as u8,
-        })
-    }
-
-    #[tactic(auto, unfolding(aper_fields::specs::Asn1::run, aper_fields::specs::Asn1::flags_run, aper_fields::specs::Asn1::fields_run, crate::specs::Values::qos, crate::specs::Values::arp))]
-    fn write_pieces(self, w: &mut BitWriter) -> Result<(), OutOfMemory> {
-        write_bits_fixed(w, 0, 1)?;
-        write_bits_fixed(w, 0, 1)?;
-        write_bits_fixed(w, 0, 1)?;
-        Ranged::<0, 255>::write(w, u64::from(self.qci))?;
-        write_arp(w, self.arp)
-    }
+/// Writes the QoS of an E-RAB, without iE-Extensions. Where memory runs out, what was written before still stands in front.
+#[tactic(auto, unfolding(aper_fields::specs::Asn1::run, aper_fields::specs::Asn1::flags_run, aper_fields::specs::Asn1::fields_run, crate::specs::Values::qos, crate::specs::Values::arp))]
+pub fn write_qos(w: &mut BitWriter, value: Qos) -> Result<(), OutOfMemory>
+    requires { CanBeWritten qos value }
+    ensures ok { OnOk result (w.new ≡ then_written w.old (run qos value)) }
+    ensures kept { OnErr result (Keeps w.old w.new) }
+{
+    write_bits_fixed(w, 0, 1)?;
+    write_bits_fixed(w, 0, 1)?;
+    write_bits_fixed(w, 0, 1)?;
+    Ranged::<0, 255>::write(w, u64::from(value.qci))?;
+    write_arp(w, value.arp)
 }

@@ -8,11 +8,13 @@ ghost use Rattle.aper_fields.specs.Asn1.{reading, run, fields_at, fields_run, Fi
 ghost use Rattle.s1ap_ies.specs.Values.{erab_to_setup, qos, address, nas_pdu};
 ghost use Rattle.s1ap_ies.specs.Lent.{item_of};
 
-use crate::bearer::{Qos, read_address, read_erab_id, write_address, write_erab_id};
+use crate::bearer::{
+    Qos, read_address, read_erab_id, read_qos, write_address, write_erab_id, write_qos,
+};
 use crate::list::Item;
 use crate::names::MOST_OCTETS_OF_NAS;
 use aper_fields::{
-    BitReader, BitWriter, OwnedValue, PlainValue, read_bits_fixed, read_octet_string, read_present,
+    BitReader, BitWriter, OwnedValue, read_bits_fixed, read_octet_string, read_present,
     read_zero_bit, skip_extensions, write_bits_fixed, write_octet_string, write_present,
 };
 use device_types::Octets;
@@ -70,7 +72,7 @@ fn read_parts<'a>(r: &mut BitReader<'a>) -> Result<Parts<'a>, Refusal>
     let with_nas = read_present(&mut ahead)?;
     let more = read_present(&mut ahead)?;
     let id = read_erab_id(&mut ahead)?;
-    let qos = <Qos as PlainValue>::read(&mut ahead)?;
+    let qos = read_qos(&mut ahead)?;
     let address = read_address(&mut ahead)?;
     let teid = read_bits_fixed(&mut ahead, 32)?;
     let nas = read_nas(&mut ahead, with_nas)?;
@@ -120,7 +122,7 @@ fn write_bearer(w: &mut BitWriter, erab: &ErabToSetup) -> Result<(), OutOfMemory
         qci: erab.qci,
         arp: erab.arp,
     };
-    PlainValue::write(qos, w)?;
+    write_qos(w, qos)?;
     write_address(w, erab.address)?;
     write_bits_fixed(w, u64::from(erab.teid), 32)?;
     write_nas(w, &erab.nas)

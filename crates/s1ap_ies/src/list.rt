@@ -1,12 +1,13 @@
 //! Lists of items that stand in open types of their own, each under the id of its list (TS 36.413, 9.1).
 
-ghost use Rattle.std.specs.Prelude.{◌≡◌, ◌≤◌, [], IfOk, OnOk, length};
+ghost use Rattle.std.specs.Prelude.{◌≡◌, ◌≤◌, [], true, IfOk, OnOk, length};
 ghost use Rattle.std.specs.List.{AllByRecursion};
 ghost use Rattle.echo_base.specs.Reading.{Gives, GivesIn};
 ghost use Rattle.aper_fields.specs.Run.{then_written};
 ghost use Rattle.s1ap_ies.specs.Criticalities.{criticality_number};
 ghost use Rattle.s1ap_ies.specs.Types.{IsItemSound};
-ghost use Rattle.aper_fields.specs.Asn1.{AsnType, reading, run, contained_item_at, list_at, list_skipped_at, each_run, list_run, item_run, CanBeWritten};
+ghost use Rattle.s1ap_ies.specs.Values.{list_of};
+ghost use Rattle.aper_fields.specs.Asn1.{AsnType, reading, run, contained_item_at, list_at, list_skipped_at, each_run, item_run, is_head, CanBeWritten};
 ghost use Rattle.aper_fields.specs.Many.{many_at};
 ghost use Rattle.aper_fields.specs.SequenceReading.{skipping, skipped_at};
 
@@ -214,7 +215,7 @@ fn write_items<T: Item>(
 
 /// Writes a list whose items have that id and criticality: how many items there are, 1 to 256, and the items, in order. It
 /// fails for want of memory alone.
-#[tactic(auto, unfolding(aper_fields::specs::Asn1::list_run))]
+#[tactic(auto, unfolding(aper_fields::specs::Asn1::run, aper_fields::specs::Asn1::list_run))]
 pub fn write_list<T: Item>(
     w: &mut BitWriter,
     id: u16,
@@ -224,7 +225,7 @@ pub fn write_list<T: Item>(
     requires least { 1 ≤ length list.now }
     requires most { length list.now ≤ 256 }
     requires right { AllByRecursion (λ a. CanBeWritten T.asn1 a) list.now }
-    ensures { OnOk result (w.new ≡ then_written w.old (list_run 1 256 (λ a. item_run id (criticality_number criticality) (run T.asn1 a 0)) list.now)) }
+    ensures { (head : is_head id (criticality_number criticality) ≡ true) → OnOk result (w.new ≡ then_written w.old (run (list_of id (criticality_number criticality) head T.asn1) list.now)) }
 {
     let items = list.items();
     Ranged::<1, MOST_ITEMS>::write(w, items.len() as u64)?;
