@@ -20,12 +20,21 @@ macro_rules! find {
     };
 }
 
+/// Binds the identity that stands in a slot by its name; by the function's condition it does.
+macro_rules! find_id {
+    ($slots:ident, $place:literal, $name:ident) => {
+        let Some($name) = $slots.$name($place) else {
+            unreachable!()
+        };
+    };
+}
+
 #[tactic(auto, unfolding(crate::specs::Rows::fields_from))]
 fn initial_ue_message(alloc: Global, slots: &Slots) -> Result<Pdu, OutOfMemory>
     requires { IsOk (made_from initial_ue_message slots.now) }
     ensures { IsMade (made_from initial_ue_message slots.now) result }
 {
-    find!(slots, 0, Enb(enb));
+    find_id!(slots, 0, enb);
     find!(slots, 1, Nas(nas));
     find!(slots, 2, Tai(tai));
     find!(slots, 3, Cgi(cgi));
@@ -36,7 +45,7 @@ fn initial_ue_message(alloc: Global, slots: &Slots) -> Result<Pdu, OutOfMemory>
     };
     let nas = nas.own(alloc)?;
     Ok(Pdu::InitialUeMessage {
-        enb: *enb,
+        enb,
         nas,
         tai: *tai,
         cgi: *cgi,
@@ -50,15 +59,15 @@ fn uplink_nas_transport(alloc: Global, slots: &Slots) -> Result<Pdu, OutOfMemory
     requires { IsOk (made_from uplink_nas_transport slots.now) }
     ensures { IsMade (made_from uplink_nas_transport slots.now) result }
 {
-    find!(slots, 0, Mme(mme));
-    find!(slots, 1, Enb(enb));
+    find_id!(slots, 0, mme);
+    find_id!(slots, 1, enb);
     find!(slots, 2, Nas(nas));
     find!(slots, 3, Cgi(cgi));
     find!(slots, 4, Tai(tai));
     let nas = nas.own(alloc)?;
     Ok(Pdu::UplinkNasTransport {
-        mme: *mme,
-        enb: *enb,
+        mme,
+        enb,
         nas,
         cgi: *cgi,
         tai: *tai,
@@ -70,15 +79,11 @@ fn downlink_nas_transport(alloc: Global, slots: &Slots) -> Result<Pdu, OutOfMemo
     requires { IsOk (made_from downlink_nas_transport slots.now) }
     ensures { IsMade (made_from downlink_nas_transport slots.now) result }
 {
-    find!(slots, 0, Mme(mme));
-    find!(slots, 1, Enb(enb));
+    find_id!(slots, 0, mme);
+    find_id!(slots, 1, enb);
     find!(slots, 2, Nas(nas));
     let nas = nas.own(alloc)?;
-    Ok(Pdu::DownlinkNasTransport {
-        mme: *mme,
-        enb: *enb,
-        nas,
-    })
+    Ok(Pdu::DownlinkNasTransport { mme, enb, nas })
 }
 
 #[tactic(auto, unfolding(crate::specs::Rows::fields_from))]
@@ -86,8 +91,8 @@ fn initial_context_setup_request(alloc: Global, slots: &Slots) -> Result<Pdu, Ou
     requires { IsOk (made_from initial_context_setup_request slots.now) }
     ensures { IsMade (made_from initial_context_setup_request slots.now) result }
 {
-    find!(slots, 0, Mme(mme));
-    find!(slots, 1, Enb(enb));
+    find_id!(slots, 0, mme);
+    find_id!(slots, 1, enb);
     find!(slots, 2, Rates(rates));
     find!(slots, 3, Bearers(bearers));
     find!(slots, 4, Caps(caps));
@@ -95,8 +100,8 @@ fn initial_context_setup_request(alloc: Global, slots: &Slots) -> Result<Pdu, Ou
     let bearers = bearers.own(alloc)?;
     let key = key.own(alloc)?;
     Ok(Pdu::InitialContextSetupRequest {
-        mme: *mme,
-        enb: *enb,
+        mme,
+        enb,
         rates: *rates,
         bearers,
         caps: *caps,
@@ -109,15 +114,11 @@ fn initial_context_setup_response(alloc: Global, slots: &Slots) -> Result<Pdu, O
     requires { IsOk (made_from initial_context_setup_response slots.now) }
     ensures { IsMade (made_from initial_context_setup_response slots.now) result }
 {
-    find!(slots, 0, Mme(mme));
-    find!(slots, 1, Enb(enb));
+    find_id!(slots, 0, mme);
+    find_id!(slots, 1, enb);
     find!(slots, 2, Done(done));
     let done = done.own(alloc)?;
-    Ok(Pdu::InitialContextSetupResponse {
-        mme: *mme,
-        enb: *enb,
-        done,
-    })
+    Ok(Pdu::InitialContextSetupResponse { mme, enb, done })
 }
 
 #[tactic(auto, unfolding(crate::specs::Rows::fields_from))]
@@ -125,12 +126,12 @@ fn initial_context_setup_failure(slots: &Slots) -> Pdu
     requires { IsOk (made_from initial_context_setup_failure slots.now) }
     ensures { made_from initial_context_setup_failure slots.now ≡ Ok result }
 {
-    find!(slots, 0, Mme(mme));
-    find!(slots, 1, Enb(enb));
+    find_id!(slots, 0, mme);
+    find_id!(slots, 1, enb);
     find!(slots, 2, Cause(cause));
     Pdu::InitialContextSetupFailure {
-        mme: *mme,
-        enb: *enb,
+        mme,
+        enb,
         cause: *cause,
     }
 }
@@ -140,12 +141,12 @@ fn ue_context_release_request(slots: &Slots) -> Pdu
     requires { IsOk (made_from ue_context_release_request slots.now) }
     ensures { made_from ue_context_release_request slots.now ≡ Ok result }
 {
-    find!(slots, 0, Mme(mme));
-    find!(slots, 1, Enb(enb));
+    find_id!(slots, 0, mme);
+    find_id!(slots, 1, enb);
     find!(slots, 2, Cause(cause));
     Pdu::UeContextReleaseRequest {
-        mme: *mme,
-        enb: *enb,
+        mme,
+        enb,
         cause: *cause,
     }
 }
@@ -168,12 +169,9 @@ fn ue_context_release_complete(slots: &Slots) -> Pdu
     requires { IsOk (made_from ue_context_release_complete slots.now) }
     ensures { made_from ue_context_release_complete slots.now ≡ Ok result }
 {
-    find!(slots, 0, Mme(mme));
-    find!(slots, 1, Enb(enb));
-    Pdu::UeContextReleaseComplete {
-        mme: *mme,
-        enb: *enb,
-    }
+    find_id!(slots, 0, mme);
+    find_id!(slots, 1, enb);
+    Pdu::UeContextReleaseComplete { mme, enb }
 }
 
 #[tactic(auto, unfolding(crate::specs::Rows::fields_from))]
@@ -181,15 +179,11 @@ fn ue_capability_info_indication(alloc: Global, slots: &Slots) -> Result<Pdu, Ou
     requires { IsOk (made_from ue_capability_info_indication slots.now) }
     ensures { IsMade (made_from ue_capability_info_indication slots.now) result }
 {
-    find!(slots, 0, Mme(mme));
-    find!(slots, 1, Enb(enb));
+    find_id!(slots, 0, mme);
+    find_id!(slots, 1, enb);
     find!(slots, 2, Radio(radio));
     let radio = radio.own(alloc)?;
-    Ok(Pdu::UeCapabilityInfoIndication {
-        mme: *mme,
-        enb: *enb,
-        radio,
-    })
+    Ok(Pdu::UeCapabilityInfoIndication { mme, enb, radio })
 }
 
 /// The message of that kind with the values in the slots, none of which is missing, its octets and lists in memory of their own.

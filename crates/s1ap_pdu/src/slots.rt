@@ -2,9 +2,11 @@
 
 ghost use Rattle.std.specs.Prelude.{◌≡◌, ◌<◌, ◌≤◌, ◌&&◌, IfSome, None, is_none, length, slice_index_or};
 ghost use Rattle.s1ap_pdu.specs.Reading.{empty, is_filled, noted, lacking};
+ghost use Rattle.s1ap_pdu.specs.Rows.{part_of, slot};
+ghost use Rattle.s1ap_pdu.specs.Values as ies;
 
 use crate::tables::IeRow;
-use crate::value::FoundValue;
+use crate::value::{FoundValue, IeValue};
 use std::marker::Model;
 
 /// The values of a message that were found, each in the place of its row.
@@ -56,6 +58,28 @@ impl<'a> Slots<'a> {
             4 => &self.fifth,
             _ => &self.sixth,
         }
+    }
+
+    /// The MME UE S1AP ID that stands in that place, if one does.
+    pub fn mme(&self, place: usize) -> Option<u32>
+        requires { place < 6 }
+        ensures { result ≡ part_of ies.mme (slot self.now place) }
+    {
+        let Some(IeValue::Mme(mme)) = self.at(place) else {
+            return None;
+        };
+        Some(*mme)
+    }
+
+    /// The eNB UE S1AP ID that stands in that place, if one does.
+    pub fn enb(&self, place: usize) -> Option<u32>
+        requires { place < 6 }
+        ensures { result ≡ part_of ies.enb (slot self.now place) }
+    {
+        let Some(IeValue::Enb(enb)) = self.at(place) else {
+            return None;
+        };
+        Some(*enb)
     }
 
     /// Is there a value in that place?
