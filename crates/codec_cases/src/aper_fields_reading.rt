@@ -134,20 +134,27 @@ fn tell_number(text: &mut String, r: &mut BitReader, range: &str) -> Result<(), 
     }
 }
 
+/// Writes what is read of a piece in the octets, or behind their first bit.
+fn tell_octets(
+    text: &mut String,
+    octets: &[u8],
+    piece: &str,
+    behind_a_bit: bool,
+) -> Result<(), Fail> {
+    let mut r = BitReader::new(octets, 10);
+    if behind_a_bit {
+        read_bits_fixed(&mut r, 1)?;
+    }
+    tell_piece(text, &mut r, piece)
+}
+
 /// Writes a case again, with what is read of its octets, or behind their first bit.
 fn tell_case(alloc: Global, text: &mut String, line: &str, behind_a_bit: bool) -> Result<(), Fail> {
     let (case, _) = line.split_once(" = ").ok_or("no value")?;
     let (digits, piece) = case.split_once(' ').ok_or("no piece")?;
-    let octets = hex::decode(alloc, digits)?;
-    let mut r = BitReader::new(&octets, 10);
-    if behind_a_bit {
-        read_bits_fixed(&mut r, 1)?;
-    }
-    text.push_str(case)?;
-    text.push_str(" = ")?;
-    tell_piece(text, &mut r, piece)?;
-    text.push('\n')?;
-    Ok(())
+    write!(text, "{case} = ")?;
+    tell_octets(text, &hex::decode(alloc, digits)?, piece, behind_a_bit)?;
+    Ok(text.push('\n')?)
 }
 
 /// The table, with what is read of the octets of each case, or of those behind their first bit.

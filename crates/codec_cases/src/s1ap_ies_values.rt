@@ -15,6 +15,20 @@ use std::alloc::Global;
 use std::fmt::Debug;
 use std::test::Fail;
 
+/// Writes what was written, where that is not the octets.
+fn tell_written(
+    alloc: Global,
+    text: &mut String,
+    written: &[u8],
+    octets: &[u8],
+) -> Result<(), OutOfMemory> {
+    if written == octets {
+        return Ok(());
+    }
+    let digits = hex::encode(alloc, written)?;
+    write!(text, " as {digits}")
+}
+
 /// Writes what the value is written as, where that is not the octets.
 fn tell_octets<T: Written>(
     alloc: Global,
@@ -26,12 +40,7 @@ fn tell_octets<T: Written>(
     if !value.put(&mut w)? {
         return text.push_str(" out of range");
     }
-    if w.bytes() == octets {
-        return Ok(());
-    }
-    let digits = hex::encode(alloc, w.bytes())?;
-    text.push_str(" as ")?;
-    text.push_str(&digits)
+    tell_written(alloc, text, w.bytes(), octets)
 }
 
 /// Writes what stands behind a value, where that is not the end of its container: the UE S1AP IDs that are read there.

@@ -1,6 +1,8 @@
 //! Long fields: NAS-PDUs and radio capabilities. Of each line: octets, how many octets ab stand behind them, and those behind these;
 //! and how many are written for what they are read as, or why they are refused.
 
+ghost use Rattle.s1ap_pdu.specs.Run.{IsRight};
+
 use crate::tables::digits_of;
 use echo_base::{Bad, OutOfMemory};
 use s1ap_messages::{Pdu, read_pdu, write_pdu};
@@ -53,7 +55,9 @@ fn tell_written(
     text: &mut String,
     octets: &[u8],
     pdu: &Pdu,
-) -> Result<(), OutOfMemory> {
+) -> Result<(), OutOfMemory>
+    requires { IsRight pdu.now }
+{
     let written = write_pdu(alloc, pdu)?;
     let count = written.items().len();
     let likeness = if written.items() == octets {
@@ -81,7 +85,9 @@ fn tell_message(
     text: &mut String,
     octets: &[u8],
     pdu: &Pdu,
-) -> Result<(), OutOfMemory> {
+) -> Result<(), OutOfMemory>
+    requires { IsRight pdu.now }
+{
     tell_written(alloc, text, octets, pdu)?;
     tell_capability(text, pdu)
 }

@@ -132,14 +132,19 @@ fn tell_cuts(
     Ok(())
 }
 
+/// Writes what `tell_cuts` writes of each message.
+fn tell_all_cuts(alloc: Global, text: &mut String, wanted: &mut String) -> Result<(), Fail> {
+    for digits in CUT {
+        tell_cuts(alloc, text, wanted, &hex::decode(alloc, digits)?)?;
+    }
+    Ok(())
+}
+
 #[test]
 fn cut_messages(rt: HostRuntime) -> Result<(), Fail> {
-    let alloc = rt.alloc();
-    let mut text = String::new(alloc);
-    let mut wanted = String::new(alloc);
-    for digits in CUT {
-        tell_cuts(alloc, &mut text, &mut wanted, &hex::decode(alloc, digits)?)?;
-    }
+    let mut text = String::new(rt.alloc());
+    let mut wanted = String::new(rt.alloc());
+    tell_all_cuts(rt.alloc(), &mut text, &mut wanted)?;
     assert_eq!(rt; text.as_str(), wanted.as_str());
     Ok(())
 }

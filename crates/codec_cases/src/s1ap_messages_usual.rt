@@ -1,5 +1,7 @@
 //! Messages in their usual form are read and written octet by octet, and piece by piece they are the same.
 
+ghost use Rattle.s1ap_pdu.specs.Run.{IsRight};
+
 use crate::tables::digits_of;
 use s1ap_messages::{Pdu, read_pdu, read_pieces, read_usual, write_pieces, write_usual};
 use std::alloc::Global;
@@ -21,7 +23,9 @@ fn is_read_usually(alloc: Global, octets: &[u8], pdu: &Pdu) -> Result<bool, Fail
 }
 
 /// Is the message written octet by octet as these octets?
-fn is_written_usually(alloc: Global, octets: &[u8], pdu: &Pdu) -> Result<bool, Fail> {
+fn is_written_usually(alloc: Global, octets: &[u8], pdu: &Pdu) -> Result<bool, Fail>
+    requires { IsRight pdu.now }
+{
     match write_usual(alloc, pdu)? {
         Some(written) => Ok(written.items() == octets),
         None => Ok(false),
@@ -35,13 +39,17 @@ fn is_read_in_pieces(alloc: Global, octets: &[u8], pdu: &Pdu) -> Result<bool, Fa
 }
 
 /// Is the message written piece by piece as these octets?
-fn is_written_in_pieces(alloc: Global, octets: &[u8], pdu: &Pdu) -> Result<bool, Fail> {
+fn is_written_in_pieces(alloc: Global, octets: &[u8], pdu: &Pdu) -> Result<bool, Fail>
+    requires { IsRight pdu.now }
+{
     let written = write_pieces(alloc, pdu)?;
     Ok(written.items() == octets)
 }
 
 /// Writes whether the octets are read and written octet by octet, and whether they are that message piece by piece.
-fn tell_message(alloc: Global, text: &mut String, octets: &[u8], pdu: &Pdu) -> Result<(), Fail> {
+fn tell_message(alloc: Global, text: &mut String, octets: &[u8], pdu: &Pdu) -> Result<(), Fail>
+    requires { IsRight pdu.now }
+{
     if is_read_usually(alloc, octets, pdu)? {
         text.push_str(" read")?;
     }

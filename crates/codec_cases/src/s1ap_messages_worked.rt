@@ -2,6 +2,8 @@
 //! a table of these: the octets; those that are written for what is read, or `=` for the same ones; and what is read, as it is
 //! printed. In the comments e is an extension bit and o the bit of the iE-Extensions, both 0 unless shown; p is padding.
 
+ghost use Rattle.s1ap_pdu.specs.Run.{IsRight};
+
 use crate::tables::told;
 use s1ap_ies::Criticality;
 use s1ap_messages::{MessageKind, Pdu, ies_of, message_name, read_pdu, write_pdu};
@@ -23,13 +25,17 @@ fn tell_octets(
 }
 
 /// Writes what is written for a message, or `=` for the same octets.
-fn tell_written(alloc: Global, text: &mut String, octets: &[u8], pdu: &Pdu) -> Result<(), Fail> {
+fn tell_written(alloc: Global, text: &mut String, octets: &[u8], pdu: &Pdu) -> Result<(), Fail>
+    requires { IsRight pdu.now }
+{
     let written = write_pdu(alloc, pdu)?;
     tell_octets(alloc, text, octets, written.items())
 }
 
 /// Writes what is written for a message, and the message.
-fn tell_message(alloc: Global, text: &mut String, octets: &[u8], pdu: &Pdu) -> Result<(), Fail> {
+fn tell_message(alloc: Global, text: &mut String, octets: &[u8], pdu: &Pdu) -> Result<(), Fail>
+    requires { IsRight pdu.now }
+{
     tell_written(alloc, text, octets, pdu)?;
     Ok(write!(text, " {pdu:?}")?)
 }

@@ -12,7 +12,20 @@ pub(crate) fn digits_of(line: &str) -> Option<&str> {
     line.split(' ').next()
 }
 
-/// Writes a line of a table again, with what `tell` writes of its octets. It fails where a case has no octets in hexadecimal digits.
+/// Writes the digits of a case, and what `tell` writes of their octets. It fails where they are no octets.
+fn tell_digits<F: Fn(Global, &mut String, &[u8]) -> Result<(), Fail>>(
+    alloc: Global,
+    text: &mut String,
+    digits: &str,
+    tell: &F,
+) -> Result<(), Fail>
+    requires { F.IsAlwaysCallable tell.now }
+{
+    write!(text, "{digits} ")?;
+    tell(alloc, text, &hex::decode(alloc, digits)?)
+}
+
+/// Writes a line of a table again, with what `tell` writes of its octets. It fails where a case has none in hexadecimal digits.
 fn tell_line<F: Fn(Global, &mut String, &[u8]) -> Result<(), Fail>>(
     alloc: Global,
     text: &mut String,
@@ -22,11 +35,7 @@ fn tell_line<F: Fn(Global, &mut String, &[u8]) -> Result<(), Fail>>(
     requires { F.IsAlwaysCallable tell.now }
 {
     match digits_of(line) {
-        Some(digits) => {
-            text.push_str(digits)?;
-            text.push(' ')?;
-            tell(alloc, text, &hex::decode(alloc, digits)?)?;
-        }
+        Some(digits) => tell_digits(alloc, text, digits, tell)?,
         None => text.push_str(line)?,
     }
     Ok(text.push('\n')?)
