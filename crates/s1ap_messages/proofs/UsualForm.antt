@@ -19,11 +19,12 @@ use Rattle.s1ap_ies.proofs.Items.{dones_fit, dones_right, setups_fit, setups_rig
 use Rattle.s1ap_ies.specs.Criticalities.{criticality_number}
 use Rattle.s1ap_pdu.specs.declared.value.IeValue.TheVariants as value
 use Rattle.s1ap_pdu.specs.declared.pdu.Pdu.{Pdu}
+use Rattle.s1ap_pdu.specs.declared.pdu.Pdu.TheVariants as pdu
 use Rattle.s1ap_pdu.specs.Messages.{outcome_index, header_of, kinds, kind_of, values_of}
 use Rattle.s1ap_pdu.specs.Grammar.{Spells, kind_among, kind_with}
 use Rattle.s1ap_pdu.specs.Built.{message_at}
 use Rattle.s1ap_pdu.specs.Run.{value_run, ie_run, fields_run, ies_run, header_run, pdu_run, written, count_of, IsShort, IsRightValue, IsRightField, IsRight, HasOctetsIn, HasOctets}
-use Rattle.s1ap_messages.specs.Usual.{counted, ie_octets, octets_of, value_octets, Given, HasForm, IsUsualValue, fields_octets, body_octets, message_octets, usual_octets, unfinished_octets, HasForms, HasUsualValues, IsUsual, AreFieldsOf, BeginsAs}
+use Rattle.s1ap_messages.specs.Usual.{counted, ie_octets, octets_of, value_octets, Given, HasForm, IsUsualValue, fields_octets, body_octets, message_octets, usual_octets, unfinished_octets, HasForms, IsPut, HasUsualValues, IsUsual, AreFieldsOf, BeginsAs}
 use Rattle.s1ap_pdu.specs.Values.{FieldValue}
 use Rattle.s1ap_pdu.proofs.Distinct.{few_rows}
 use Rattle.s1ap_pdu.proofs.Writes.{values-length}
@@ -250,7 +251,7 @@ usual_body kind (Some p) octets rest outcome code criticality count e few h foun
 -- ---- messages as they are written
 
 -- an S-TMSI has octets, where there is one
-pub stmsi_form : (stmsi : Option Stmsi) → IfSome (option_map value.Stmsi stmsi) HasForm
+stmsi_form : (stmsi : Option Stmsi) → IfSome (option_map value.Stmsi stmsi) HasForm
 stmsi_form None = tt
 stmsi_form (Some stmsi) = tt
 
@@ -260,8 +261,14 @@ finished p out octets e set few =
     let l : length out ≡ 4 + length (body_octets p) = ap length e ∙ omega arith in
     (set ∙ ap (λ (x : List ℕ). take 3 x ++ counted (drop 4 x)) e, omega (arith, l, few))
 
+-- what is written octet by octet has octets
+put_forms : (p : Pdu) → IsPut p → HasForms p
+put_forms (pdu.InitialUeMessage enb nas tai cgi rrc stmsi) is = search (stmsi_form stmsi)
+put_forms _ is = search
+
 -- what was finished is what is written
-pub finished_is_written : (p : Pdu) (out octets : List ℕ) → IsRight p → HasForms p → out ≡ unfinished_octets p → octets ≡ take 3 out ++ counted (drop 4 out) → length out < 16388 → All (λ (x : ℕ). x < 256) octets → octets ≡ written p
-finished_is_written p out octets right forms e set few all =
+pub finished_is_written : (p : Pdu) (out octets : List ℕ) → IsRight p → IsPut p → out ≡ unfinished_octets p → octets ≡ take 3 out ++ counted (drop 4 out) → length out < 16388 → All (λ (x : ℕ). x < 256) octets → octets ≡ written p
+finished_is_written p out octets right is e set few all =
+    let forms = put_forms p is in
     let f = finished p out octets e set few in
     usual_is_written p octets (bytes_of_all octets all) f.0 (fields_usual (values_of p) right.0 forms, f.1)

@@ -1,6 +1,6 @@
 -- Octets as they are read, and as they are written: what the code computes of them.
-use Rattle.std.proofs.Common.{◌≡◌, ℕ, ◌+◌, ◌-◌, ◌*◌, ◌/◌, ◌%◌, ◌<◌, ◌≤◌, List, [], ◌∷◌, ◌++◌, length, take, drop, refl, sym, ◌∙◌, append_assoc, arith}
-use Rattle.std.proofs.lemmas.Bool.{lt-ltb, le-ltb}
+use Rattle.std.proofs.Common.{◌≡◌, ℕ, ◌+◌, ◌-◌, ◌*◌, ◌/◌, ◌%◌, ◌<◌, ◌≤◌, List, [], ◌∷◌, ◌++◌, length, take, drop, refl, sym, ap, ◌∙◌, inl, inr, append_assoc, arith}
+use Rattle.std.proofs.lemmas.Bool.{cases_lt, lt-ltb, le-ltb}
 use Rattle.std.proofs.lemmas.List.{take-append-drop}
 use Rattle.std.proofs.Math.Nat.{div-add-mod}
 use Rattle.s1ap_messages.specs.Usual.{count_octets, counted, four_octets, least_octets, number_octets, tai_octets, cgi_octets, caps_octets}
@@ -31,43 +31,38 @@ pub least_one : (a : ℕ) → a < 256 → least_octets a ≡ a ∷ []
 unfolding least_octets
 least_one a ha = rw (lt-ltb a 256 ha) refl
 
-pub least_two : (a b : ℕ) → a < 256 → b < 256 → 0 < a → least_octets (a * 256 + b) ≡ a ∷ b ∷ []
+-- an octet more
+pub least_more : (a b : ℕ) → 0 < a → a < 4294967296 → b < 256 → least_octets (a * 256 + b) ≡ least_octets a ++ b ∷ []
 unfolding least_octets
-least_two a b ha hb some =
+least_more a b some fits small =
     let n = a * 256 + b in
-    let ea : n / 256 ≡ a = omega arith in
-    let eb : n % 256 ≡ b = omega arith in
-    rw (le-ltb n 256 (omega arith), lt-ltb n 65536 (omega arith), ea, eb) refl
+    let low : n % 256 ≡ b = omega arith in
+    let one : n / 256 ≡ a = omega arith in
+    let two : n / 65536 ≡ a / 256 = omega arith in
+    let three : n / 16777216 ≡ a / 65536 = omega arith in
+    let four : n / 4294967296 ≡ a / 16777216 = omega arith in
+    let some_more = le-ltb n 256 (omega arith) in
+    elim (cases_lt a 256) [
+      | inl below ↦ rw (some_more, lt-ltb n 65536 (omega arith), lt-ltb a 256 below, one, low) refl
+      | inr above ↦
+          elim (cases_lt a 65536) [
+            | inl below ↦ rw (some_more, le-ltb n 65536 (omega arith), lt-ltb n 16777216 (omega arith), le-ltb a 256 above, lt-ltb a 65536 below, one, two, low) refl
+            | inr above2 ↦
+                elim (cases_lt a 16777216) [
+                  | inl below ↦ rw (some_more, le-ltb n 65536 (omega arith), le-ltb n 16777216 (omega arith), lt-ltb n 4294967296 (omega arith), le-ltb a 256 above, le-ltb a 65536 above2, lt-ltb a 16777216 below, one, two, three, low) refl
+                  | inr above3 ↦ rw (some_more, le-ltb n 65536 (omega arith), le-ltb n 16777216 (omega arith), le-ltb n 4294967296 (omega arith), le-ltb a 256 above, le-ltb a 65536 above2, le-ltb a 16777216 above3, lt-ltb a 4294967296 fits, one, two, three, four, low) refl
+                ]
+          ]
+    ]
 
-pub least_three : (a b c : ℕ) → a < 256 → b < 256 → c < 256 → 0 < a → least_octets (a * 65536 + b * 256 + c) ≡ a ∷ b ∷ c ∷ []
-unfolding least_octets
-least_three a b c ha hb hc some =
-    let n = a * 65536 + b * 256 + c in
-    let ea : n / 65536 ≡ a = omega arith in
-    let eb : n / 256 % 256 ≡ b = omega arith in
-    let ec : n % 256 ≡ c = omega arith in
-    rw (le-ltb n 256 (omega arith), le-ltb n 65536 (omega arith), lt-ltb n 16777216 (omega arith), ea, eb, ec) refl
+-- the last octet
+least_last : (n : ℕ) → 256 ≤ n → n < 1099511627776 → least_octets n ≡ least_octets (n / 256) ++ n % 256 ∷ []
+least_last n some fits =
+    let whole : n / 256 * 256 + n % 256 ≡ n = omega arith in
+    ap least_octets (sym whole) ∙ least_more (n / 256) (n % 256) (omega arith) (omega arith) (omega arith)
 
-pub least_four : (a b c d : ℕ) → a < 256 → b < 256 → c < 256 → d < 256 → 0 < a → least_octets (a * 16777216 + b * 65536 + c * 256 + d) ≡ a ∷ b ∷ c ∷ d ∷ []
-unfolding least_octets
-least_four a b c d ha hb hc hd some =
-    let n = a * 16777216 + b * 65536 + c * 256 + d in
-    let ea : n / 16777216 ≡ a = omega arith in
-    let eb : n / 65536 % 256 ≡ b = omega arith in
-    let ec : n / 256 % 256 ≡ c = omega arith in
-    let ed : n % 256 ≡ d = omega arith in
-    rw (le-ltb n 256 (omega arith), le-ltb n 65536 (omega arith), le-ltb n 16777216 (omega arith), lt-ltb n 4294967296 (omega arith), ea, eb, ec, ed) refl
-
-pub least_five : (a b c d e : ℕ) → a < 256 → b < 256 → c < 256 → d < 256 → e < 256 → 0 < a → least_octets (a * 4294967296 + b * 16777216 + c * 65536 + d * 256 + e) ≡ a ∷ b ∷ c ∷ d ∷ e ∷ []
-unfolding least_octets
-least_five a b c d e ha hb hc hd he some =
-    let n = a * 4294967296 + b * 16777216 + c * 65536 + d * 256 + e in
-    let ea : n / 4294967296 ≡ a = omega arith in
-    let eb : n / 16777216 % 256 ≡ b = omega arith in
-    let ec : n / 65536 % 256 ≡ c = omega arith in
-    let ed : n / 256 % 256 ≡ d = omega arith in
-    let ee : n % 256 ≡ e = omega arith in
-    rw (le-ltb n 256 (omega arith), le-ltb n 65536 (omega arith), le-ltb n 16777216 (omega arith), le-ltb n 4294967296 (omega arith), ea, eb, ec, ed, ee) refl
+pub put_last : (out more all : List ℕ) (n : ℕ) → 256 ≤ n → n < 1099511627776 → more ≡ out ++ least_octets (n / 256) → all ≡ more ++ n % 256 ∷ [] → all ≡ out ++ least_octets n
+put_last out more all n some fits m a = a ∙ rw (m, least_last n some fits) (append_assoc out (least_octets (n / 256)) (n % 256 ∷ []))
 
 -- the count less one in an octet
 pub count_head : (head before unit : ℕ) → before ≤ head → (head - before) % unit ≡ 0 → head ≡ before + unit * ((head - before) / unit)

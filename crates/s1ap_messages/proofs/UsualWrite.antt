@@ -1,5 +1,5 @@
 -- Octets that are put one behind another, as those of a message.
-use Rattle.std.proofs.Common.{◌≡◌, ℕ, ◌+◌, ◌-◌, ◌*◌, ◌/◌, ◌%◌, ◌<◌, ◌≤◌, List, [], ◌∷◌, ◌++◌, length, take, drop, slice_set, insert, is_some, cond, refl, sym, ap, ◌∙◌, append_assoc, arith}
+use Rattle.std.proofs.Common.{◌≡◌, ℕ, ◌+◌, ◌-◌, ◌*◌, ◌/◌, ◌%◌, ◌<◌, ◌≤◌, List, [], ◌∷◌, ◌++◌, length, take, drop, slice_set, insert, refl, sym, ap, ◌∙◌, append_assoc, arith}
 use Rattle.std.proofs.lemmas.Bool.{lt-ltb, le-ltb}
 use Rattle.std.proofs.lemmas.List.{append-nil, length-append}
 use Rattle.s1ap_ies.specs.declared.erab_to_setup.ErabToSetup.{ErabToSetup}
@@ -38,14 +38,14 @@ long_body (a ∷ b ∷ []) n some e long = absurd (omega arith)
 long_body (a ∷ b ∷ c ∷ []) n some e long = absurd (omega arith)
 
 -- so many IEs behind one another
-pub two_ies : (front a b : List ℕ) → (front ++ a) ++ b ≡ front ++ (a ++ (b ++ []))
-two_ies front a b = simp (append_assoc, append-nil)
+pub two_ies : (out front a b : List ℕ) → ((out ++ front) ++ a) ++ b ≡ out ++ (front ++ (a ++ (b ++ [])))
+two_ies out front a b = simp (append_assoc, append-nil)
 
-pub three_ies : (front a b c : List ℕ) → ((front ++ a) ++ b) ++ c ≡ front ++ (a ++ (b ++ (c ++ [])))
-three_ies front a b c = simp (append_assoc, append-nil)
+pub three_ies : (out front a b c : List ℕ) → (((out ++ front) ++ a) ++ b) ++ c ≡ out ++ (front ++ (a ++ (b ++ (c ++ []))))
+three_ies out front a b c = simp (append_assoc, append-nil)
 
-pub five_ies : (front a b c d e : List ℕ) → ((((front ++ a) ++ b) ++ c) ++ d) ++ e ≡ front ++ (a ++ (b ++ (c ++ (d ++ (e ++ [])))))
-five_ies front a b c d e = simp (append_assoc, append-nil)
+pub five_ies : (out front a b c d e : List ℕ) → (((((out ++ front) ++ a) ++ b) ++ c) ++ d) ++ e ≡ out ++ (front ++ (a ++ (b ++ (c ++ (d ++ (e ++ []))))))
+five_ies out front a b c d e = simp (append_assoc, append-nil)
 
 pub number_length : (before unit n : ℕ) → length (number_octets before unit n) ≡ length (least_octets n) + 1
 unfolding number_octets
@@ -56,17 +56,11 @@ pub two_put : (front head one all a b : List ℕ) (id criticality len : ℕ) →
 two_put front head one all a b id criticality len h o e l =
     ie_put front head all (a ++ b) id criticality len h (e ∙ rw o (append_assoc head a b)) (l ∙ sym (length-append a b))
 
-pub six_ies : (front a b c d e f : List ℕ) → (((((front ++ a) ++ b) ++ c) ++ d) ++ e) ++ f ≡ front ++ (a ++ (b ++ (c ++ (d ++ (e ++ (f ++ []))))))
-six_ies front a b c d e f = simp (append_assoc, append-nil)
+pub six_ies : (out front a b c d e f : List ℕ) → ((((((out ++ front) ++ a) ++ b) ++ c) ++ d) ++ e) ++ f ≡ out ++ (front ++ (a ++ (b ++ (c ++ (d ++ (e ++ (f ++ [])))))))
+six_ies out front a b c d e f = simp (append_assoc, append-nil)
 
-pub six_parts : (front a b c d e f : List ℕ) → (((((front ++ a) ++ b) ++ c) ++ d) ++ e) ++ f ≡ front ++ (a ++ (b ++ (c ++ (d ++ (e ++ f)))))
-six_parts front a b c d e f = simp append_assoc
-
--- the fields of an E-RAB that is to be set up
-pub setup_put : (out first second third all : List ℕ) (erab : ErabToSetup) → first ≡ out ++ (cond (is_some erab.nas) 64 0 + erab.id) ∷ 0 ∷ erab.qci ∷ erab.arp ∷ 15 ∷ 128 ∷ [] → second ≡ first ++ four_octets erab.address → third ≡ second ++ four_octets erab.teid → all ≡ third ++ nas_octets erab.nas → all ≡ out ++ setup_octets erab
-unfolding setup_octets
-setup_put out first second third all erab a b c d =
-    d ∙ rw (c, b, a) (simp append_assoc)
+pub six_parts : (out front a b c d e f : List ℕ) → ((((((out ++ front) ++ a) ++ b) ++ c) ++ d) ++ e) ++ f ≡ out ++ (front ++ (a ++ (b ++ (c ++ (d ++ (e ++ f))))))
+six_parts out front a b c d e f = simp append_assoc
 
 setup_length : (erab : ErabToSetup) (more : ℕ) → more ≡ length (nas_octets erab.nas) → more + 14 ≡ length (setup_octets erab)
 unfolding setup_octets four_octets

@@ -1,5 +1,5 @@
 -- The octets of a message as it is written, octet by octet.
-use Rattle.std.specs.Prelude.{◌≡◌, ℕ, ◌+◌, ◌-◌, ◌*◌, ◌/◌, ◌%◌, ◌<◌, ◌==◌, nat_lt, List, [], ◌∷◌, ◌++◌, length, Option, Some, None, is_some, IfSome, unwrap_or, if◌then◌else◌}
+use Rattle.std.specs.Prelude.{◌≡◌, ℕ, ◌+◌, ◌-◌, ◌*◌, ◌/◌, ◌%◌, ◌<◌, ◌≤◌, ◌==◌, nat_lt, List, [], ◌∷◌, ◌++◌, length, Option, Some, None, is_some, IfSome, unwrap_or, if◌then◌else◌}
 use Rattle.std.specs.List.{AllByRecursion}
 use Rattle.aper_fields.specs.declared.enumerated.EnumValue.{EnumValue}
 use Rattle.s1ap_ies.specs.declared.tai.Tai.{Tai}
@@ -20,6 +20,7 @@ use Rattle.s1ap_ies.specs.Criticalities.{criticality_number}
 use Rattle.s1ap_ies.specs.declared.names.TheConstants as names
 use Rattle.s1ap_pdu.specs.declared.header.Header.{Header}
 use Rattle.s1ap_pdu.specs.declared.pdu.Pdu.{Pdu}
+use Rattle.s1ap_pdu.specs.declared.pdu.Pdu.TheVariants as pdu
 use Rattle.s1ap_pdu.specs.declared.value.IeValue.TheVariants as value
 use Rattle.s1ap_pdu.specs.Values.{FieldValue}
 use Rattle.s1ap_pdu.specs.Messages.{outcome_index, header_of, kind_of, values_of}
@@ -175,6 +176,19 @@ unfinished_octets p = beginning (kind_of p) (count_of (values_of p)) ++ fields_o
 -- its fields have octets
 abbrev pub HasForms : Pdu → Type 0
 HasForms p = AllByRecursion (λ v. IfSome v HasForm) (values_of p)
+
+-- Is it written octet by octet? A list has one E-RAB then, and a radio capability at most 16,000 octets. What stands here with no line is not.
+abbrev pub IsPut : Pdu → Type 0
+IsPut (pdu.InitialUeMessage enb nas tai cgi rrc stmsi) = Unit {0}
+IsPut (pdu.UplinkNasTransport mme enb nas cgi tai) = Unit {0}
+IsPut (pdu.DownlinkNasTransport mme enb nas) = Unit {0}
+IsPut (pdu.InitialContextSetupRequest mme enb rates bearers caps key) = length bearers ≡ 1
+IsPut (pdu.InitialContextSetupResponse mme enb done) = length done ≡ 1
+IsPut (pdu.UeContextReleaseRequest mme enb cause) = Unit {0}
+IsPut (pdu.UeContextReleaseCommand (Pair mme enb) cause) = Unit {0}
+IsPut (pdu.UeContextReleaseComplete mme enb) = Unit {0}
+IsPut (pdu.UeCapabilityInfoIndication mme enb radio) = length radio ≤ 16000
+IsPut _ = ⊥
 
 -- and are in their ranges
 abbrev pub HasUsualValues : Pdu → Type 0

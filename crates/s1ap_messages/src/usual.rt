@@ -3,7 +3,7 @@
 ghost use Rattle.std.specs.Prelude.{◌≡◌, ◌<◌, ◌∷◌, All, IfOk, IfSome, Ok, length};
 ghost use Rattle.s1ap_pdu.specs.Built.{message_at};
 ghost use Rattle.s1ap_pdu.specs.Run.{written, IsRight};
-ghost use Rattle.s1ap_messages.specs.Usual.{counted, usual_octets, IsUsual};
+ghost use Rattle.s1ap_messages.specs.Usual.{counted, unfinished_octets, usual_octets, IsPut, IsUsual};
 
 mod bearers;
 mod counts;
@@ -18,7 +18,7 @@ mod values;
 use crate::usual::kinds::{fields, kind_of_header};
 use crate::usual::octets::{counted, three};
 use crate::usual::put::finish;
-use crate::usual::put_kinds::unfinished;
+use crate::usual::put_kinds::{is_put, put};
 use device_types::Octets;
 use s1ap_pdu::Pdu;
 use std::alloc::{AllocError, Global};
@@ -62,17 +62,31 @@ fn recall(octets: &Octets)
     octets.octets();
 }
 
-/// Writes a message the short way, octet by octet: what `write_pdu` writes, where its lists have one E-RAB and its radio capability has at most
-/// 16,000 octets. None comes for any other. It fails for want of memory alone.
+/// Room for a message whose strings are short.
+const ROOM: usize = 160;
+
+/// The octets of a message, without the length of its body.
+fn unfinished(alloc: Global, p: &Pdu) -> Result<Vec<u8>, AllocError>
+    requires right { IsRight p.now }
+    requires put { IsPut p.now }
+    ensures { IfOk result (λ out. out.items ≡ unfinished_octets p.now) }
+{
+    let mut out = Vec::with_capacity(alloc, ROOM)?;
+    put(&mut out, p)?;
+    Ok(out)
+}
+
+/// Writes a message the short way, octet by octet: what `write_pdu` writes, where its lists have one E-RAB, its radio capability at most
+/// 16,000 octets, and it is no failure and no release command by one identity. None comes for any other. It fails for want of memory alone.
 #[tactic(auto, using(crate::proofs::UsualForm::finished_is_written))]
 pub fn write_usual(alloc: Global, p: &Pdu) -> Result<Option<Octets>, AllocError>
     requires { IsRight p.now }
     ensures { IfOk result (λ found. IfSome found (λ octets. octets ≡ written p.now)) }
 {
-    let Some(out) = unfinished(alloc, p)? else {
+    if !is_put(p) {
         return Ok(None);
-    };
-    let Some(octets) = finish(out)? else {
+    }
+    let Some(octets) = finish(unfinished(alloc, p)?)? else {
         return Ok(None);
     };
     recall(&octets);

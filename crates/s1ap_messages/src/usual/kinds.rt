@@ -1,8 +1,10 @@
 //! The IEs of each kind of message, read from their octets.
 
-ghost use Rattle.std.specs.Prelude.{IfSome};
+ghost use Rattle.std.specs.Prelude.{◌≡◌, ◌^◌, ◌<◌, ◌++◌, IfSome};
+ghost use Rattle.s1ap_ies.specs.Criticalities.{criticality_number};
+ghost use Rattle.s1ap_ies.specs.declared.names.TheConstants as named;
 ghost use Rattle.s1ap_pdu.specs.declared.tables.MessageKind.TheVariants as kind;
-ghost use Rattle.s1ap_messages.specs.Usual.{AreAllFieldsOf, AreFieldsOf, BeginsAs};
+ghost use Rattle.s1ap_messages.specs.Usual.{number_octets, ie_octets, AreAllFieldsOf, AreFieldsOf, BeginsAs};
 
 use crate::usual::bearers::{erabs_done, erabs_to_setup};
 use crate::usual::counts::{initial_count, rows_in};
@@ -13,6 +15,16 @@ use crate::usual::values::{
 use s1ap_ies::{Criticality, names};
 use s1ap_pdu::{MessageKind, Outcome, Pdu, header_of, kind_with};
 use std::alloc::Global;
+
+/// The MME UE S1AP ID and the eNB UE S1AP ID, by which most messages begin, and what stands behind them.
+fn both(octets: &[u8], criticality: Criticality) -> Option<(u32, u32, &[u8])>
+    ensures octets { IfSome result (λ x. octets.now ≡ ie_octets named.MME_UE_S1AP_ID (criticality_number criticality) (number_octets 0 64 x.0) ++ (ie_octets named.ENB_UE_S1AP_ID (criticality_number criticality) (number_octets 0 64 x.1) ++ x.2.now)) }
+    ensures right { IfSome result (λ x. x.1 < 2 ^ 24) }
+{
+    let (mme, octets) = mme(octets, criticality)?;
+    let (enb, octets) = enb(octets, criticality)?;
+    Some((mme, enb, octets))
+}
 
 /// The IEs of an INITIAL UE MESSAGE.
 fn initial_ue_message(alloc: Global, octets: &[u8], count: u8) -> Option<Pdu>
@@ -42,8 +54,7 @@ fn initial_ue_message(alloc: Global, octets: &[u8], count: u8) -> Option<Pdu>
 fn uplink_nas_transport(alloc: Global, octets: &[u8]) -> Option<Pdu>
     ensures { IfSome result (AreAllFieldsOf kind.UplinkNasTransport octets.now) }
 {
-    let (mme, octets) = mme(octets, Criticality::Reject)?;
-    let (enb, octets) = enb(octets, Criticality::Reject)?;
+    let (mme, enb, octets) = both(octets, Criticality::Reject)?;
     let (nas, octets) = nas(octets)?;
     let (cgi, octets) = cgi(octets)?;
     let (tai, octets) = tai(octets, Criticality::Ignore)?;
@@ -64,8 +75,7 @@ fn uplink_nas_transport(alloc: Global, octets: &[u8]) -> Option<Pdu>
 fn downlink_nas_transport(alloc: Global, octets: &[u8]) -> Option<Pdu>
     ensures { IfSome result (AreAllFieldsOf kind.DownlinkNasTransport octets.now) }
 {
-    let (mme, octets) = mme(octets, Criticality::Reject)?;
-    let (enb, octets) = enb(octets, Criticality::Reject)?;
+    let (mme, enb, octets) = both(octets, Criticality::Reject)?;
     let (nas, octets) = nas(octets)?;
     if !octets.is_empty() {
         return None;
@@ -78,8 +88,7 @@ fn downlink_nas_transport(alloc: Global, octets: &[u8]) -> Option<Pdu>
 fn initial_context_setup_request(alloc: Global, octets: &[u8]) -> Option<Pdu>
     ensures { IfSome result (AreAllFieldsOf kind.InitialContextSetupRequest octets.now) }
 {
-    let (mme, octets) = mme(octets, Criticality::Reject)?;
-    let (enb, octets) = enb(octets, Criticality::Reject)?;
+    let (mme, enb, octets) = both(octets, Criticality::Reject)?;
     let (rates, octets) = rates(octets)?;
     let (bearers, octets) = ie(octets, names::ERABS_TO_SETUP, Criticality::Reject)?;
     let (caps, octets) = caps(octets)?;
@@ -87,8 +96,8 @@ fn initial_context_setup_request(alloc: Global, octets: &[u8]) -> Option<Pdu>
     if !octets.is_empty() {
         return None;
     }
-    let bearers = erabs_to_setup(alloc, bearers)?;
     let key = own(alloc, key)?;
+    let bearers = erabs_to_setup(alloc, bearers)?;
     Some(Pdu::InitialContextSetupRequest {
         mme,
         enb,
@@ -103,8 +112,7 @@ fn initial_context_setup_request(alloc: Global, octets: &[u8]) -> Option<Pdu>
 fn initial_context_setup_response(alloc: Global, octets: &[u8]) -> Option<Pdu>
     ensures { IfSome result (AreAllFieldsOf kind.InitialContextSetupResponse octets.now) }
 {
-    let (mme, octets) = mme(octets, Criticality::Ignore)?;
-    let (enb, octets) = enb(octets, Criticality::Ignore)?;
+    let (mme, enb, octets) = both(octets, Criticality::Ignore)?;
     let (done, octets) = ie(octets, names::ERABS_DONE, Criticality::Ignore)?;
     if !octets.is_empty() {
         return None;
@@ -113,25 +121,11 @@ fn initial_context_setup_response(alloc: Global, octets: &[u8]) -> Option<Pdu>
     Some(Pdu::InitialContextSetupResponse { mme, enb, done })
 }
 
-/// The IEs of an INITIAL CONTEXT SETUP FAILURE.
-fn initial_context_setup_failure(octets: &[u8]) -> Option<Pdu>
-    ensures { IfSome result (AreAllFieldsOf kind.InitialContextSetupFailure octets.now) }
-{
-    let (mme, octets) = mme(octets, Criticality::Ignore)?;
-    let (enb, octets) = enb(octets, Criticality::Ignore)?;
-    let (cause, octets) = cause(octets)?;
-    if !octets.is_empty() {
-        return None;
-    }
-    Some(Pdu::InitialContextSetupFailure { mme, enb, cause })
-}
-
 /// The IEs of a UE CONTEXT RELEASE REQUEST.
 fn ue_context_release_request(octets: &[u8]) -> Option<Pdu>
     ensures { IfSome result (AreAllFieldsOf kind.UeContextReleaseRequest octets.now) }
 {
-    let (mme, octets) = mme(octets, Criticality::Reject)?;
-    let (enb, octets) = enb(octets, Criticality::Reject)?;
+    let (mme, enb, octets) = both(octets, Criticality::Reject)?;
     let (cause, octets) = cause(octets)?;
     if !octets.is_empty() {
         return None;
@@ -155,8 +149,7 @@ fn ue_context_release_command(octets: &[u8]) -> Option<Pdu>
 fn ue_context_release_complete(octets: &[u8]) -> Option<Pdu>
     ensures { IfSome result (AreAllFieldsOf kind.UeContextReleaseComplete octets.now) }
 {
-    let (mme, octets) = mme(octets, Criticality::Ignore)?;
-    let (enb, octets) = enb(octets, Criticality::Ignore)?;
+    let (mme, enb, octets) = both(octets, Criticality::Ignore)?;
     if !octets.is_empty() {
         return None;
     }
@@ -167,8 +160,7 @@ fn ue_context_release_complete(octets: &[u8]) -> Option<Pdu>
 fn ue_capability_info_indication(alloc: Global, octets: &[u8]) -> Option<Pdu>
     ensures { IfSome result (AreAllFieldsOf kind.UeCapabilityInfoIndication octets.now) }
 {
-    let (mme, octets) = mme(octets, Criticality::Reject)?;
-    let (enb, octets) = enb(octets, Criticality::Reject)?;
+    let (mme, enb, octets) = both(octets, Criticality::Reject)?;
     let (radio, octets) = text(octets, names::RADIO_CAPABILITY, Criticality::Ignore)?;
     if !octets.is_empty() {
         return None;
@@ -190,7 +182,6 @@ pub fn fields(alloc: Global, kind: MessageKind, octets: &[u8], count: u8) -> Opt
         (MessageKind::DownlinkNasTransport, 0) => downlink_nas_transport(alloc, octets),
         (MessageKind::InitialContextSetupRequest, 0) => initial_context_setup_request(alloc, octets),
         (MessageKind::InitialContextSetupResponse, 0) => initial_context_setup_response(alloc, octets),
-        (MessageKind::InitialContextSetupFailure, 0) => initial_context_setup_failure(octets),
         (MessageKind::UeContextReleaseRequest, 0) => ue_context_release_request(octets),
         (MessageKind::UeContextReleaseCommand, 0) => ue_context_release_command(octets),
         (MessageKind::UeContextReleaseComplete, 0) => ue_context_release_complete(octets),
@@ -200,7 +191,6 @@ pub fn fields(alloc: Global, kind: MessageKind, octets: &[u8], count: u8) -> Opt
 }
 
 /// The kind of message whose header has these octets, as it is written.
-#[tactic(auto, using(crate::proofs::UsualForm::kind_begins))]
 pub fn kind_of_header(outcome: u8, code: u8, criticality: u8) -> Option<MessageKind>
     ensures { IfSome result (λ kind. BeginsAs kind outcome code criticality) }
 {

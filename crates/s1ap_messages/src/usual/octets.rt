@@ -87,137 +87,33 @@ pub fn ie(octets: &[u8], id: u16, criticality: Criticality) -> Option<(&[u8], &[
     Some((content, rest))
 }
 
-/// The number that one octet is.
-#[tactic(auto, using(crate::proofs::UsualRead::least_one))]
-fn of_one(a: u8) -> u64
-    ensures { least_octets result ≡ a ∷ [] }
+/// A number of at least one octet more than another, which is not 0.
+#[tactic(auto, using(crate::proofs::UsualRead::least_more))]
+fn behind(high: u64, low: u8) -> u64
+    requires some { 0 < high }
+    requires fits { high < 4294967296 }
+    ensures { least_octets result ≡ least_octets high ++ low ∷ [] }
 {
-    u64::from(a)
-}
-
-/// The number that two octets are, the first of them not 0.
-#[tactic(auto, using(crate::proofs::UsualRead::least_two))]
-fn of_two(a: u8, b: u8) -> u64
-    requires { 0 < a }
-    ensures { least_octets result ≡ a ∷ b ∷ [] }
-{
-    u64::from(a) * 256 + u64::from(b)
-}
-
-/// The number that three octets are, the first of them not 0.
-#[tactic(auto, using(crate::proofs::UsualRead::least_three))]
-fn of_three(a: u8, b: u8, c: u8) -> u64
-    requires { 0 < a }
-    ensures { least_octets result ≡ a ∷ b ∷ c ∷ [] }
-{
-    u64::from(a) * 65536 + u64::from(b) * 256 + u64::from(c)
-}
-
-/// The number that four octets are, the first of them not 0.
-#[tactic(auto, using(crate::proofs::UsualRead::least_four))]
-fn of_four(a: u8, b: u8, c: u8, d: u8) -> u64
-    requires { 0 < a }
-    ensures { least_octets result ≡ a ∷ b ∷ c ∷ d ∷ [] }
-{
-    u64::from(a) * 16777216 + u64::from(b) * 65536 + u64::from(c) * 256 + u64::from(d)
-}
-
-/// The number that five octets are, the first of them not 0.
-#[tactic(auto, using(crate::proofs::UsualRead::least_five))]
-fn of_five(a: u8, b: u8, c: u8, d: u8, e: u8) -> u64
-    requires { 0 < a }
-    ensures { least_octets result ≡ a ∷ b ∷ c ∷ d ∷ e ∷ [] }
-{
-    u64::from(a) * 4294967296
-        + u64::from(b) * 16777216
-        + u64::from(c) * 65536
-        + u64::from(d) * 256
-        + u64::from(e)
-}
-
-/// A number of two octets, and what stands behind it.
-#[inline(always)]
-fn two_octets(octets: &[u8]) -> Option<(u64, &[u8])>
-    ensures octets { IfSome result (λ x. octets.now ≡ least_octets x.0 ++ x.1.now) }
-    ensures count { IfSome result (λ x. length (least_octets x.0) ≡ 2) }
-{
-    let [a, b, rest @ ..] = octets else {
-        return None;
-    };
-    if *a == 0 {
-        return None;
-    }
-    Some((of_two(*a, *b), rest))
-}
-
-/// A number of three octets, and what stands behind it.
-#[inline(always)]
-fn three_octets(octets: &[u8]) -> Option<(u64, &[u8])>
-    ensures octets { IfSome result (λ x. octets.now ≡ least_octets x.0 ++ x.1.now) }
-    ensures count { IfSome result (λ x. length (least_octets x.0) ≡ 3) }
-{
-    let [a, b, c, rest @ ..] = octets else {
-        return None;
-    };
-    if *a == 0 {
-        return None;
-    }
-    Some((of_three(*a, *b, *c), rest))
-}
-
-/// A number of four octets, and what stands behind it.
-#[inline(always)]
-fn four_octets(octets: &[u8]) -> Option<(u64, &[u8])>
-    ensures octets { IfSome result (λ x. octets.now ≡ least_octets x.0 ++ x.1.now) }
-    ensures count { IfSome result (λ x. length (least_octets x.0) ≡ 4) }
-{
-    let [a, b, c, d, rest @ ..] = octets else {
-        return None;
-    };
-    if *a == 0 {
-        return None;
-    }
-    Some((of_four(*a, *b, *c, *d), rest))
-}
-
-/// A number of five octets, and what stands behind it.
-#[inline(always)]
-fn five_octets(octets: &[u8]) -> Option<(u64, &[u8])>
-    ensures octets { IfSome result (λ x. octets.now ≡ least_octets x.0 ++ x.1.now) }
-    ensures count { IfSome result (λ x. length (least_octets x.0) ≡ 5) }
-{
-    let [a, b, c, d, e, rest @ ..] = octets else {
-        return None;
-    };
-    if *a == 0 {
-        return None;
-    }
-    Some((of_five(*a, *b, *c, *d, *e), rest))
+    high * 256 + u64::from(low)
 }
 
 /// A number in so many octets, and what stands behind it.
-#[inline(always)]
+#[tactic(auto, using(crate::proofs::UsualRead::least_one))]
 fn least(octets: &[u8], count: u8) -> Option<(u64, &[u8])>
+    requires { 0 < count }
     ensures octets { IfSome result (λ x. octets.now ≡ least_octets x.0 ++ x.1.now) }
     ensures count { IfSome result (λ x. length (least_octets x.0) ≡ count) }
 {
     if count == 1 {
-        let (a, rest) = one(octets)?;
-        return Some((of_one(a), rest));
+        let (low, rest) = one(octets)?;
+        return Some((u64::from(low), rest));
     }
-    if count == 2 {
-        return two_octets(octets);
+    let (high, rest) = least(octets, count - 1)?;
+    let (low, rest) = one(rest)?;
+    if high == 0 || high >= 4294967296 {
+        return None;
     }
-    if count == 3 {
-        return three_octets(octets);
-    }
-    if count == 4 {
-        return four_octets(octets);
-    }
-    if count == 5 {
-        return five_octets(octets);
-    }
-    None
+    Some((behind(high, low), rest))
 }
 
 /// The count less one that an octet tells: it counts in units, and some bits stand before it.

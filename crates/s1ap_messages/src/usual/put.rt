@@ -1,40 +1,23 @@
 //! Octets that are written one behind another.
 
-ghost use Rattle.std.specs.Prelude.{◌≡◌, ◌+◌, ◌-◌, ◌*◌, ◌^◌, ◌<◌, ◌≤◌, ◌∷◌, ◌++◌, IfOk, IfSome, OnOk, length, take, drop};
+ghost use Rattle.std.specs.Prelude.{◌≡◌, ◌+◌, ◌-◌, ◌*◌, ◌<◌, ◌≤◌, ◌∷◌, ◌++◌, IfOk, IfSome, OnOk, length, take, drop};
 ghost use Rattle.s1ap_ies.specs.Criticalities.{criticality_number};
-ghost use Rattle.s1ap_pdu.specs.Messages.{rows_of};
 ghost use Rattle.s1ap_messages.specs.Usual.{beginning, count_octets, counted, least_octets, number_octets};
 
-use crate::usual::counts::rows_in;
 use device_types::Octets;
 use s1ap_ies::Criticality;
 use s1ap_pdu::{MessageKind, header_of};
-use std::alloc::{AllocError, Global};
+use std::alloc::AllocError;
 
-/// The octets of a message of that kind before so many IEs, with an octet of zeros in place of its length.
+/// Puts what stands before so many IEs of a message of that kind, with an octet of zeros in place of its length.
 #[inline(always)]
-pub fn begin_with(
-    alloc: Global,
-    kind: MessageKind,
-    count: u8,
-    room: usize,
-) -> Result<Vec<u8>, AllocError>
-    ensures { IfOk result (λ out. out.items ≡ beginning kind count) }
+pub fn begin(out: &mut Vec<u8>, kind: MessageKind, count: u8) -> Result<(), AllocError>
+    ensures { OnOk result (out.new.items ≡ out.old.items ++ beginning kind count) }
 {
     let header = header_of(kind);
     let outcome = header.outcome.octet();
     let criticality = 64 * header.criticality.number();
-    let mut out = Vec::with_capacity(alloc, room)?;
-    out.extend_from_slice(&[outcome, header.code, criticality, 0, 0, 0, count])?;
-    Ok(out)
-}
-
-/// The same before all IEs of its table.
-#[inline(always)]
-pub fn begin(alloc: Global, kind: MessageKind, room: usize) -> Result<Vec<u8>, AllocError>
-    ensures { IfOk result (λ out. out.items ≡ beginning kind (length (rows_of kind))) }
-{
-    begin_with(alloc, kind, rows_in(kind), room)
+    out.extend_from_slice(&[outcome, header.code, criticality, 0, 0, 0, count])
 }
 
 /// Puts a length (ITU-T X.691, 11.9): an octet where it is below 128, else two that begin with the bits 10.
@@ -125,42 +108,34 @@ pub fn octets_in(n: u64) -> usize
     }
 }
 
-/// Puts a number in its least octets, behind another octet.
-#[inline(always)]
-#[tactic(auto, unfolding(crate::specs::Usual::least_octets))]
-fn put_least(out: &mut Vec<u8>, head: u8, n: u64) -> Result<(), AllocError>
-    requires { n < 2 ^ 40 }
-    ensures { OnOk result (out.new.items ≡ out.old.items ++ head ∷ least_octets n) }
+/// Puts a number in its least octets.
+#[tactic(auto, using(crate::proofs::UsualRead::least_one, crate::proofs::UsualRead::put_last))]
+fn put_least(out: &mut Vec<u8>, n: u64) -> Result<(), AllocError>
+    requires { n < 1099511627776 }
+    ensures { OnOk result (out.new.items ≡ out.old.items ++ least_octets n) }
 {
     if n < 256 {
-        return out.extend_from_slice(&[head, n as u8]);
+        return out.extend_from_slice(&[n as u8]);
     }
-    let e = (n % 256) as u8;
-    if n < 65536 {
-        return out.extend_from_slice(&[head, (n / 256) as u8, e]);
-    }
-    let d = (n / 256 % 256) as u8;
-    if n < 16777216 {
-        return out.extend_from_slice(&[head, (n / 65536) as u8, d, e]);
-    }
-    let c = (n / 65536 % 256) as u8;
-    if n < 4294967296 {
-        return out.extend_from_slice(&[head, (n / 16777216) as u8, c, d, e]);
-    }
-    let b = (n / 16777216 % 256) as u8;
-    out.extend_from_slice(&[head, (n / 4294967296) as u8, b, c, d, e])
+    put_least(out, n / 256)?;
+    out.extend_from_slice(&[(n % 256) as u8])?;
+    Ok(())
 }
 
 /// Puts a number behind the octet with the count of its octets less one. In that octet the count counts in units, and some bits
 /// stand before it.
 #[inline(always)]
-#[tactic(auto, unfolding(crate::specs::Usual::number_octets))]
+#[tactic(auto, unfolding(crate::specs::Usual::number_octets), using(crate::proofs::UsualRead::least_one))]
 pub fn put_number(out: &mut Vec<u8>, before: u8, unit: u8, n: u64) -> Result<(), AllocError>
-    requires fits { n < 2 ^ 40 }
+    requires fits { n < 1099511627776 }
     requires room { before + unit * (length (least_octets n) - 1) ≤ 255 }
     ensures { OnOk result (out.new.items ≡ out.old.items ++ number_octets before unit n) }
 {
-    put_least(out, before + unit * (octets_in(n) - 1) as u8, n)
+    if n < 256 {
+        return out.extend_from_slice(&[before, n as u8]);
+    }
+    out.extend_from_slice(&[before + unit * (octets_in(n) - 1) as u8])?;
+    put_least(out, n)
 }
 
 /// Notes the length of the body in its place, where it has one.

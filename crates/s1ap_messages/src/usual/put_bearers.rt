@@ -68,19 +68,19 @@ fn setup_head(erab: &ErabToSetup) -> u8
 }
 
 /// Puts the fields of an E-RAB that is to be set up.
-#[tactic(auto, unfolding(crate::specs::Usual::setup_octets), using(crate::proofs::UsualWrite::setup_put))]
+#[tactic(auto, unfolding(crate::specs::Usual::setup_octets, crate::specs::Usual::four_octets))]
 fn put_fields(out: &mut Vec<u8>, erab: &ErabToSetup) -> Result<(), AllocError>
     requires { IsErabToSetup erab.now }
     ensures { OnOk result (out.new.items ≡ out.old.items ++ setup_octets erab.now) }
 {
-    out.extend_from_slice(&[setup_head(erab), 0, erab.qci, erab.arp, 15, 128])?;
-    out.extend_from_slice(&four(erab.address))?;
-    out.extend_from_slice(&four(erab.teid))?;
+    let [a, b, c, d] = four(erab.address);
+    let [t, u, v, w] = four(erab.teid);
+    let head = setup_head(erab);
+    out.extend_from_slice(&[head, 0, erab.qci, erab.arp, 15, 128, a, b, c, d, t, u, v, w])?;
     put_nas(out, &erab.nas)
 }
 
 /// Puts a list of one E-RAB that is to be set up.
-#[tactic(auto, using(crate::proofs::UsualWrite::setups_put))]
 pub fn put_setup(out: &mut Vec<u8>, erab: &ErabToSetup) -> Result<(), AllocError>
     requires { IsErabToSetup erab.now }
     ensures { OnOk result (out.new.items ≡ out.old.items ++ ie_octets named.ERABS_TO_SETUP level.reject (erabs_octets named.ERAB_TO_SETUP_ITEM level.reject setup_octets (erab.now ∷ []))) }
@@ -94,5 +94,6 @@ pub fn put_setup(out: &mut Vec<u8>, erab: &ErabToSetup) -> Result<(), AllocError
     )?;
     out.extend_from_slice(&[0])?;
     put_ie(out, names::ERAB_TO_SETUP_ITEM, Criticality::Reject, len)?;
-    put_fields(out, erab)
+    put_fields(out, erab)?;
+    Ok(())
 }

@@ -2,7 +2,7 @@
 
 ghost use Rattle.std.specs.Prelude.{◌≡◌, ◌+◌, ◌^◌, ◌<◌, ◌≤◌, true, ◌∷◌, [], ◌++◌, OnOk, length, option_map};
 ghost use Rattle.aper_fields.specs.Spelling.{IsEnumValue};
-ghost use Rattle.s1ap_ies.specs.declared.ue_ids.UeIds.TheVariants.{Pair, Mme};
+ghost use Rattle.s1ap_ies.specs.declared.ue_ids.UeIds.TheVariants.{Pair};
 ghost use Rattle.s1ap_ies.specs.Run.{IsTai, IsCgi, IsBitRates, IsCause};
 ghost use Rattle.s1ap_ies.specs.Criticalities as level;
 ghost use Rattle.s1ap_ies.specs.Criticalities.{criticality_number};
@@ -13,7 +13,7 @@ ghost use Rattle.s1ap_messages.specs.Usual.{counted, four_octets, number_octets,
 
 use crate::usual::put::{counted_len, octets_in, put_counted, put_ie, put_number};
 use aper_fields::EnumValue;
-use s1ap_ies::{BitRates, Cause, Cgi, Criticality, SecCaps, Stmsi, Tai, UeIds, names};
+use s1ap_ies::{BitRates, Cause, Cgi, Criticality, SecCaps, Stmsi, Tai, names};
 use std::alloc::AllocError;
 
 /// Puts an IE as `put_id` does, of an identity in 64 bits.
@@ -250,7 +250,7 @@ pub fn put_cause(out: &mut Vec<u8>, cause: &Cause) -> Result<(), AllocError>
 
 /// Puts the IE of UE S1AP IDs (TS 36.413, 9.1.4.6), with the criticality reject, of both identities: each as the count of its
 /// octets less one and the number in as few octets as it needs, behind the bits 00 of the choice and 00 of the SEQUENCE.
-fn put_pair(out: &mut Vec<u8>, mme: u64, enb: u64) -> Result<(), AllocError>
+pub fn put_pair(out: &mut Vec<u8>, mme: u64, enb: u64) -> Result<(), AllocError>
     requires mme { mme < 2 ^ 32 }
     requires enb { enb < 2 ^ 32 }
     ensures { OnOk result (out.new.items ≡ out.old.items ++ ie_octets named.UE_IDS level.reject (ids_octets (Pair mme enb))) }
@@ -264,26 +264,4 @@ fn put_pair(out: &mut Vec<u8>, mme: u64, enb: u64) -> Result<(), AllocError>
     put_number(out, 0, 4, mme)?;
     put_number(out, 0, 64, enb)?;
     Ok(())
-}
-
-/// Puts the IE of UE S1AP IDs (TS 36.413, 9.1.4.6), with the criticality reject, of the MME UE S1AP ID alone: as the count of
-/// its octets less one and the number in as few octets as it needs, behind the bits 01 of the choice.
-fn put_single(out: &mut Vec<u8>, mme: u64) -> Result<(), AllocError>
-    requires { mme < 2 ^ 32 }
-    ensures { OnOk result (out.new.items ≡ out.old.items ++ ie_octets named.UE_IDS level.reject (ids_octets (Mme mme))) }
-{
-    put_ie(out, names::UE_IDS, Criticality::Reject, octets_in(mme) + 1)?;
-    put_number(out, 64, 16, mme)?;
-    Ok(())
-}
-
-/// Puts the IE of UE S1AP IDs (TS 36.413, 9.1.4.6), with the criticality reject: both identities of a device, or the MME's
-/// alone. It fails for want of memory alone.
-pub fn put_ids(out: &mut Vec<u8>, ids: &UeIds) -> Result<(), AllocError>
-    ensures { OnOk result (out.new.items ≡ out.old.items ++ ie_octets named.UE_IDS level.reject (ids_octets ids.now)) }
-{
-    match ids {
-        UeIds::Pair { mme, enb } => put_pair(out, u64::from(*mme), u64::from(*enb)),
-        UeIds::Mme(mme) => put_single(out, u64::from(*mme)),
-    }
 }

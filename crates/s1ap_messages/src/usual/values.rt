@@ -16,7 +16,20 @@ use device_types::Octets;
 use s1ap_ies::{BitRates, Cause, Cgi, Criticality, SecCaps, Stmsi, Tai, UeIds, names};
 use std::alloc::Global;
 
-/// An MME UE S1AP ID, and what stands behind it.
+/// An eNB UE S1AP ID, where all of the octets are it.
+#[inline(always)]
+pub fn enb_id(octets: &[u8]) -> Option<u32>
+    ensures octets { IfSome result (λ enb. octets.now ≡ number_octets 0 64 enb) }
+    ensures right { IfSome result (λ enb. enb < 2 ^ 24) }
+{
+    let (enb, more) = id(octets, 0, 64)?;
+    if !more.is_empty() || u64::from(enb) > names::MOST_ENB_UE_S1AP_ID {
+        return None;
+    }
+    Some(enb)
+}
+
+/// The IE of an MME UE S1AP ID, and what stands behind it.
 #[inline(always)]
 pub fn mme(octets: &[u8], criticality: Criticality) -> Option<(u32, &[u8])>
     ensures { IfSome result (λ x. octets.now ≡ ie_octets named.MME_UE_S1AP_ID (criticality_number criticality) (number_octets 0 64 x.0) ++ x.1.now) }
@@ -29,17 +42,14 @@ pub fn mme(octets: &[u8], criticality: Criticality) -> Option<(u32, &[u8])>
     Some((mme, rest))
 }
 
-/// An eNB UE S1AP ID, and what stands behind it.
+/// The IE of an eNB UE S1AP ID, and what stands behind it.
 #[inline(always)]
 pub fn enb(octets: &[u8], criticality: Criticality) -> Option<(u32, &[u8])>
     ensures octets { IfSome result (λ x. octets.now ≡ ie_octets named.ENB_UE_S1AP_ID (criticality_number criticality) (number_octets 0 64 x.0) ++ x.1.now) }
     ensures right { IfSome result (λ x. x.0 < 2 ^ 24) }
 {
     let (content, rest) = ie(octets, names::ENB_UE_S1AP_ID, criticality)?;
-    let (enb, more) = id(content, 0, 64)?;
-    if !more.is_empty() || u64::from(enb) > names::MOST_ENB_UE_S1AP_ID {
-        return None;
-    }
+    let enb = enb_id(content)?;
     Some((enb, rest))
 }
 
@@ -262,58 +272,39 @@ pub fn key(octets: &[u8]) -> Option<(&[u8], &[u8])>
     Some((content, rest))
 }
 
-/// A root of a group of causes.
-#[inline(always)]
-const fn root(group: u8, index: u8) -> Cause
-    ensures { result ≡ record { group = group; extended = false; index = index } }
-{
-    Cause {
-        group,
-        extended: false,
-        index,
-    }
-}
-
-/// The cause that one octet is: a root of a group other than that of the radio network.
+/// The cause that one octet is, where it is a root of those of NAS.
 #[tactic(auto, unfolding(crate::specs::Usual::cause_octets, device_types::specs::Cause::cause_roots))]
-fn short_cause(a: u8) -> Option<Cause>
+fn nas_cause(a: u8) -> Option<Cause>
     ensures octets { IfSome result (λ c. cause_octets c ≡ a ∷ []) }
     ensures right { IfSome result (λ c. IsCause c) }
 {
-    let group = a / 16;
-    let low = a % 16;
-    if group == 1 && low % 4 == 0 && low < 8 {
-        return Some(root(1, low / 4));
+    if a < 32 || a >= 40 || a % 2 != 0 {
+        return None;
     }
-    if group == 2 && low % 2 == 0 && low < 8 {
-        return Some(root(2, low / 2));
-    }
-    if group == 3 && low < 7 {
-        return Some(root(3, low));
-    }
-    if group == 4 && low < 6 {
-        return Some(root(4, low));
-    }
-    None
+    Some(Cause {
+        group: 2,
+        extended: false,
+        index: a % 32 / 2,
+    })
 }
 
-/// The cause that two octets are: a root of the radio network.
+/// The cause that two octets are, where it is a root of those of the radio network.
 #[tactic(auto, unfolding(crate::specs::Usual::cause_octets, device_types::specs::Cause::cause_roots))]
 fn radio_cause(a: u8, b: u8) -> Option<Cause>
     ensures octets { IfSome result (λ c. cause_octets c ≡ a ∷ b ∷ []) }
     ensures right { IfSome result (λ c. IsCause c) }
 {
-    if a >= 8 || b % 32 != 0 {
+    if a >= 8 || b % 32 != 0 || a * 8 + b / 32 >= 36 {
         return None;
     }
-    let index = a * 8 + b / 32;
-    if index >= 36 {
-        return None;
-    }
-    Some(root(0, index))
+    Some(Cause {
+        group: 0,
+        extended: false,
+        index: a * 8 + b / 32,
+    })
 }
 
-/// The cause that the octets are, where it is a root of its group.
+/// The cause that the octets are, where it is a root of those of the radio network or of NAS.
 #[inline(always)]
 fn cause_of(octets: &[u8]) -> Option<Cause>
     ensures octets { IfSome result (λ c. octets.now ≡ cause_octets c) }
@@ -321,7 +312,7 @@ fn cause_of(octets: &[u8]) -> Option<Cause>
 {
     let (a, more) = one(octets)?;
     if more.is_empty() {
-        return short_cause(a);
+        return nas_cause(a);
     }
     let [b] = more else {
         return None;
@@ -329,7 +320,7 @@ fn cause_of(octets: &[u8]) -> Option<Cause>
     radio_cause(a, *b)
 }
 
-/// A cause that is a root of its group, and what stands behind it.
+/// Such a cause, and what stands behind it.
 #[inline(always)]
 pub fn cause(octets: &[u8]) -> Option<(Cause, &[u8])>
     ensures octets { IfSome result (λ x. octets.now ≡ ie_octets named.CAUSE level.ignore (cause_octets x.0) ++ x.1.now) }
@@ -339,43 +330,16 @@ pub fn cause(octets: &[u8]) -> Option<(Cause, &[u8])>
     Some((cause_of(content)?, rest))
 }
 
-/// Both identities of a device, where all of the octets are these.
+/// UE S1AP IDs that are both identities of a device, and what stands behind them.
 #[tactic(auto, unfolding(crate::specs::Usual::ids_octets))]
-fn pair(octets: &[u8]) -> Option<UeIds>
-    ensures octets { IfSome result (λ ids. octets.now ≡ ids_octets ids) }
-    ensures right { IfSome result (λ ids. IsUeIds ids) }
-{
-    let (mme, rest) = id(octets, 0, 4)?;
-    let (enb, more) = id(rest, 0, 64)?;
-    if u64::from(enb) > names::MOST_ENB_UE_S1AP_ID || !more.is_empty() {
-        return None;
-    }
-    Some(UeIds::Pair { mme, enb })
-}
-
-/// The MME UE S1AP ID alone, where all of the octets are it.
-#[tactic(auto, unfolding(crate::specs::Usual::ids_octets))]
-fn single(octets: &[u8]) -> Option<UeIds>
-    ensures octets { IfSome result (λ ids. octets.now ≡ ids_octets ids) }
-    ensures right { IfSome result (λ ids. IsUeIds ids) }
-{
-    let (mme, more) = id(octets, 64, 16)?;
-    if !more.is_empty() {
-        return None;
-    }
-    Some(UeIds::Mme(mme))
-}
-
-/// UE S1AP IDs, and what stands behind them.
 pub fn ids(octets: &[u8]) -> Option<(UeIds, &[u8])>
     ensures octets { IfSome result (λ x. octets.now ≡ ie_octets named.UE_IDS level.reject (ids_octets x.0) ++ x.1.now) }
     ensures right { IfSome result (λ x. IsUeIds x.0) }
 {
     let (content, rest) = ie(octets, names::UE_IDS, Criticality::Reject)?;
-    if let Some(ids) = pair(content) {
-        return Some((ids, rest));
-    }
-    Some((single(content)?, rest))
+    let (mme, more) = id(content, 0, 4)?;
+    let enb = enb_id(more)?;
+    Some((UeIds::Pair { mme, enb }, rest))
 }
 
 /// Octets in memory of their own, or None for want of memory.
