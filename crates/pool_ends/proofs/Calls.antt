@@ -1,5 +1,5 @@
 -- The calls of a lane, and what an offer leaves of how many were accepted.
-use Rattle.std.proofs.Common.{◌≡◌, ◌≤◌, ◌+◌, ◌-◌, ℕ, true, ⊎_elim, List, [], ◌∷◌, Some, length, refl, sym, ap, ◌∙◌, subst, arith, length-append}
+use Rattle.std.proofs.Common.{◌≡◌, ◌≤◌, ◌+◌, ◌-◌, ℕ, true, ⊎_elim, List, [], ◌∷◌, Some, get_or, length, refl, sym, ap, ◌∙◌, subst, arith, length-append}
 use Rattle.std.specs.Prelude.{All, slice_get}
 use Rattle.std.proofs.lemmas.Bool.{cases_eq}
 use Rattle.std.proofs.lemmas.List.Elements.{All-append, All-get_or, filter_passes}
@@ -18,6 +18,7 @@ use Rattle.pool_ends.specs.Lanes.{HasWhole, told_count}
 use Rattle.session_store.specs.Charter.{CharterState, alone_in}
 use Rattle.session_store.specs.Rows.{Begins, IsDevice}
 use Rattle.store_shared.specs.Legal.{is_call, lane_of}
+use Rattle.store_shared.proofs.Items.{get_here}
 
 all_on : (l : Lane) (journal : List Entry) → All (λ x. is_on l x ≡ true) (effects_of l journal)
 all_on l [] = λ k d low. absurd (omega arith)
@@ -56,9 +57,9 @@ module _ (charter : CharterState) (d : ℕ) (l : Lane) (calls : List Effect) (is
         law = ap (λ (m : Lane). slice_get (effects_of m (alone_in charter d)) (k - 1)) on.1 ∙ (ap (λ xs. slice_get xs (k - 1)) (sym is) ∙ got);
       }
 
-  -- so many were accepted
-  pub whole_is : (accepted : List Effect) → length calls ≤ length accepted → HasWhole charter d l accepted
-  whole_is accepted enough = subst (λ (xs : List Effect). length xs ≤ length accepted) is enough
+-- call k of a list, copied
+pub call_at : (calls : List Effect) (k : ℕ) (call item : Effect) → 1 ≤ k → k ≤ length calls → item ≡ get_or calls (k - 1) item → call ≡ item → slice_get calls (k - 1) ≡ Some call
+call_at calls k call item low most is same = get_here calls (k - 1) item (omega arith) is ∙ ap (λ e. Some e) (sym same)
 
 -- behind an offer of a call of which all before it were accepted, it is
 pub counts : (charter : CharterState) (d k : ℕ) (call : Effect) (old new : List Effect) (o : Offer) → IsOffer charter d k call new o → Begins old new → k ≤ length old + 1 → k ≤ length new

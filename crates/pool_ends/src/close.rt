@@ -1,5 +1,6 @@
 //! Rows and peers are closed, by seats that speak for all.
-ghost use Rattle.std.specs.Prelude.{◌≡◌, ◌<◌, ℕ, length, IfOk};
+ghost use Rattle.std.specs.Prelude.{◌≡◌, ◌<◌, ℕ, length, map, IfOk};
+ghost use Rattle.std.specs.List.{range_with_len};
 ghost use Rattle.device_machine.specs.Ends.{finals_of};
 ghost use Rattle.device_types.specs.declared.event.Lane.{Lane};
 ghost use Rattle.device_types.specs.Event.{IsCallLane};
@@ -10,7 +11,7 @@ ghost use Rattle.pool_ends.specs.Ends.{IsWhole};
 
 use crate::ends::finals;
 use crate::lanes::bring_lanes;
-use device_types::Finals;
+use device_types::{Entry, Finals, ListOf};
 use pool_rows::{SharedCalls, SharedRows};
 use std::alloc::{AllocError, Global};
 use std::sync::Wait;
@@ -26,6 +27,28 @@ pub struct Ended<S, Q> {
     pub peers: Q,
 }
 
+/// Brings the peers' lanes whole, and closes the peers, by a seat that speaks for all. The whole journals are given.
+fn close_peers<P: SharedCalls + Drop, R: Wait>(
+    rt: &R,
+    alloc: Global,
+    devices: u32,
+    peers: P,
+    mut seat: P::Seat,
+    journals: &[ListOf<Entry>],
+) -> Result<P::Closed, AllocError>
+where
+    P::Seat: Drop,
+    requires devices { devices ≡ length (P.charter peers).rows }
+    requires journals { journals.now ≡ map (alone_in (P.charter peers)) (range_with_len 1 devices) }
+    requires seat { P.is_seat peers seat }
+    requires all { (n : ℕ) → n < P.count peers → P.speaks seat n }
+    ensures peers { IfOk result (P.closes (P.charter peers)) }
+    ensures lanes { IfOk result (λ closed. (d : ℕ) (lane : Lane) → IsDevice devices d → IsCallLane lane → P.accepted closed d lane ≡ effects_of lane (alone_in (P.charter peers) d)) }
+{
+    bring_lanes(rt, alloc, &peers, &mut seat, devices, journals)?;
+    peers.close(seat)
+}
+
 /// Closes the rows, brings the peers' lanes whole, and closes the peers, by seats that speak for all, the one of the rows having
 /// seen as much of each device as the machine alone makes. It fails for want of memory alone.
 pub fn close_all<T: SharedRows, P: SharedCalls + Drop, R: Wait>(
@@ -35,7 +58,7 @@ pub fn close_all<T: SharedRows, P: SharedCalls + Drop, R: Wait>(
     rows: T,
     peers: P,
     row_seat: T::Seat,
-    mut peer_seat: P::Seat,
+    peer_seat: P::Seat,
 ) -> Result<Ended<T::Closed, P::Closed>, AllocError>
 where
     T::Closed: Drop,
@@ -55,9 +78,9 @@ where
     ensures lanes { IfOk result (λ ended. (d : ℕ) (lane : Lane) → IsDevice devices d → IsCallLane lane → P.accepted ended.peers d lane ≡ effects_of lane (alone_in (T.charter rows) d)) }
 {
     let store = rows.close(row_seat)?;
-    bring_lanes::<T, P, R>(rt, alloc, &store, &peers, &mut peer_seat, devices)?;
-    let finals = finals::<T>(alloc, &store, devices)?;
-    let peers = peers.close(peer_seat)?;
+    let journals = T::journals(alloc, &store, devices)?;
+    let finals = finals(alloc, &journals)?;
+    let peers = close_peers(rt, alloc, devices, peers, peer_seat, &journals)?;
     Ok(Ended {
         finals,
         store,

@@ -1,18 +1,16 @@
 //! What became of the devices.
-ghost use Rattle.std.specs.Prelude.{◌≡◌, ℕ, length, map, IfOk};
+ghost use Rattle.std.specs.Prelude.{◌≡◌, length, map, IfOk};
 ghost use Rattle.std.specs.List.{filter_map, range_with_len};
 ghost use Rattle.device_machine.specs.Ends.{down_in, finals_of, gateway_in, subscriber_in};
 ghost use Rattle.device_types.specs.Journal.{session_of, taken_count};
 ghost use Rattle.session_store.specs.Charter.{CharterState, alone_in};
-ghost use Rattle.session_store.specs.Rows.{IsDevice};
 ghost use Rattle.pool_ends.specs.Ends.{end_in};
 
 use crate::lanes::effects_of;
 use device_types::{
-    DeviceEnd, DeviceId, Downs, Effect, Entry, Finals, GwCalls, Input, Lane, ListOf, Session,
-    SubCalls, TryCopy,
+    DeviceEnd, Downs, Effect, Entry, Finals, GwCalls, Input, Lane, ListOf, Session, SubCalls,
+    TryCopy,
 };
-use pool_rows::SharedRows;
 use std::alloc::{AllocError, Global};
 
 /// How many messages were taken.
@@ -92,20 +90,14 @@ fn end_of(alloc: Global, journal: &[Entry]) -> Result<DeviceEnd, AllocError>
     })
 }
 
-/// What became of each of the devices of closed rows, in the order of their numbers: where each journal is whole, what the
-/// machine alone comes to. It fails for want of memory alone.
-pub fn finals<T: SharedRows>(
-    alloc: Global,
-    closed: &T::Closed,
-    devices: u32,
-) -> Result<Finals, AllocError>
-    requires closed { (charter : CharterState) × T.closes charter closed.now }
-    ensures ends { IfOk result (λ finals. finals ≡ map (λ d. end_in (T.journal closed.now d)) (range_with_len 1 devices)) }
-    ensures whole { IfOk result (λ finals. (charter : CharterState) → devices ≡ length charter.rows → length charter.lines ≡ length charter.rows → ((d : ℕ) → IsDevice devices d → T.journal closed.now d ≡ alone_in charter d) → finals ≡ finals_of charter.rows charter.lines) }
+/// What became of each device by its journal, in the same order: where each journal is whole, what the machine alone comes to. It
+/// fails for want of memory alone.
+pub fn finals(alloc: Global, journals: &[ListOf<Entry>]) -> Result<Finals, AllocError>
+    ensures ends { IfOk result (λ finals. finals ≡ map end_in journals.now) }
+    ensures whole { IfOk result (λ finals. (charter : CharterState) → length charter.lines ≡ length charter.rows → journals.now ≡ map (alone_in charter) (range_with_len 1 (length charter.rows)) → finals ≡ finals_of charter.rows charter.lines) }
 {
     let mut finals = Finals::new(alloc);
-    for index in 0..devices {
-        let journal = T::entries(alloc, closed, DeviceId(index + 1))?;
+    for journal in journals {
         finals.push(end_of(alloc, journal.items())?)?;
     }
     Ok(finals)

@@ -1,5 +1,6 @@
 //! The lanes of the peers, brought whole.
-ghost use Rattle.std.specs.Prelude.{◌≡◌, ◌≤◌, ◌+◌, ◌++◌, ℕ, length, IfOk, OnOk};
+ghost use Rattle.std.specs.Prelude.{◌≡◌, ◌≤◌, ◌+◌, ◌++◌, ℕ, length, map, IfOk, OnOk};
+ghost use Rattle.std.specs.List.{range_with_len};
 ghost use Rattle.device_types.specs.declared.event.Lane.{Lane};
 ghost use Rattle.device_types.specs.Event.{IsCallLane};
 ghost use Rattle.device_types.specs.Journal.{effects_of, effects_on, is_on};
@@ -10,7 +11,7 @@ ghost use Rattle.pool_rows.specs.Seats.{GoesOn, IsCall, KnowsCalls};
 ghost use Rattle.pool_ends.specs.Lanes.{HasWhole, told_count};
 
 use device_types::{DeviceId, Effect, Entry, Lane, ListOf, Offer, TryCopy};
-use pool_rows::{SharedCalls, SharedRows};
+use pool_rows::SharedCalls;
 use std::alloc::{AllocError, Global};
 use std::sync::Wait;
 
@@ -83,8 +84,57 @@ fn offer_call<P: SharedCalls, R: Wait>(
     Ok(told_count(k, offer))
 }
 
-/// Brings a lane of a device to its peer, of which the whole journal is given: the last call first, and where calls before it
-/// have not come those.
+/// Offers call `k` of those of a lane, and says how many of the lane were accepted at least. Where all before it were, it is.
+fn bring_call<P: SharedCalls, R: Wait>(
+    rt: &R,
+    peers: &P,
+    seat: &mut P::Seat,
+    d: DeviceId,
+    lane: Lane,
+    calls: &[Effect],
+    k: u64,
+) -> Result<u64, AllocError>
+    requires device { IsDevice (length (P.charter peers.now).rows) d.0 }
+    requires lane { IsCallLane lane }
+    requires calls { calls.now ≡ effects_of lane (alone_in (P.charter peers.now) d.0) }
+    requires within { (1 ≤ k) × (k ≤ length calls.now) }
+    requires seat { P.is_seat peers.now seat.old }
+    ensures seat { GoesOn (P.is_seat peers.now) P.speaks (KnowsCalls P.known) seat.old seat.new }
+    ensures count { IfOk result (λ count. count ≤ length (P.known seat.new d.0 lane)) }
+    ensures next { OnOk result (k ≤ length (P.known seat.old d.0 lane) + 1 → k ≤ length (P.known seat.new d.0 lane)) }
+{
+    let call = calls[k as usize - 1].copy()?;
+    offer_call(rt, peers, seat, d, k, call)
+}
+
+/// Brings the calls of a lane to their peer: the last one first, and where calls before it have not come those.
+fn bring_calls<P: SharedCalls, R: Wait>(
+    rt: &R,
+    peers: &P,
+    seat: &mut P::Seat,
+    d: DeviceId,
+    lane: Lane,
+    calls: &[Effect],
+) -> Result<(), AllocError>
+    requires device { IsDevice (length (P.charter peers.now).rows) d.0 }
+    requires lane { IsCallLane lane }
+    requires calls { calls.now ≡ effects_of lane (alone_in (P.charter peers.now) d.0) }
+    requires seat { P.is_seat peers.now seat.old }
+    ensures seat { GoesOn (P.is_seat peers.now) P.speaks (KnowsCalls P.known) seat.old seat.new }
+    ensures whole { OnOk result (length calls.now ≤ length (P.known seat.new d.0 lane)) }
+{
+    let count = calls.len() as u64;
+    if count == 0 {
+        return Ok(());
+    }
+    let had = bring_call(rt, peers, seat, d, lane, calls, count)?;
+    for k in had..count {
+        bring_call(rt, peers, seat, d, lane, calls, k + 1)?;
+    }
+    Ok(())
+}
+
+/// Brings a lane of a device to its peer, of which the whole journal is given.
 fn bring_lane<P: SharedCalls, R: Wait>(
     rt: &R,
     alloc: Global,
@@ -102,60 +152,47 @@ fn bring_lane<P: SharedCalls, R: Wait>(
     ensures whole { OnOk result (HasWhole (P.charter peers.now) d.0 lane (P.known seat.new d.0 lane)) }
 {
     let made = effects_of(alloc, journal, lane)?;
-    let calls = made.items();
-    let Some(last) = calls.last() else {
-        return Ok(());
-    };
-    let count = calls.len() as u64;
-    let had = offer_call(rt, peers, seat, d, count, last.copy()?)?;
-    for k in had..count {
-        offer_call(rt, peers, seat, d, k + 1, calls[k as usize].copy()?)?;
-    }
-    Ok(())
+    bring_calls(rt, peers, seat, d, lane, made.items())
 }
 
-/// Brings both lanes of a device, whose journal in closed rows is as long as that of the machine alone: so it is that.
-fn bring_device<T: SharedRows, P: SharedCalls, R: Wait>(
+/// Brings both lanes of a device, whose whole journal is given.
+fn bring_device<P: SharedCalls, R: Wait>(
     rt: &R,
     alloc: Global,
-    closed: &T::Closed,
     peers: &P,
     seat: &mut P::Seat,
     d: DeviceId,
+    journal: &[Entry],
 ) -> Result<(), AllocError>
     requires device { IsDevice (length (P.charter peers.now).rows) d.0 }
-    requires closed { T.closes (P.charter peers.now) closed.now }
-    requires whole { length (alone_in (P.charter peers.now) d.0) ≤ length (T.journal closed.now d.0) }
+    requires journal { journal.now ≡ alone_in (P.charter peers.now) d.0 }
     requires seat { P.is_seat peers.now seat.old }
     ensures seat { GoesOn (P.is_seat peers.now) P.speaks (KnowsCalls P.known) seat.old seat.new }
-    ensures journal { OnOk result (T.journal closed.now d.0 ≡ alone_in (P.charter peers.now) d.0) }
     ensures whole { OnOk result ((l : Lane) → IsCallLane l → HasWhole (P.charter peers.now) d.0 l (P.known seat.new d.0 l)) }
 {
-    let journal = T::entries(alloc, closed, d)?;
-    bring_lane(rt, alloc, peers, seat, d, Lane::Gateway, journal.items())?;
-    bring_lane(rt, alloc, peers, seat, d, Lane::Subscriber, journal.items())
+    bring_lane(rt, alloc, peers, seat, d, Lane::Gateway, journal)?;
+    bring_lane(rt, alloc, peers, seat, d, Lane::Subscriber, journal)
 }
 
-/// Brings both lanes of each device, so that the seat knows each to be accepted as a whole. The journals in closed rows are as
-/// long as those of the machine alone, and so they are those. It fails for want of memory alone.
-pub fn bring_lanes<T: SharedRows, P: SharedCalls, R: Wait>(
+/// Brings both lanes of each device, whose whole journals are given, so that the seat knows each to be accepted as a whole. It
+/// fails for want of memory alone.
+pub fn bring_lanes<P: SharedCalls, R: Wait>(
     rt: &R,
     alloc: Global,
-    closed: &T::Closed,
     peers: &P,
     seat: &mut P::Seat,
     devices: u32,
+    journals: &[ListOf<Entry>],
 ) -> Result<(), AllocError>
     requires devices { devices ≡ length (P.charter peers.now).rows }
-    requires closed { T.closes (P.charter peers.now) closed.now }
-    requires whole { (d : ℕ) → IsDevice devices d → length (alone_in (P.charter peers.now) d) ≤ length (T.journal closed.now d) }
+    requires journals { journals.now ≡ map (alone_in (P.charter peers.now)) (range_with_len 1 devices) }
     requires seat { P.is_seat peers.now seat.old }
     ensures seat { GoesOn (P.is_seat peers.now) P.speaks (KnowsCalls P.known) seat.old seat.new }
-    ensures journals { OnOk result ((d : ℕ) → IsDevice devices d → T.journal closed.now d ≡ alone_in (P.charter peers.now) d) }
     ensures whole { OnOk result ((d : ℕ) (l : Lane) → IsDevice devices d → IsCallLane l → HasWhole (P.charter peers.now) d l (P.known seat.new d l)) }
 {
     for index in 0..devices {
-        bring_device::<T, P, R>(rt, alloc, closed, peers, seat, DeviceId(index + 1))?;
+        let journal = journals[index as usize].items();
+        bring_device(rt, alloc, peers, seat, DeviceId(index + 1), journal)?;
     }
     Ok(())
 }

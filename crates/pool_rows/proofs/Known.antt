@@ -1,6 +1,6 @@
 -- What a call of the store says of the row that the seat knows behind it.
-use Rattle.std.proofs.Common.{◌≡◌, ◌≤◌, ◌==◌, max, ℕ, cond, Bool, true, false, List, [], ◌∷◌, ◌++◌, Option, length, refl, sym, ap, ◌∙◌, subst, arith, length-append, eq-eqb}
-use Rattle.std.specs.Prelude.{All, slice_get}
+use Rattle.std.proofs.Common.{◌≡◌, ◌≤◌, ◌==◌, ℕ, cond, Bool, true, false, List, [], ◌∷◌, ◌++◌, Option, length, refl, sym, ap, ◌∙◌, subst, arith, length-append, eq-eqb}
+use Rattle.std.specs.Prelude.{All, IsTrue, slice_get}
 use Rattle.std.proofs.Math.Nat.{le-max_right}
 use Rattle.device_types.specs.declared.effect.Effect.{Effect}
 use Rattle.device_types.specs.declared.event.Lane.{Lane}
@@ -13,6 +13,7 @@ use Rattle.front_lock.specs.declared.front.Front.{Front}
 use Rattle.front_lock.specs.declared.held.Held.{Ghosts}
 use Rattle.front_lock.specs.declared.seat.FrontSeat.{FrontSeat}
 use Rattle.front_lock.specs.Front.{view}
+use Rattle.front_lock.specs.Numbers.{speaks_for}
 use Rattle.session_row.specs.declared.commit.Commit.{Commit}
 use Rattle.session_row.specs.declared.commit.Commit.TheVariants.{Committed, Stale}
 use Rattle.session_row.specs.Row.{RowState}
@@ -35,11 +36,13 @@ use Rattle.store_shared.specs.FrontRow.{AreFreshSeats, AreJoined, IsFreshSeat, s
 use Rattle.store_shared.specs.Legal.{IsBehind, TellsCount, commit_of, journal_in, row_after, row_from, row_in}
 use Rattle.store_shared.specs.SharedCalls.{Called}
 use Rattle.store_shared.specs.Stays.{journal_begins, row_from-append, row_next}
+use Rattle.store_shared.specs.StoreBases.{seat_of}
 use Rattle.store_shared.specs.StoreShards.{turn_by}
-use Rattle.store_shared.proofs.Items.{get_at}
+use Rattle.store_shared.proofs.Items.{get_at, some_one}
+use Rattle.store_shared.proofs.Turns.{seen_is}
 use Rattle.pool_rows.specs.Seats.{IsLater, Settles}
-use Rattle.pool_rows.specs.Shared.{row_known}
-use Rattle.pool_rows.proofs.Seats.{Moves, each_seat, fresh_seen, history_is, joined_seen, seen_before, sees_more}
+use Rattle.pool_rows.specs.Shared.{RowComes, row_known}
+use Rattle.pool_rows.proofs.Seats.{Moves, each_seat, fresh_seen, history_is, joined_seen, others_came, seen_before, sees_more}
 
 -- ---- rows of longer histories
 
@@ -53,11 +56,6 @@ grows_on n lanes.Gateway lanes.Subscriber k = omega arith
 grows_on n lanes.Subscriber lanes.Down k = omega arith
 grows_on n lanes.Subscriber lanes.Gateway k = omega arith
 grows_on n lanes.Subscriber lanes.Subscriber k = le-max_right k n.subscriber
-
-number_after : (n : LaneNumbers) (l : Lane) (k : ℕ) → number_on (with_number n l k) l ≡ max k (number_on n l)
-number_after n lanes.Down k = refl
-number_after n lanes.Gateway k = refl
-number_after n lanes.Subscriber k = refl
 
 settled_after : (row : RowState) (call : TurnCall) (answer : TurnAnswer) (l : Lane) → number_on row.settled l ≤ number_on (row_after row call answer).settled l
 settled_after row (calls.Settle m k) answer l = grows_on row.settled m l k
@@ -147,12 +145,15 @@ module _ {T : Type 0} {h : Ghosts T Turn ShardBasis} {follows : CharterState →
   pub push_tells : (l : Lane) (k : ℕ) (effect : Option Effect) → Called follows devices charter old new d (calls.Push l k) (answers.Push effect) (λ before. effect ≡ unsettled_effect (row_in d.0 before) l k) → effect ≡ unsettled_effect (row_known new d.0) l k
   push_tells l k effect c = says_still (λ (row : RowState). effect ≡ unsettled_effect row l k) c (λ row. refl) c.value
 
-  pub settle_tells : (l : Lane) (k : ℕ) (told : Settled) → Called follows devices charter old new d (calls.Settle l k) (answers.Settle told) (λ before. told ≡ settled_by (number_on (row_in d.0 before).settled l) k) → Settles (number_on (row_known old d.0).settled l) k (number_on (row_known new d.0).settled l) told
-  settle_tells l k told c =
-      let row = row_in d.0 c.before in
-      record {
-        before = number_on row.settled l;
-        least = (row_more d.0 (seen_at old (shard_of d.0)) c.before (seen_before c)).settled l;
-        says = c.value;
-        behind = ap (λ (r : RowState). number_on r.settled l) (row_is c) ∙ number_after row.settled l k;
-      }
+  pub settle_tells : ((x : Turn) → h.by x ≡ seat_of x) → (l : Lane) (k : ℕ) (told : Settled) → Called follows devices charter old new d (calls.Settle l k) (answers.Settle told) (λ before. told ≡ settled_by (number_on (row_in d.0 before).settled l) k) → Settles (RowComes old d.0) (row_known old d.0) l k (row_known new d.0) told
+  settle_tells by l k told c = record {
+    before = row_in d.0 c.before;
+    others = record {
+      more = c.seen.0;
+      others = λ n s at speaks. others_came by c n (subst (λ (t : FrontSeat T Turn ShardBasis h). IsTrue (speaks_for n (view t).mine)) (some_one s c.from (sym at ∙ c.was)) speaks);
+      row_is = ap (row_in d.0) (sym c.seen.1 ∙ ap (λ l. l ++ c.seen.0) (sym (seen_is old (shard_of d.0) c.from c.was)));
+    };
+    later = row_more d.0 (seen_at old (shard_of d.0)) c.before (seen_before c);
+    says = c.value;
+    behind = row_is c;
+  }

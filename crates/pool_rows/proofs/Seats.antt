@@ -1,5 +1,5 @@
 -- What a call leaves of what a seat knows.
-use Rattle.std.proofs.Common.{◌≡◌, ◌≢◌, ℕ, zero, suc, Bool, true, false, cond, ⊎_elim, List, [], ◌∷◌, ◌++◌, length, map, get_or, Some, Result, Ok, Err, refl, sym, ap, ◌∙◌, subst, arith, append-nil, append_assoc}
+use Rattle.std.proofs.Common.{◌≡◌, ◌≢◌, ◌+◌, ℕ, zero, suc, Bool, true, false, cond, ⊎_elim, List, [], ◌∷◌, ◌++◌, length, map, get_or, Some, Result, Ok, Err, refl, sym, ap, ◌∙◌, subst, arith, append-nil, append_assoc, length-append}
 use Rattle.std.specs.Option.{option_map_or}
 use Rattle.std.specs.Prelude.{All, IfOk, IsTrue, OnErr, nat_le, slice_get}
 use Rattle.std.proofs.lemmas.Option.{slice_get-get_or}
@@ -14,9 +14,9 @@ use Rattle.front_lock.specs.declared.held.Held.{Ghosts}
 use Rattle.front_lock.specs.declared.seat.FrontSeat.{FrontSeat}
 use Rattle.front_lock.specs.declared.view.View.{View}
 use Rattle.front_lock.specs.Front.{view}
-use Rattle.front_lock.specs.Numbers.{speaks_for}
+use Rattle.front_lock.specs.Numbers.{list_of, speaks_for, turns_of, with_turn}
 use Rattle.front_lock.specs.View.{fresh_view}
-use Rattle.front_lock.proofs.Histories.{speaks_for-with_turn}
+use Rattle.front_lock.proofs.Histories.{list_of-with_turn_else, list_of-with_turn_here, speaks_for-with_turn, turns_of-append, turns_of-else, turns_of-here}
 use Rattle.session_store.specs.Charter.{CharterState}
 use Rattle.session_store.specs.Rows.{Begins}
 use Rattle.session_store.specs.Shards.{shard_of}
@@ -31,6 +31,7 @@ use Rattle.store_shared.specs.FrontRow.{AreJoined, IsFreshSeat, MissesAt, Speaks
 use Rattle.store_shared.specs.PeerShards.{offer_by}
 use Rattle.store_shared.specs.SharedCalls.{Called}
 use Rattle.store_shared.specs.SharedOffers.{Offered}
+use Rattle.store_shared.specs.StoreBases.{seat_of}
 use Rattle.store_shared.specs.StoreShards.{turn_by}
 use Rattle.store_shared.proofs.Items.{some_one}
 use Rattle.store_shared.proofs.Turns.{seen_is}
@@ -127,6 +128,28 @@ each_seat P F made each f k d lt = f k (get_or made k d) (each k (get_or made k 
 begins_one : {X : Type 0} (xs ys zs : List X) (x : X) → (rest : List X) × (xs ++ rest ≡ ys) → zs ≡ ys ++ x ∷ [] → Begins xs zs
 begins_one xs ys zs x p e = (p.0 ++ x ∷ [], e ∙ (ap (λ l. l ++ x ∷ []) (sym p.1) ∙ append_assoc xs p.0 (x ∷ [])))
 
+nothing : {X : Type 0} (xs : List X) → length xs ≡ 0 → xs ≡ []
+nothing [] e = refl
+nothing (x ∷ xs) e = absurd (omega arith)
+
+-- the list of a number grows by the turns that are its own
+list_more : {X : Type 0} (by : X → ℕ) (n m : ℕ) (x : X) (mine : List (ℕ × List X)) → IsTrue (speaks_for m mine) → by x ≡ m → length (list_of n (with_turn m x mine)) ≡ length (list_of n mine) + length (turns_of by n (x ∷ []))
+list_more by n m x mine speaks is = ⊎_elim
+    (λ (e : n ≡ m).
+    let own = ap length (turns_of-here by n [] x (e ∙ sym is)) in
+    let count = length-append (list_of n mine) (x ∷ []) in
+    let more = ap length (ap (λ k. list_of k (with_turn m x mine)) e ∙ (list_of-with_turn_here m x mine speaks ∙ ap (λ k. list_of k mine ++ x ∷ []) (sym e))) in
+    omega (arith, own, count, more))
+    (λ (ne : n ≢ m).
+    let own = ap length (turns_of-else by n [] x (λ e. ne (e ∙ is))) in
+    let more = ap length (list_of-with_turn_else m n x mine ne) in
+    omega (arith, own, more))
+    (cases_eq n m)
+
+by_other : (by : Turn → ℕ) (n : ℕ) → ((x : Turn) → by x ≡ seat_of x) → (turns : List Turn) → turns_of by n turns ≡ [] → turns_of seat_of n turns ≡ []
+by_other by n same turns none =
+    let one : by ≡ seat_of = λ i x. same x i in subst (λ (f : Turn → ℕ). turns_of f n turns ≡ []) one none
+
 module _ {T : Type 0} {h : Ghosts T Turn ShardBasis} {follows : CharterState → ℕ → List Entry → Entry → Type 0} {devices : ℕ} {charter : CharterState} {old new : List (FrontSeat T Turn ShardBasis h)} {d : DeviceId} {call : TurnCall} {answer : TurnAnswer} {says : List Turn → Type 0} where
   -- the seat's new history of the shard
   pub history_is : (c : Called follows devices charter old new d call answer says) → seen_at new (shard_of d.0) ≡ c.before ++ turn_by (view c.from).number d call answer ∷ []
@@ -135,6 +158,24 @@ module _ {T : Type 0} {h : Ghosts T Turn ShardBasis} {follows : CharterState →
   -- what it had seen begins the history before the call
   pub seen_before : (c : Called follows devices charter old new d call answer says) → Begins (seen_at old (shard_of d.0)) c.before
   seen_before c = (c.seen.0, sym c.seen.1 ∙ ap (λ l. l ++ c.seen.0) (sym (seen_is old (shard_of d.0) c.from c.was)))
+
+  -- between what it had seen and the call came no turn of a number that it speaks for
+  pub others_came : ((x : Turn) → h.by x ≡ seat_of x) → (c : Called follows devices charter old new d call answer says) → (n : ℕ) → IsTrue (speaks_for n (view c.from).mine) → turns_of seat_of n c.seen.0 ≡ []
+  others_came by c n speaks =
+      let m = (view c.from).number in
+      let mine = (view c.from).mine in
+      let turn = turn_by m d call answer in
+      let more = c.seen.0 in
+      let told = c.from.knows.told n speaks in
+      let seen = subst (λ (v : View Turn ShardBasis). IsTrue (speaks_for n v.mine) → turns_of h.by n v.seen ≡ list_of n v.mine) c.view_is (c.to.knows.told n) (speaks_for-with_turn m n turn mine ∙ speaks) in
+      let split : turns_of h.by n (c.before ++ turn ∷ []) ≡ turns_of h.by n (view c.from).seen ++ (turns_of h.by n more ++ turns_of h.by n (turn ∷ [])) =
+      turns_of-append h.by n c.before (turn ∷ []) ∙ (ap (λ l. l ++ turns_of h.by n (turn ∷ [])) (ap (turns_of h.by n) (sym c.seen.1) ∙ turns_of-append h.by n (view c.from).seen more) ∙ append_assoc (turns_of h.by n (view c.from).seen) (turns_of h.by n more) (turns_of h.by n (turn ∷ []))) in
+      let count = length-append (turns_of h.by n (view c.from).seen) (turns_of h.by n more ++ turns_of h.by n (turn ∷ [])) in
+      let counts = length-append (turns_of h.by n more) (turns_of h.by n (turn ∷ [])) in
+      let whole = ap length (sym split ∙ seen) in
+      let known = ap length told in
+      let own = list_more h.by n m turn mine c.from.knows.own (by turn) in
+      by_other h.by n by more (nothing (turns_of h.by n more) (omega (arith, count, counts, whole, known, own)))
 
   pub called_moves : ((k : ℕ) → k ≢ shard_of d.0 → slice_get new k ≡ slice_get old k) → Called follows devices charter old new d call answer says → Moves old new (shard_of d.0)
   called_moves others c =

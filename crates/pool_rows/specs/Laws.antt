@@ -1,40 +1,14 @@
 -- What seats go on from, one behind another.
-use Rattle.std.proofs.Common.{ℕ, List, ◌++◌, sym, ap, ◌∙◌, arith, append-nil, append_assoc, []}
+use Rattle.std.proofs.Common.{ℕ, List, ◌++◌, ap, ◌∙◌, append_assoc}
 use Rattle.device_types.specs.declared.effect.Effect.{Effect}
 use Rattle.device_types.specs.declared.event.Lane.{Lane}
-use Rattle.session_row.specs.Row.{RowState}
 use Rattle.session_store.specs.Rows.{Begins}
-use Rattle.pool_rows.specs.Seats.{GoesOn, KnowsCalls, KnowsRows}
+use Rattle.pool_rows.specs.Seats.{GoesOn, KnowsCalls}
 
-begins_same : {X : Type 0} (xs : List X) → Begins xs xs
-begins_same xs = ([], sym (append-nil xs))
-
-pub begins_twice : {X : Type 0} (xs ys zs : List X) → Begins xs ys → Begins ys zs → Begins xs zs
+begins_twice : {X : Type 0} (xs ys zs : List X) → Begins xs ys → Begins ys zs → Begins xs zs
 begins_twice xs ys zs p q = (p.0 ++ q.0, q.1 ∙ (ap (λ w. w ++ q.0) p.1 ∙ append_assoc xs p.0 q.0))
 
-module _ {Seat : Type 0} (IsSeat : Seat → Type 0) (Speaks : Seat → ℕ → Type 0) (known : Seat → ℕ → RowState) where
-  pub rows_same : (a : Seat) → IsSeat a → GoesOn IsSeat Speaks (KnowsRows known) a a
-  rows_same a is = record {
-    seat = is;
-    speaks = λ n h. h;
-    knows = λ d. record { journal = begins_same (known a d).journal; settled = λ l. omega arith };
-  }
-
-  pub rows_twice : (a b c : Seat) → GoesOn IsSeat Speaks (KnowsRows known) a b → GoesOn IsSeat Speaks (KnowsRows known) b c → GoesOn IsSeat Speaks (KnowsRows known) a c
-  rows_twice a b c p q = record {
-    seat = q.seat;
-    speaks = λ n h. q.speaks n (p.speaks n h);
-    knows = λ d. let x = p.knows d in
-        let y = q.knows d in record {
-          journal = begins_twice (known a d).journal (known b d).journal (known c d).journal x.journal y.journal;
-          settled = λ l. let m = x.settled l in let n = y.settled l in omega arith;
-        };
-  }
-
 module _ {Seat : Type 0} (IsSeat : Seat → Type 0) (Speaks : Seat → ℕ → Type 0) (known : Seat → ℕ → Lane → List Effect) where
-  pub calls_same : (a : Seat) → IsSeat a → GoesOn IsSeat Speaks (KnowsCalls known) a a
-  calls_same a is = record { seat = is; speaks = λ n h. h; knows = λ d l. begins_same (known a d l) }
-
   pub calls_twice : (a b c : Seat) → GoesOn IsSeat Speaks (KnowsCalls known) a b → GoesOn IsSeat Speaks (KnowsCalls known) b c → GoesOn IsSeat Speaks (KnowsCalls known) a c
   calls_twice a b c p q = record {
     seat = q.seat;

@@ -1,5 +1,5 @@
 -- What is told of rows and peers that are shared.
-use Rattle.std.specs.Prelude.{◌≡◌, ◌≤◌, ◌<◌, ℕ, ◌+◌, ◌-◌, max, List, length, Some, IsSomeAnd, true, slice_get}
+use Rattle.std.specs.Prelude.{◌≡◌, ◌≤◌, ◌<◌, ℕ, ◌+◌, ◌-◌, List, length, Some, IsSomeAnd, true, slice_get}
 use Rattle.device_types.specs.declared.effect.Effect.{Effect}
 use Rattle.device_types.specs.declared.event.Lane.{Lane}
 use Rattle.device_types.specs.declared.input.Input.{Input}
@@ -12,7 +12,7 @@ use Rattle.effect_outbox.specs.Outbox.{number_on, settled_by}
 use Rattle.replica_worker.specs.Writes.{IsOwnInput}
 use Rattle.session_row.specs.Row.{RowState}
 use Rattle.session_store.specs.Charter.{CharterState, alone_in}
-use Rattle.session_store.specs.Rows.{Begins, IsDevice}
+use Rattle.session_store.specs.Rows.{Begins, IsDevice, with_settled}
 use Rattle.store_shared.specs.Legal.{is_call, lane_of}
 
 -- ---- what a call leaves of a seat
@@ -40,13 +40,14 @@ module _ {Seat : Type 0} where
 
 -- ---- what it tells
 
--- the effects of a lane up to k are settled, and so many of the lane are now. How many were before, no fewer than the seat knew,
--- says both that number and what is told
-pub record Settles (known k count : ℕ) (told : Settled) : Type 0 where
-  pub before : ℕ
-  pub least : known ≤ before
-  pub says : told ≡ settled_by before k
-  pub behind : count ≡ max k before
+-- the effects of a lane up to k are settled, and nothing else is changed of the row that was there before. That one is what others
+-- made of the row that the seat knew, and how many effects of the lane were settled in it says what is told
+pub record Settles (Comes : RowState → Type 0) (known : RowState) (l : Lane) (k : ℕ) (new : RowState) (told : Settled) : Type 0 where
+  pub before : RowState
+  pub others : Comes before
+  pub later : IsLater known before
+  pub says : told ≡ settled_by (number_on before.settled l) k
+  pub behind : new ≡ with_settled before l k
 
 -- under a charter, the device's message of its number, or its peer's answer to the call of its number
 abbrev pub IsOwnOf : CharterState → ℕ → Input → Type 0

@@ -1,11 +1,11 @@
 //! Rows that threads share.
-ghost use Rattle.std.specs.Prelude.{◌≡◌, ◌≤◌, ◌<◌, ℕ, List, length, take, slice_get, All, Some, IfErr, IfOk, OnOk};
+ghost use Rattle.std.specs.Prelude.{◌≡◌, ◌≤◌, ◌<◌, ℕ, List, length, map, take, slice_get, All, Some, IfErr, IfOk, OnOk};
 ghost use Rattle.std.specs.Arc.{arc_value};
+ghost use Rattle.std.specs.List.{range_with_len};
 ghost use Rattle.device_types.specs.declared.effect.Effect.{Effect};
 ghost use Rattle.device_types.specs.declared.step.Entry.{Entry};
 ghost use Rattle.device_types.specs.Journal.{pushed_count};
 ghost use Rattle.session_store.specs.Charter.{CharterState, IsCharter, follows_alone};
-ghost use Rattle.effect_outbox.specs.Outbox.{number_on};
 ghost use Rattle.session_row.specs.Row.{RowState};
 ghost use Rattle.session_store.specs.Law.{IsLawful};
 ghost use Rattle.session_store.specs.Rows.{Begins, IsDevice, IsKnownAfter, opening_row, unsettled_effect};
@@ -40,6 +40,10 @@ pub trait SharedRows: Sized {
 
     /// The row of the device of that number, as far as the seat has seen it.
     ghost known: { Self.Seat → ℕ → RowState };
+
+    /// What the row of the device of that number may be once others were served: none of the calls behind those that the seat has
+    /// seen was one of a number that it speaks for.
+    ghost comes: { Self.Seat → ℕ → RowState → Type 0 };
 
     /// The seat speaks for that number.
     ghost speaks: { Self.Seat → ℕ → Type 0 };
@@ -148,7 +152,8 @@ pub trait SharedRows: Sized {
         requires device { IsDevice (length (charter self.now).rows) d.0 }
         requires pushed { k ≤ pushed_count lane (known seat.old d.0).journal }
         ensures seat { GoesOn (is_seat self.now) speaks (KnowsRows known) seat.old seat.new }
-        ensures ok { IfOk result (Settles (number_on (known seat.old d.0).settled lane) k (number_on (known seat.new d.0).settled lane)) };
+        ensures lawful { OnOk result (IsLawful (follows_alone (charter self.now) d.0) (known seat.new d.0).journal) }
+        ensures ok { IfOk result (Settles (comes seat.old d.0) (known seat.old d.0) lane k (known seat.new d.0)) };
 
     /// Joins two seats to one, which speaks for the numbers of both and knows what both knew. It takes no memory.
     fn join(&self, into: &mut Self::Seat, from: Self::Seat)
@@ -165,13 +170,14 @@ pub trait SharedRows: Sized {
         ensures closed { IfOk result (closes (charter self)) }
         ensures seen { IfOk result (λ closed. (d : ℕ) → Begins (known seat d).journal (journal closed d)) };
 
-    /// The journal of a device in closed rows, copied: it is lawful. It fails for want of memory alone.
-    fn entries(
+    /// The journals of the devices in closed rows, copied in one pass, device 1 first; each is lawful. It fails for want of memory
+    /// alone.
+    fn journals(
         alloc: Global,
         closed: &Self::Closed,
-        d: DeviceId,
-    ) -> Result<ListOf<Entry>, AllocError>
-        requires closed { (charter : CharterState) × closes charter closed.now }
-        ensures ok { IfOk result (λ entries. entries ≡ journal closed.now d.0) }
-        ensures lawful { (charter : CharterState) → closes charter closed.now → IsDevice (length charter.rows) d.0 → IsLawful (follows_alone charter d.0) (journal closed.now d.0) };
+        devices: u32,
+    ) -> Result<Vec<ListOf<Entry>>, AllocError>
+        requires closed { (charter : CharterState) × closes charter closed.now × (devices ≡ length charter.rows) }
+        ensures ok { IfOk result (λ journals. journals.items ≡ map (journal closed.now) (range_with_len 1 devices)) }
+        ensures lawful { OnOk result ((charter : CharterState) (d : ℕ) → closes charter closed.now → IsDevice (length charter.rows) d → IsLawful (follows_alone charter d) (journal closed.now d)) };
 }

@@ -3,14 +3,14 @@ ghost use Rattle.std.specs.Prelude.{◌≡◌, length};
 ghost use Rattle.std.specs.Arc.{arc_value};
 ghost use Rattle.store_shared.specs.FrontRow.{AreSeatsOf, SpeaksOnAll};
 ghost use Rattle.store_shared.specs.StoreBases.{store_basis};
-ghost use Rattle.pool_rows.specs.Shared.{AreClosedRows, closed_journal, row_known};
+ghost use Rattle.pool_rows.specs.Shared.{AreClosedRows, RowComes, closed_journal, row_known};
 
 use crate::journals::committed_entries;
 use crate::rows::SharedRows;
 use device_types::{DeviceId, Effect, Entry, Lane, ListOf, NoRoom};
 use effect_outbox::Settled;
 use session_row::Commit;
-use session_store::{Asked, Charter, EchoLaw, Peeked, Seen, shard_of};
+use session_store::{Asked, Charter, EchoLaw, Peeked, Seen};
 use std::alloc::{AllocError, Global};
 use std::sync::Wait;
 use store_shared::{SharedStore, StoreSeat, StoreShard};
@@ -27,6 +27,8 @@ impl SharedRows for SharedStore<EchoLaw> {
     ghost is_seat = { λ store seat. AreSeatsOf store_basis store.fronts.fronts.items seat.seats.items × (store.devices ≡ length (arc_value store.law.charter).rows) };
 
     ghost known = { λ seat d. row_known seat.seats.items d };
+
+    ghost comes = { λ seat d row. RowComes seat.seats.items d row };
 
     ghost speaks = { λ seat n. SpeaksOnAll n seat.seats.items };
 
@@ -113,12 +115,11 @@ impl SharedRows for SharedStore<EchoLaw> {
         }
     }
 
-    fn entries(
+    fn journals(
         alloc: Global,
         closed: &Vec<StoreShard<EchoLaw>>,
-        d: DeviceId,
-    ) -> Result<ListOf<Entry>, AllocError> {
-        let turns = closed[shard_of(d) as usize].turns();
-        committed_entries(alloc, turns, d)
+        devices: u32,
+    ) -> Result<Vec<ListOf<Entry>>, AllocError> {
+        committed_entries(alloc, closed, devices)
     }
 }

@@ -1,15 +1,34 @@
-use Rattle.std.proofs.Common.{ℕ, ◌∙◌, ap, length, subst, sym}
-use Rattle.session_store.specs.Charter.{CharterState}
+use Rattle.std.proofs.Common.{◌≡◌, ◌∙◌, ℕ, rules, subst}
 use Rattle.session_store.specs.Rows.{IsDevice}
-use Rattle.pool_ends.proofs.Closing.{lane_closed, whole_closed}
+use Rattle.pool_ends.proofs.Closing.{finals_closed, journal_closed, journals_closed, lane_under}
 use Rattle.pool_ends.proofs.close.close_all.Goals as goal
 
-pub bring_lanes-requires-clause-whole : goal.bring_lanes-requires-clause-whole
-bring_lanes-requires-clause-whole g c = λ d is.
-    whole_closed (g.P.SharedCalls.charter c.args.peers) (g.T.SharedRows.charter c.args.rows) d (g.T.SharedRows.known c.args.row_seat d).journal (g.T.SharedRows.journal c.in_ok-store.store d) c.requires.charter (c.requires.whole d is) (c.in_ok-store.ensures.seen d)
+pub journals-requires : goal.journals-requires
+journals-requires g c = record { closed = (g.T.SharedRows.charter c.args.rows, c.in_ok-store.ensures.closed, c.requires.devices) }
+
+pub close_peers-requires-clause-journals : goal.close_peers-requires-clause-journals
+close_peers-requires-clause-journals g c =
+    let charter = g.T.SharedRows.charter c.args.rows in
+    let same : c.deref-2.result.now ≡ c.in_ok-journals.journals.items = search rules in
+    same ∙ journals_closed (g.P.SharedCalls.charter c.args.peers) charter c.args.devices (g.T.SharedRows.journal c.in_ok-store.store) c.in_ok-journals.journals.items c.requires.charter c.in_ok-journals.ensures.ok
+    (λ d is. journal_closed charter d (g.T.SharedRows.known c.args.row_seat d).journal (g.T.SharedRows.journal c.in_ok-store.store d) (c.requires.whole d is) (c.in_ok-store.ensures.seen d)
+    (c.in_ok-journals.ensures.lawful charter d c.in_ok-store.ensures.closed (subst (λ (n : ℕ). IsDevice n d) c.requires.devices is)))
+
+pub returns-clause-journals : goal.returns-clause-journals
+returns-clause-journals g c = λ d is.
+    let charter = g.T.SharedRows.charter c.args.rows in
+    journal_closed charter d (g.T.SharedRows.known c.args.row_seat d).journal (g.T.SharedRows.journal c.in_ok-store.store d) (c.requires.whole d is) (c.in_ok-store.ensures.seen d)
+    (c.in_ok-journals.ensures.lawful charter d c.in_ok-store.ensures.closed (subst (λ (n : ℕ). IsDevice n d) c.requires.devices is))
+
+pub returns-clause-finals : goal.returns-clause-finals
+returns-clause-finals g c =
+    let charter = g.T.SharedRows.charter c.args.rows in
+    let same : c.deref.result.now ≡ c.in_ok-journals.journals.items = search rules in
+    finals_closed charter c.args.devices (g.T.SharedRows.journal c.in_ok-store.store) c.in_ok-journals.journals.items c.deref.result.now c.in_ok-finals.finals same c.requires.devices c.requires.lines c.in_ok-journals.ensures.ok
+    (λ d is. journal_closed charter d (g.T.SharedRows.known c.args.row_seat d).journal (g.T.SharedRows.journal c.in_ok-store.store d) (c.requires.whole d is) (c.in_ok-store.ensures.seen d)
+    (c.in_ok-journals.ensures.lawful charter d c.in_ok-store.ensures.closed (subst (λ (n : ℕ). IsDevice n d) c.requires.devices is)))
+    (c.in_ok-finals.ensures.whole charter)
 
 pub returns-clause-lanes : goal.returns-clause-lanes
 returns-clause-lanes g c = λ d lane is call.
-    let here = subst (λ (n : ℕ). IsDevice n d) (c.requires.devices ∙ ap (λ (b : CharterState). length b.rows) (sym c.requires.charter)) is in
-    lane_closed (g.P.SharedCalls.charter c.args.peers) (g.T.SharedRows.charter c.args.rows) d lane (g.P.SharedCalls.known c.bring_lanes.new.seat d lane) (g.P.SharedCalls.accepted c.in_ok-peers.peers d lane) c.requires.charter
-    (c.in_ok-bring_lanes.ensures.whole d lane is call) (c.in_ok-peers.ensures.seen d lane) (c.in_ok-peers.ensures.lawful d lane here)
+    lane_under (g.P.SharedCalls.charter c.args.peers) (g.T.SharedRows.charter c.args.rows) d lane (g.P.SharedCalls.accepted c.in_ok-peers.peers d lane) c.requires.charter (c.in_ok-peers.ensures.lanes d lane is call)

@@ -1,7 +1,6 @@
-use Rattle.std.proofs.Common.{◌≡◌, map}
-use Rattle.std.specs.List.{range_with_len}
+use Rattle.std.proofs.Common.{◌≡◌, ◌++◌, drop, map}
 use Rattle.pool_ends.specs.Ends.{end_in}
 use Rattle.pool_ends.proofs.ends.finals.Given as goal
 
-abbrev pub invariant-loop-index : goal.invariant-loop-index
-invariant-loop-index g l = l.finals ≡ map (λ d. end_in (g.T.SharedRows.journal l.closed d)) (range_with_len 1 l.index)
+abbrev pub invariant-loop-journal : goal.invariant-loop-journal
+invariant-loop-journal l = l.finals ++ map end_in (drop l.journal-index l.journals) ≡ map end_in l.journals

@@ -1,35 +1,10 @@
-use Rattle.std.proofs.Common.{◌≡◌, ◌∙◌, rules}
 use Rattle.device_types.specs.declared.event.Lane.{Lane}
 use Rattle.device_types.specs.declared.event.Lane.TheVariants as lane
 use Rattle.store_shared.proofs.Items.{if_ok}
 use Rattle.pool_ends.specs.Lanes.{HasWhole}
 use Rattle.pool_rows.specs.Laws.{calls_twice}
 use Rattle.pool_ends.proofs.Calls.{both, whole_more}
-use Rattle.pool_ends.proofs.Wholes.{journal_is_whole}
 use Rattle.pool_ends.proofs.lanes.bring_device.Goals as goal
-
-pub bring_lane-requires-clause-journal : goal.bring_lane-requires-clause-journal
-bring_lane-requires-clause-journal g c =
-    let charter = g.P.SharedCalls.charter c.args.peers.now in
-    let journal = g.T.SharedRows.journal c.args.closed.now c.args.d.0 in
-    let whole = journal_is_whole charter c.args.d.0 journal (c.entries.ensures.lawful charter c.requires.closed c.requires.device) c.requires.whole in
-    let made : c.items.result.now ≡ journal = search rules in
-    made ∙ whole
-
-pub bring_lane-requires-2-clause-journal : goal.bring_lane-requires-2-clause-journal
-bring_lane-requires-2-clause-journal g c =
-    let charter = g.P.SharedCalls.charter c.args.peers.now in
-    let journal = g.T.SharedRows.journal c.args.closed.now c.args.d.0 in
-    let whole = journal_is_whole charter c.args.d.0 journal (c.entries.ensures.lawful charter c.requires.closed c.requires.device) c.requires.whole in
-    let made : c.items-2.result.now ≡ journal = search rules in
-    made ∙ whole
-
-pub returns-clause-journal : goal.returns-clause-journal
-returns-clause-journal g c =
-    let charter = g.P.SharedCalls.charter c.args.peers.now in
-    let journal = g.T.SharedRows.journal c.args.closed.now c.args.d.0 in
-    let whole = journal_is_whole charter c.args.d.0 journal (c.entries.ensures.lawful charter c.requires.closed c.requires.device) c.requires.whole in
-    if_ok _ _ c.bring_lane-2.result (λ u last. whole) c.bring_lane-2.ensures.whole
 
 pub returns-clause-seat : goal.returns-clause-seat
 returns-clause-seat g c = calls_twice _ _ _ _ _ _ c.in_ok-bring_lane.ensures.seat c.bring_lane-2.ensures.seat

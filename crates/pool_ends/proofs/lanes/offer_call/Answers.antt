@@ -8,7 +8,7 @@ pub returns-clause-count : goal.returns-clause-count
 returns-clause-count g c =
     let charter = g.P.SharedCalls.charter c.args.peers.now in
     let known = g.P.SharedCalls.known c.offer.new.seat c.args.d.0 (lane_of c.args.call) in
-    subst (λ (n : ℕ). n ≤ length known) {x = told_count c.args.k c.in_ok-offer.offer} (sym c.told_count.ensures) (told charter c.args.d.0 c.args.k c.args.call known c.in_ok-offer.offer c.in_ok-offer.ensures.ok)
+    subst (λ (n : ℕ). n ≤ length known) {x = told_count c.args.k c.in_ok-offer.offer} (sym {b = told_count c.args.k c.in_ok-offer.offer} c.told_count.ensures) (told charter c.args.d.0 c.args.k c.args.call known c.in_ok-offer.offer c.in_ok-offer.ensures.ok)
 
 pub returns-clause-next : goal.returns-clause-next
 returns-clause-next g c =

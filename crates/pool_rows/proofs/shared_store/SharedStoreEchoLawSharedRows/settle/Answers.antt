@@ -1,6 +1,8 @@
+use Rattle.std.proofs.Common.{ℕ, refl, subst, sym}
+use Rattle.session_store.specs.Rows.{IsDevice}
 use Rattle.session_store.specs.Shards.{shard_of}
 use Rattle.store_shared.proofs.Items.{if_ok}
-use Rattle.pool_rows.proofs.Known.{known_more, settle_tells}
+use Rattle.pool_rows.proofs.Known.{known_more, lawful_now, settle_tells}
 use Rattle.pool_rows.proofs.Seats.{called_moves, goes_on}
 use Rattle.pool_rows.proofs.shared_store.SharedStoreEchoLawSharedRows.settle.Goals as goal
 
@@ -9,5 +11,8 @@ returns-clause-seat g c =
     let at = shard_of c.args.d.0 in
     goes_on _ _ _ _ c.args.seat.now c.settle.new.seat at _ c.settle.result (known_more c.args.seat.now.seats.items c.settle.new.seat.seats.items at) (λ a called. called_moves c.settle.ensures.others called) c.settle.ensures.others (c.settle.ensures.seat, c.requires.seat.1) c.settle.ensures.ok c.settle.ensures.err
 
+pub returns-clause-lawful : goal.returns-clause-lawful
+returns-clause-lawful g c = if_ok _ _ c.settle.result (λ a called. lawful_now called (subst (λ (n : ℕ). IsDevice n c.args.d.0) (sym c.requires.seat.1) c.requires.device)) c.settle.ensures.ok
+
 pub returns-clause-ok : goal.returns-clause-ok
-returns-clause-ok g c = if_ok _ _ c.settle.result (λ a called. settle_tells c.args.lane c.args.k a called) c.settle.ensures.ok
+returns-clause-ok g c = if_ok _ _ c.settle.result (λ a called. settle_tells (λ x. refl) c.args.lane c.args.k a called) c.settle.ensures.ok
