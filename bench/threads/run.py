@@ -89,7 +89,7 @@ def cases(options):
 def time(options):
     bench = long_cases()
     print("%d devices, %d lines, best of %d, load %.1f on %d processors" % (options.d, options.l, options.r, os.getloadavg()[0], os.cpu_count()))
-    print("%-16s %8s %8s %10s" % ("command", "ms", "of plain", "KiB"))
+    print("%-16s %8s %8s %10s %14s" % ("command", "ms", "of plain", "KiB", "us a line more"))
     with tempfile.NamedTemporaryFile() as text:
         bench.write_case(text.name, lambda: bench.case(options.l, options.d, bench.life))
         ways = [("plain", options.cli, ["plain"])]
@@ -100,7 +100,8 @@ def time(options):
                 best[name] = min(best.get(name, (1e9,)), bench.run(program, words, text.name))
         assert len({figures[2] for figures in best.values()}) == 1, "not the same number of octets"
         for name, (seconds, memory, _) in best.items():
-            print("%-16s %8.0f %8.2f %10d" % (name, seconds * 1000, seconds / best["plain"][0], memory))
+            more = seconds - best["plain"][0]
+            print("%-16s %8.0f %8.2f %10d %14.2f" % (name, seconds * 1000, seconds / best["plain"][0], memory, more / options.l * 1e6))
     return False
 
 

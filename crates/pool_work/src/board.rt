@@ -84,6 +84,26 @@ impl Bell {
     }
 }
 
+/// How many effects of each lane of a device there are.
+#[derive(Clone, Copy)]
+pub struct Made {
+    /// What goes down to the device.
+    pub down: u64,
+    /// Calls of the gateway.
+    pub gateway: u64,
+    /// Calls of the subscriber server.
+    pub subscriber: u64,
+}
+
+impl Made {
+    /// None.
+    pub const NONE: Made = Made {
+        down: 0,
+        gateway: 0,
+        subscriber: 0,
+    };
+}
+
 /// What a write tells of its device.
 #[derive(Clone, Copy)]
 pub(crate) struct News {
@@ -93,8 +113,8 @@ pub(crate) struct News {
     pub(crate) version: u64,
     /// No answer is awaited.
     pub(crate) rests: bool,
-    /// There are effects to be brought.
-    pub(crate) has_effects: bool,
+    /// The effects of the step.
+    pub(crate) made: Made,
 }
 
 /// What is told of a device.
@@ -106,6 +126,40 @@ struct Told {
     status: AtomicU64,
     /// How many of its messages came out of the channel and were dealt with.
     done: AtomicU64,
+    /// How many effects of each lane were made: what goes down, and calls of the gateway and of the subscriber server.
+    down: AtomicU64,
+    gateway: AtomicU64,
+    subscriber: AtomicU64,
+}
+
+impl Told {
+    /// Nothing was told.
+    fn nothing() -> Told {
+        Told {
+            taken: AtomicU64::new(0),
+            status: AtomicU64::new(1),
+            done: AtomicU64::new(0),
+            down: AtomicU64::new(0),
+            gateway: AtomicU64::new(0),
+            subscriber: AtomicU64::new(0),
+        }
+    }
+
+    /// So many effects more were made.
+    fn add(&self, made: Made) {
+        self.down.fetch_add(made.down, Ordering::SeqCst);
+        self.gateway.fetch_add(made.gateway, Ordering::SeqCst);
+        self.subscriber.fetch_add(made.subscriber, Ordering::SeqCst);
+    }
+
+    /// How many effects were made.
+    fn made(&self) -> Made {
+        Made {
+            down: self.down.load(Ordering::SeqCst),
+            gateway: self.gateway.load(Ordering::SeqCst),
+            subscriber: self.subscriber.load(Ordering::SeqCst),
+        }
+    }
 }
 
 /// What the threads tell one another.
@@ -124,11 +178,7 @@ impl Board {
     pub fn new(alloc: Global, devices: usize) -> Result<Board, AllocError> {
         let mut told = Vec::new(alloc);
         for _ in 0..devices {
-            let Ok(()) = told.push(Told {
-                taken: AtomicU64::new(0),
-                status: AtomicU64::new(1),
-                done: AtomicU64::new(0),
-            }) else {
+            let Ok(()) = told.push(Told::nothing()) else {
                 return Err(AllocError);
             };
         }
@@ -176,7 +226,8 @@ impl Board {
         self.mover.wait(rt, &self.over);
     }
 
-    /// Tells of a write. Of two the later one in the journal counts.
+    /// Tells of a write. Of two the later one in the journal counts. The effects are told last: so whoever sees them told, and then
+    /// that no answer is awaited, knows that each of them was answered.
     pub(crate) fn tell(&self, d: DeviceId, news: News) {
         if let Some(told) = self.told(d) {
             if let Some(number) = news.taken {
@@ -185,20 +236,33 @@ impl Board {
             let rests = if news.rests { 1 } else { 0 };
             let status = news.version.saturating_mul(2).saturating_add(rests);
             told.status.fetch_max(status, Ordering::SeqCst);
-        }
-        if news.has_effects {
-            self.mover.mark(d);
+            told.add(news.made);
         }
     }
 
-    /// An input of the device was dealt with.
-    pub(crate) fn finish(&self, d: DeviceId, is_message: bool) {
-        if is_message {
-            if let Some(told) = self.told(d) {
-                told.done.fetch_add(1, Ordering::SeqCst);
-            }
+    /// A message of the device that came out of the channel was dealt with, and what came behind it.
+    pub(crate) fn finish(&self, d: DeviceId) {
+        if let Some(told) = self.told(d) {
+            told.done.fetch_add(1, Ordering::SeqCst);
         }
+        self.mover.mark(d);
         self.entry.mark(d);
+    }
+
+    /// How many messages of the device were taken.
+    pub(crate) fn taken(&self, d: DeviceId) -> u64 {
+        match self.told(d) {
+            Some(told) => told.taken.load(Ordering::SeqCst),
+            None => 0,
+        }
+    }
+
+    /// How many effects of the device were made.
+    pub fn made(&self, d: DeviceId) -> Made {
+        match self.told(d) {
+            Some(told) => told.made(),
+            None => Made::NONE,
+        }
     }
 
     /// How many messages of the device were dealt with.
@@ -209,7 +273,7 @@ impl Board {
         }
     }
 
-    /// How many messages of all devices were dealt with, those that were sent again among them.
+    /// How many messages of all devices came out of the channel and were dealt with, those that were sent again among them.
     pub fn dealt(&self) -> u64 {
         let mut dealt = 0u64;
         for told in &self.told {

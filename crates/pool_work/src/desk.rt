@@ -6,8 +6,8 @@ ghost use Rattle.pool_work.specs.Stores.{AreSeats, BothTakeOver};
 
 use crate::board::Board;
 use crate::gate::OpenGate;
+use crate::runner::Runner;
 use crate::seat_store::SeatStore;
-use crate::settle::Settler;
 use crate::worker::Worker;
 use pool_rows::{SharedCalls, SharedRows};
 use replica_worker::Replica;
@@ -78,7 +78,7 @@ impl<'a, T: SharedRows, P: SharedCalls, R: Wait, G> Desk<'a, T, P, R, G> {
         let Seats { rows, mut peers } = mine;
         let mut replica = Replica::new(alloc)?;
         let gate = OpenGate;
-        let settler = Settler {
+        let runner = Runner {
             rt: self.rt,
             peers: self.peers,
             worker: Worker {
@@ -89,7 +89,7 @@ impl<'a, T: SharedRows, P: SharedCalls, R: Wait, G> Desk<'a, T, P, R, G> {
             },
         };
         let mut store = SeatStore::new(self.rt, self.rows, rows);
-        settler.settle_all(&mut replica, &mut store, &mut peers, devices)?;
+        runner.settle_all(&mut replica, &mut store, &mut peers, devices)?;
         Ok(Seats {
             rows: store.into_seat(),
             peers,

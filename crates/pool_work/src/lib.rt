@@ -8,11 +8,13 @@ mod desk;
 mod gate;
 mod line;
 mod lines;
+mod runner;
 mod seat_store;
 mod settle;
+mod work;
 mod worker;
 
-pub use board::{Bell, Board};
+pub use board::{Bell, Board, Made};
 pub use bring::{carry_downs, deliver};
 pub use desk::{Desk, Seats};
 pub use gate::{Gate, OpenGate, Point};

@@ -12,16 +12,13 @@ use session_store::Charter;
 use std::alloc::{AllocError, Global};
 use std::sync::Wait;
 
-/// How many messages of a device may be under way where each worker has a device of its own.
-const WINDOW: u64 = 4;
-
 /// What the entry knows of a device.
 #[derive(Clone, Copy)]
 struct Agent {
     /// How many messages were sent, again or not.
     out: u64,
-    /// How many messages were acknowledged when one under way was sent again, and one more; 0 before that.
-    again: u64,
+    /// The one under way was sent again.
+    again: bool,
     /// All its messages are acknowledged.
     over: bool,
 }
@@ -45,7 +42,7 @@ fn new_agents(alloc: Global, devices: usize) -> Result<Vec<Agent>, AllocError> {
     for _ in 0..devices {
         let Ok(()) = agents.push(Agent {
             out: 0,
-            again: 0,
+            again: false,
             over: false,
         }) else {
             return Err(AllocError);
@@ -55,43 +52,39 @@ fn new_agents(alloc: Global, devices: usize) -> Result<Vec<Agent>, AllocError> {
 }
 
 impl<'a, R: Wait> EntryThread<'a, R> {
-    /// Sends the messages of a device from that place on, at most so many. None where no one is left to take one, or there is no
-    /// memory.
-    fn send_from<C: Named>(
+    /// Sends the message of a device behind so many, if there is one. None where no one is left to take it, or there is no memory.
+    fn send_behind<C: Named>(
         &self,
         line: &Line<C>,
         place: &mut Place,
+        agent: &mut Agent,
         d: DeviceId,
-        from: u64,
-        window: u64,
-    ) -> Option<u64>
+        acked: u64,
+    ) -> Option<()>
         requires charter { self.now.charter.now ≡ C.charter }
         requires device { IsDevice (length self.now.charter.now.rows) d.0 }
         requires place { IsSeatAt (sends_on line.now) place.old }
         ensures place { IsSeatAt (sends_on line.now) place.new }
     {
-        let mut sent = 0u64;
-        for at in from..from.saturating_add(window) {
-            let Some(packet) = message_at(self.charter, d, at).ok()? else {
-                break;
-            };
-            if !send::<C, R>(self.rt, line, place, packet) {
-                return None;
-            }
-            sent = sent.saturating_add(1);
+        let Some(packet) = message_at(self.charter, d, acked).ok()? else {
+            return Some(());
+        };
+        if !send::<C, R>(self.rt, line, place, packet) {
+            return None;
         }
-        Some(sent)
+        agent.out = agent.out.saturating_add(1);
+        Some(())
     }
 
-    /// Sends what may be sent of a device, once all that was sent has come out of the channel. Some(true) when its last message
-    /// is acknowledged; None where no one is left to take a packet, or there is no memory.
+    /// Sends the first message of a device that is not acknowledged, once all that was sent has come out of the channel: a worker goes
+    /// on with those behind it. Some(true) when its last message is acknowledged; None where no one is left to take a packet, or
+    /// there is no memory.
     fn serve<C: Named>(
         &self,
         line: &Line<C>,
         place: &mut Place,
         agent: &mut Agent,
         d: DeviceId,
-        window: u64,
     ) -> Option<bool>
         requires charter { self.now.charter.now ≡ C.charter }
         requires device { IsDevice (length self.now.charter.now.rows) d.0 }
@@ -108,8 +101,8 @@ impl<'a, R: Wait> EntryThread<'a, R> {
             return Some(is_news);
         }
         if done == agent.out {
-            let sent = self.send_from::<C>(line, place, d, acked, window)?;
-            agent.out = agent.out.saturating_add(sent);
+            self.send_behind::<C>(line, place, agent, d, acked)?;
+            agent.again = false;
         }
         Some(false)
     }
@@ -122,7 +115,6 @@ impl<'a, R: Wait> EntryThread<'a, R> {
         agents: &mut Vec<Agent>,
         word: usize,
         marks: u64,
-        window: u64,
     ) -> Option<usize>
         requires charter { self.now.charter.now ≡ C.charter }
         requires place { IsSeatAt (sends_on line.now) place.old }
@@ -136,15 +128,15 @@ impl<'a, R: Wait> EntryThread<'a, R> {
             let Some(agent) = agents.get_mut(d.0 as usize - 1) else {
                 continue;
             };
-            if self.serve::<C>(line, place, agent, d, window)? {
+            if self.serve::<C>(line, place, agent, d)? {
                 over = over.saturating_add(1);
             }
         }
         Some(over)
     }
 
-    /// Sends a device's first message that is not acknowledged once more, where it is still under way: a worker may be held up
-    /// with it.
+    /// Sends a device's first message that is not acknowledged once more, where one is still under way: a worker may be held up with
+    /// it.
     fn send_again<C: Named>(
         &self,
         line: &Line<C>,
@@ -161,13 +153,11 @@ impl<'a, R: Wait> EntryThread<'a, R> {
         let Some(acked) = self.board.rests_at(d) else {
             return Some(());
         };
-        if agent.over || agent.again > acked || done >= agent.out {
+        if agent.over || agent.again || done >= agent.out {
             return Some(());
         }
-        let sent = self.send_from::<C>(line, place, d, acked, 1)?;
-        agent.out = agent.out.saturating_add(sent);
-        agent.again = acked.saturating_add(1);
-        Some(())
+        agent.again = true;
+        self.send_behind::<C>(line, place, agent, d, acked)
     }
 
     /// Sends so of each device, where there is another worker to take it, and no more devices than workers are left.
@@ -197,15 +187,6 @@ impl<'a, R: Wait> EntryThread<'a, R> {
         Some(())
     }
 
-    /// How many messages of a device may be under way while so many devices are left.
-    fn window(&self, left: usize) -> u64 {
-        if left <= self.workers as usize {
-            WINDOW
-        } else {
-            1
-        }
-    }
-
     /// Rounds until all messages are acknowledged, the threads are to end, or no one is left to take a packet.
     fn rounds<C: Named>(
         &self,
@@ -227,8 +208,7 @@ impl<'a, R: Wait> EntryThread<'a, R> {
                 let marks = self.board.entry.take(word);
                 if marks != 0 {
                     any = true;
-                    let window = self.window(left);
-                    let over = self.serve_word::<C>(line, place, agents, word, marks, window)?;
+                    let over = self.serve_word::<C>(line, place, agents, word, marks)?;
                     left = left.saturating_sub(over);
                 }
             }

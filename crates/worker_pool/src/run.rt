@@ -1,5 +1,5 @@
 //! The run.
-ghost use Rattle.std.specs.Prelude.{◌≡◌, ◌≤◌, ◌<◌, ℕ, [], ◌∷◌, ◌++◌, Some, length, slice_get, All, IfNone, IfOk, IfSome};
+ghost use Rattle.std.specs.Prelude.{◌≡◌, ◌≤◌, ◌<◌, ℕ, Some, length, slice_get, All, IfOk};
 ghost use Rattle.crossbeam_channel.specs.Claims.{IsSeatAt};
 ghost use Rattle.crossbeam_channel.specs.Ends.{receives_on, sends_on};
 ghost use Rattle.device_machine.specs.Ends.{finals_of};
@@ -13,7 +13,7 @@ ghost use Rattle.session_store.specs.Charter.{IsShort, alone_in};
 ghost use Rattle.session_store.specs.Rows.{IsDevice};
 ghost use Rattle.worker_pool.specs.Runs.{charter_of};
 
-use crate::start::{take_seat, with_workers};
+use crate::start::{take_seats, with_workers};
 use crossbeam_channel::bounded_with;
 use device_types::{Book, Finals};
 use pool_ends::{Ended, close_all};
@@ -29,43 +29,7 @@ use store_shared::{PeerShard, SharedPeers, SharedStore, StoreShard};
 use subs_table::SubsTable;
 
 /// How many packets the channel holds.
-const ROOM: usize = 256;
-
-/// Takes the last seat of the peers out.
-fn take_call_seat<P: SharedCalls>(peers: &P, seats: &mut Vec<P::Seat>) -> Option<P::Seat>
-    requires { All (P.is_seat peers.now) seats.old.items }
-    ensures rest { All (P.is_seat peers.now) seats.new.items }
-    ensures some { IfSome result (λ seat. P.is_seat peers.now seat × (seats.old.items ≡ seats.new.items ++ seat ∷ [])) }
-    ensures none { IfNone result (seats.old.items ≡ []) }
-{
-    let _ = peers;
-    seats.pop()
-}
-
-/// Takes the last seat of the rows and the last of the peers out.
-fn take_seats<T: SharedRows, P: SharedCalls, R, G>(
-    desk: &Desk<'_, T, P, R, G>,
-    row_seats: &mut Vec<T::Seat>,
-    peer_seats: &mut Vec<P::Seat>,
-) -> Seats<T, P>
-    requires row_seats { All (T.is_seat desk.now.rows.now) row_seats.old.items }
-    requires peer_seats { All (P.is_seat desk.now.peers.now) peer_seats.old.items }
-    requires row_count { 0 < length row_seats.old.items }
-    requires peer_count { 0 < length peer_seats.old.items }
-    ensures row_seats { All (T.is_seat desk.now.rows.now) row_seats.new.items }
-    ensures peer_seats { All (P.is_seat desk.now.peers.now) peer_seats.new.items }
-    ensures seats { AreSeats (T.is_seat desk.now.rows.now) (P.is_seat desk.now.peers.now) result.rows result.peers }
-    ensures rows { row_seats.old.items ≡ row_seats.new.items ++ result.rows ∷ [] }
-    ensures peers { peer_seats.old.items ≡ peer_seats.new.items ++ result.peers ∷ [] }
-{
-    let Some(rows) = take_seat(desk.rows, row_seats) else {
-        unreachable!()
-    };
-    let Some(peers) = take_call_seat(desk.peers, peer_seats) else {
-        unreachable!()
-    };
-    Seats { rows, peers }
-}
+const ROOM: usize = 1024;
 
 /// The threads, from their start to their end.
 fn threads<
@@ -79,6 +43,7 @@ fn threads<
     alloc: Global,
     workers: u32,
     row_seats: Vec<T::Seat>,
+    peer_seats: Vec<P::Seat>,
     mine: Seats<T, P>,
     seats: Seats<T, P>,
 ) -> Result<Seats<T, P>, AllocError>
@@ -87,11 +52,14 @@ where
     P::Seat: Send + Drop,
     requires under { AreUnder C.charter desk.now.charter.now (T.charter desk.now.rows.now) (P.charter desk.now.peers.now) }
     requires row_seats { All (T.is_seat desk.now.rows.now) row_seats.items }
+    requires peer_seats { All (P.is_seat desk.now.peers.now) peer_seats.items }
+    requires pairs { length row_seats.items ≡ length peer_seats.items }
     requires mine { AreSeats (T.is_seat desk.now.rows.now) (P.is_seat desk.now.peers.now) mine.rows mine.peers }
     requires seats { AreSeats (T.is_seat desk.now.rows.now) (P.is_seat desk.now.peers.now) seats.rows seats.peers }
     ensures keeps { IfOk result (λ ran. BothTakeOver (T.is_seat desk.now.rows.now) T.speaks (P.is_seat desk.now.peers.now) P.speaks mine.rows ran.rows mine.peers ran.peers) }
     ensures gains { IfOk result (λ ran. BothTakeOver (T.is_seat desk.now.rows.now) T.speaks (P.is_seat desk.now.peers.now) P.speaks seats.rows ran.rows seats.peers ran.peers) }
-    ensures gains_each { IfOk result (λ ran. (n : ℕ) → All (λ seat. T.speaks seat n → T.speaks ran.rows n) row_seats.items) }
+    ensures gains_rows { IfOk result (λ ran. (n : ℕ) → All (λ seat. T.speaks seat n → T.speaks ran.rows n) row_seats.items) }
+    ensures gains_peers { IfOk result (λ ran. (n : ℕ) → All (λ seat. P.speaks seat n → P.speaks ran.peers n) peer_seats.items) }
 {
     let (line, ends, place) = bounded_with::<Packet, (), OwnPackets<C>, Global>(alloc, ROOM)?;
     Ok(thread::scope(
@@ -100,16 +68,19 @@ where
         move |scope| -> Seats<T, P>
             requires under { AreUnder C.charter desk.now.charter.now (T.charter desk.now.rows.now) (P.charter desk.now.peers.now) }
             requires row_seats { All (T.is_seat desk.now.rows.now) row_seats.items }
+            requires peer_seats { All (P.is_seat desk.now.peers.now) peer_seats.items }
+            requires pairs { length row_seats.items ≡ length peer_seats.items }
             requires mine { AreSeats (T.is_seat desk.now.rows.now) (P.is_seat desk.now.peers.now) mine.rows mine.peers }
             requires seats { AreSeats (T.is_seat desk.now.rows.now) (P.is_seat desk.now.peers.now) seats.rows seats.peers }
             requires ends { receives_on ends ≡ sends_on line }
             requires place { IsSeatAt (sends_on line) place }
             ensures keeps { BothTakeOver (T.is_seat desk.entry.now.rows.now) T.speaks (P.is_seat desk.entry.now.peers.now) P.speaks mine.rows result.rows mine.peers result.peers }
             ensures gains { BothTakeOver (T.is_seat desk.entry.now.rows.now) T.speaks (P.is_seat desk.entry.now.peers.now) P.speaks seats.rows result.rows seats.peers result.peers }
-            ensures gains_each { (n : ℕ) → All (λ seat. T.speaks seat n → T.speaks result.rows n) row_seats.items }
+            ensures gains_rows { (n : ℕ) → All (λ seat. T.speaks seat n → T.speaks result.rows n) row_seats.items }
+            ensures gains_peers { (n : ℕ) → All (λ seat. P.speaks seat n → P.speaks result.peers n) peer_seats.items }
         {
             with_workers::<_, C, T, P, R, G>(
-                scope, desk, alloc, workers, row_seats, mine, seats, line, place, ends,
+                scope, desk, alloc, workers, row_seats, peer_seats, mine, seats, line, place, ends,
             )
         },
     ))
@@ -139,7 +110,7 @@ where
     requires row_seats { All (T.is_seat desk.now.rows.now) row_seats.items }
     requires peer_seats { All (P.is_seat desk.now.peers.now) peer_seats.items }
     requires row_count { 2 ≤ length row_seats.items }
-    requires peer_count { length peer_seats.items ≡ 2 }
+    requires pairs { length row_seats.items ≡ length peer_seats.items }
     requires row_speaks { (n : ℕ) (seat : T.Seat) → slice_get row_seats.items n ≡ Some seat → T.speaks seat n }
     requires peer_speaks { (n : ℕ) (seat : P.Seat) → slice_get peer_seats.items n ≡ Some seat → P.speaks seat n }
     ensures seats { IfOk result (λ ran. AreSeats (T.is_seat desk.now.rows.now) (P.is_seat desk.now.peers.now) ran.rows ran.peers) }
@@ -147,9 +118,15 @@ where
     ensures all_peers { IfOk result (λ ran. (n : ℕ) → n < length peer_seats.items → P.speaks ran.peers n) }
     ensures whole { IfOk result (λ ran. (d : ℕ) → IsDevice devices d → IsWhole desk.now.charter.now d (T.known ran.rows d).journal) }
 {
-    let mine = take_seats(desk, &mut row_seats, &mut peer_seats);
-    let moved = take_seats(desk, &mut row_seats, &mut peer_seats);
-    let ran = threads::<Brand, T, P, R, G>(desk, alloc, workers, row_seats, mine, moved)?;
+    let Some(mine) = take_seats(desk.rows, desk.peers, &mut row_seats, &mut peer_seats) else {
+        unreachable!()
+    };
+    let Some(moved) = take_seats(desk.rows, desk.peers, &mut row_seats, &mut peer_seats) else {
+        unreachable!()
+    };
+    let ran = threads::<Brand, T, P, R, G>(
+        desk, alloc, workers, row_seats, peer_seats, mine, moved,
+    )?;
     desk.settle(alloc, devices, ran)
 }
 
@@ -186,7 +163,7 @@ where
     let copy = law.copy()?;
     let devices = table.len();
     let (rows, row_seats) = T::open(alloc, law, devices, workers + 2)?;
-    let (peers, peer_seats) = P::open(alloc, copy, table, 2)?;
+    let (peers, peer_seats) = P::open(alloc, copy, table, workers + 2)?;
     let desk = Desk {
         rt,
         charter: rows.charter(),

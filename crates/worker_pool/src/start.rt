@@ -1,5 +1,5 @@
 //! The threads: the workers, the mover, and the entry in the thread of the caller.
-ghost use Rattle.std.specs.Prelude.{◌≡◌, ℕ, [], ◌∷◌, ◌++◌, All, IfNone, IfSome};
+ghost use Rattle.std.specs.Prelude.{◌≡◌, ℕ, [], ◌∷◌, ◌++◌, length, All, IfNone, IfSome};
 ghost use Rattle.crossbeam_channel.specs.Claims.{IsSeatAt};
 ghost use Rattle.crossbeam_channel.specs.Ends.{receives_on, sends_on};
 ghost use Rattle.pool_work.specs.Stores.{AreSeats, AreUnder, BothTakeOver};
@@ -13,20 +13,7 @@ use std::snapshot::Snapshot;
 use std::sync::Wait;
 use std::thread::{Promise, Scope, Threads};
 
-/// A worker gives back a seat of the rows that speaks for what its own spoke for.
-#[derive(Drop)]
-pub(crate) struct SeatBack<'a, T: SharedRows> {
-    rows: &'a T,
-    seat: Snapshot<T::Seat>,
-}
-
-impl<'a, T: SharedRows> Promise<T::Seat> for SeatBack<'a, T> {
-    ghost use Rattle.pool_work.specs.Stores.{TakesOver};
-
-    ghost kept_by = { λ p r. TakesOver (T.is_seat p.rows.now) T.speaks p.seat.value r };
-}
-
-/// The mover gives back both its seats.
+/// A worker, or the mover, gives back seats that speak for what its own spoke for.
 #[derive(Drop)]
 pub(crate) struct SeatsBack<'a, T: SharedRows, P: SharedCalls> {
     rows: &'a T,
@@ -41,15 +28,53 @@ impl<'a, T: SharedRows, P: SharedCalls> Promise<Seats<T, P>> for SeatsBack<'a, T
     ghost kept_by = { λ p r. BothTakeOver (T.is_seat p.rows.now) T.speaks (P.is_seat p.peers.now) P.speaks p.row_seat.value r.rows p.peer_seat.value r.peers };
 }
 
-/// Takes the last of the seats out.
-pub(crate) fn take_seat<T: SharedRows>(rows: &T, seats: &mut Vec<T::Seat>) -> Option<T::Seat>
+/// Takes the last of the seats of the rows out.
+fn take_row_seat<T: SharedRows>(rows: &T, seats: &mut Vec<T::Seat>) -> Option<T::Seat>
     requires { All (T.is_seat rows.now) seats.old.items }
     ensures rest { All (T.is_seat rows.now) seats.new.items }
     ensures some { IfSome result (λ seat. T.is_seat rows.now seat × (seats.old.items ≡ seats.new.items ++ seat ∷ [])) }
-    ensures none { IfNone result (seats.old.items ≡ []) }
+    ensures none { IfNone result ((seats.old.items ≡ []) × (seats.new.items ≡ [])) }
 {
     let _ = rows;
     seats.pop()
+}
+
+/// Takes the last of the seats of the peers out.
+fn take_call_seat<P: SharedCalls>(peers: &P, seats: &mut Vec<P::Seat>) -> Option<P::Seat>
+    requires { All (P.is_seat peers.now) seats.old.items }
+    ensures rest { All (P.is_seat peers.now) seats.new.items }
+    ensures some { IfSome result (λ seat. P.is_seat peers.now seat × (seats.old.items ≡ seats.new.items ++ seat ∷ [])) }
+    ensures none { IfNone result (seats.old.items ≡ []) }
+{
+    let _ = peers;
+    seats.pop()
+}
+
+/// Takes the last seat of the rows and the last of the peers out. None where none are left.
+pub(crate) fn take_seats<T: SharedRows, P: SharedCalls>(
+    rows: &T,
+    peers: &P,
+    row_seats: &mut Vec<T::Seat>,
+    peer_seats: &mut Vec<P::Seat>,
+) -> Option<Seats<T, P>>
+where
+    T::Seat: Drop,
+    requires row_seats { All (T.is_seat rows.now) row_seats.old.items }
+    requires peer_seats { All (P.is_seat peers.now) peer_seats.old.items }
+    requires pairs { length row_seats.old.items ≡ length peer_seats.old.items }
+    ensures row_seats { All (T.is_seat rows.now) row_seats.new.items }
+    ensures peer_seats { All (P.is_seat peers.now) peer_seats.new.items }
+    ensures pairs { length row_seats.new.items ≡ length peer_seats.new.items }
+    ensures seats { IfSome result (λ seats. AreSeats (T.is_seat rows.now) (P.is_seat peers.now) seats.rows seats.peers) }
+    ensures rows { IfSome result (λ seats. row_seats.old.items ≡ row_seats.new.items ++ seats.rows ∷ []) }
+    ensures peers { IfSome result (λ seats. peer_seats.old.items ≡ peer_seats.new.items ++ seats.peers ∷ []) }
+    ensures none { IfNone result ((row_seats.old.items ≡ []) × (peer_seats.old.items ≡ [])) }
+{
+    let rows = take_row_seat(rows, row_seats)?;
+    let Some(peers) = take_call_seat(peers, peer_seats) else {
+        unreachable!()
+    };
+    Some(Seats { rows, peers })
 }
 
 /// Starts the mover, and sends the messages in the thread of the caller. What the mover gives back is joined with the seats of
@@ -70,7 +95,7 @@ pub(crate) fn with_mover<
     mut mine: Seats<T, P>,
     seats: Seats<T, P>,
     line: Line<C>,
-    mut place: Place,
+    place: Place,
 ) -> Seats<T, P>
 where
     T::Seat: Send + Drop + 's,
@@ -82,12 +107,6 @@ where
     ensures keeps { BothTakeOver (T.is_seat desk.now.rows.now) T.speaks (P.is_seat desk.now.peers.now) P.speaks mine.rows result.rows mine.peers result.peers }
     ensures gains { BothTakeOver (T.is_seat desk.now.rows.now) T.speaks (P.is_seat desk.now.peers.now) P.speaks seats.rows result.rows seats.peers result.peers }
 {
-    let Ok(own) = line.try_clone() else {
-        desk.board.stop();
-        desk.join(&mut mine, seats);
-        return mine;
-    };
-    let own_place = another(&line, &mut place);
     let promise = SeatsBack {
         rows: desk.rows,
         peers: desk.peers,
@@ -95,7 +114,7 @@ where
         peer_seat: Snapshot::of(&seats.peers),
     };
     match scope.spawn_with(promise, move || {
-        carry_all::<C, T, P, R, G>(desk, alloc, seats, own, own_place)
+        carry_all::<T, P, R, G>(desk, alloc, seats)
     }) {
         Ok(handle) => {
             let entry = EntryThread {
@@ -133,6 +152,7 @@ pub(crate) fn with_workers<
     alloc: Global,
     workers: u32,
     mut row_seats: Vec<T::Seat>,
+    mut peer_seats: Vec<P::Seat>,
     mine: Seats<T, P>,
     seats: Seats<T, P>,
     line: Line<C>,
@@ -144,15 +164,18 @@ where
     P::Seat: Send + Drop + 's,
     requires under { AreUnder C.charter desk.now.charter.now (T.charter desk.now.rows.now) (P.charter desk.now.peers.now) }
     requires row_seats { All (T.is_seat desk.now.rows.now) row_seats.items }
+    requires peer_seats { All (P.is_seat desk.now.peers.now) peer_seats.items }
+    requires pairs { length row_seats.items ≡ length peer_seats.items }
     requires mine { AreSeats (T.is_seat desk.now.rows.now) (P.is_seat desk.now.peers.now) mine.rows mine.peers }
     requires seats { AreSeats (T.is_seat desk.now.rows.now) (P.is_seat desk.now.peers.now) seats.rows seats.peers }
     requires ends { receives_on ends ≡ sends_on line }
     requires place { IsSeatAt (sends_on line) place }
     ensures keeps { BothTakeOver (T.is_seat desk.now.rows.now) T.speaks (P.is_seat desk.now.peers.now) P.speaks mine.rows result.rows mine.peers result.peers }
     ensures gains { BothTakeOver (T.is_seat desk.now.rows.now) T.speaks (P.is_seat desk.now.peers.now) P.speaks seats.rows result.rows seats.peers result.peers }
-    ensures gains_each { (n : ℕ) → All (λ seat. T.speaks seat n → T.speaks result.rows n) row_seats.items }
+    ensures gains_rows { (n : ℕ) → All (λ seat. T.speaks seat n → T.speaks result.rows n) row_seats.items }
+    ensures gains_peers { (n : ℕ) → All (λ seat. P.speaks seat n → P.speaks result.peers n) peer_seats.items }
 {
-    let Some(seat) = take_seat(desk.rows, &mut row_seats) else {
+    let Some(own_seats) = take_seats(desk.rows, desk.peers, &mut row_seats, &mut peer_seats) else {
         drop(ends);
         return with_mover::<E, C, T, P, R, G>(
             scope, desk, alloc, workers, mine, seats, line, place,
@@ -162,34 +185,36 @@ where
     let Ok(own) = ends.try_clone() else {
         desk.board.stop();
         let mut mine = with_workers::<E, C, T, P, R, G>(
-            scope, desk, alloc, workers, row_seats, mine, seats, line, place, ends,
+            scope, desk, alloc, workers, row_seats, peer_seats, mine, seats, line, place, ends,
         );
-        desk.rows.join(&mut mine.rows, seat);
+        desk.join(&mut mine, own_seats);
         return mine;
     };
     let own_place = another(&line, &mut place);
-    let promise = SeatBack {
+    let promise = SeatsBack {
         rows: desk.rows,
-        seat: Snapshot::of(&seat),
+        peers: desk.peers,
+        row_seat: Snapshot::of(&own_seats.rows),
+        peer_seat: Snapshot::of(&own_seats.peers),
     };
     match scope.spawn_with(promise, move || {
-        desk.work::<C>(number, alloc, seat, own, own_place)
+        desk.work::<C>(number, alloc, own_seats, own, own_place)
     }) {
         Ok(handle) => {
             let mut mine = with_workers::<E, C, T, P, R, G>(
-                scope, desk, alloc, workers, row_seats, mine, seats, line, place, ends,
+                scope, desk, alloc, workers, row_seats, peer_seats, mine, seats, line, place, ends,
             );
             let back = handle.join(desk.rt);
-            desk.rows.join(&mut mine.rows, back);
+            desk.join(&mut mine, back);
             mine
         }
         Err(refused) => {
             desk.board.stop();
             let back = (refused.value)();
             let mut mine = with_workers::<E, C, T, P, R, G>(
-                scope, desk, alloc, workers, row_seats, mine, seats, line, place, ends,
+                scope, desk, alloc, workers, row_seats, peer_seats, mine, seats, line, place, ends,
             );
-            desk.rows.join(&mut mine.rows, back);
+            desk.join(&mut mine, back);
             mine
         }
     }

@@ -1,9 +1,5 @@
 use Rattle.pool_work.specs.Stores.{Kept}
 use Rattle.pool_work.proofs.bring.carry_downs.Given as goal
 
-abbrev pub invariant-loop : goal.invariant-loop
-invariant-loop g l = record {
-  can_next : (goal.iterator-loop g).can_next l.iterator';
-  is_finite : (goal.iterator-loop g).is_finite l.iterator';
-  store : Kept g.T.SharedRows.speaks g.T.SharedRows.known l.initial.store l.store;
-}
+abbrev pub invariant-loop-k : goal.invariant-loop-k
+invariant-loop-k g l = Kept g.T.SharedRows.speaks g.T.SharedRows.known l.initial.store l.store

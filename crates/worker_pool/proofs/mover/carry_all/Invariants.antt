@@ -1,6 +1,4 @@
 use Rattle.std.proofs.Common.{◌≡◌, ℕ}
-use Rattle.crossbeam_channel.specs.Claims.{IsSeatAt}
-use Rattle.crossbeam_channel.specs.Ends.{sends_on}
 use Rattle.pool_work.specs.Stores.{TakesOver}
 use Rattle.worker_pool.proofs.mover.carry_all.Given as goal
 
@@ -11,5 +9,4 @@ invariant-loop g l = record {
   same : l.store.rows ≡ l.desk.rows.now;
   row_speaks : (n : ℕ) → g.T.SharedRows.speaks l.fn.seats.rows n → g.T.SharedRows.speaks l.store.seat n;
   seat : TakesOver (g.P.SharedCalls.is_seat l.desk.peers.now) g.P.SharedCalls.speaks l.fn.seats.peers l.seat;
-  place : IsSeatAt (sends_on l.line) l.place;
 }

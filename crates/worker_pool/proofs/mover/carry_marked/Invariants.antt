@@ -1,5 +1,3 @@
-use Rattle.crossbeam_channel.specs.Claims.{IsSeatAt}
-use Rattle.crossbeam_channel.specs.Ends.{sends_on}
 use Rattle.pool_work.specs.Stores.{Kept, TakesOver}
 use Rattle.worker_pool.proofs.mover.carry_marked.Given as goal
 
@@ -7,5 +5,4 @@ abbrev pub invariant-loop-word : goal.invariant-loop-word
 invariant-loop-word g l = record {
   store : Kept g.T.SharedRows.speaks g.T.SharedRows.known l.initial.store l.store;
   seat : TakesOver (g.P.SharedCalls.is_seat l.desk.peers.now) g.P.SharedCalls.speaks l.initial.seat l.seat;
-  place : IsSeatAt (sends_on l.line) l.place;
 }

@@ -1,6 +1,6 @@
 use Rattle.replica_worker.specs.Cache.{AreSessionsOf}
 use Rattle.pool_work.specs.Stores.{Kept, TakesOver}
-use Rattle.pool_work.proofs.settle.Settler.settle.Given as goal
+use Rattle.pool_work.proofs.runner.Runner.follow.Given as goal
 
 abbrev pub invariant-loop : goal.invariant-loop
 invariant-loop g l = record {

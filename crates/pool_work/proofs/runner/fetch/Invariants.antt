@@ -1,6 +1,6 @@
 use Rattle.std.proofs.Common.{◌≤◌}
 use Rattle.pool_work.specs.Stores.{Kept, TakesOver}
-use Rattle.pool_work.proofs.settle.fetch.Given as goal
+use Rattle.pool_work.proofs.runner.fetch.Given as goal
 
 abbrev pub invariant-loop : goal.invariant-loop
 invariant-loop g l = record {

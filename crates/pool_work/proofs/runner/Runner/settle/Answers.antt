@@ -5,7 +5,7 @@ use Rattle.session_store.specs.declared.asked.Peeked.{Peeked}
 use Rattle.session_store.specs.Charter.{CharterState}
 use Rattle.pool_ends.specs.Ends.{IsWhole}
 use Rattle.pool_work.proofs.Wholes.{whole_when}
-use Rattle.pool_work.proofs.settle.Settler.settle.Goals as goal
+use Rattle.pool_work.proofs.runner.Runner.settle.Goals as goal
 
 pub returns-in_default-clause-whole : goal.returns-in_default-clause-whole
 returns-in_default-clause-whole g c =

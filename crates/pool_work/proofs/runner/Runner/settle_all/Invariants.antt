@@ -2,7 +2,7 @@ use Rattle.std.proofs.Common.{◌≤◌, ℕ}
 use Rattle.pool_ends.specs.Ends.{IsWhole}
 use Rattle.replica_worker.specs.Cache.{AreSessionsOf}
 use Rattle.pool_work.specs.Stores.{Kept, TakesOver}
-use Rattle.pool_work.proofs.settle.Settler.settle_all.Given as goal
+use Rattle.pool_work.proofs.runner.Runner.settle_all.Given as goal
 
 abbrev pub invariant-loop-i : goal.invariant-loop-i
 invariant-loop-i g l = record {
