@@ -1,6 +1,7 @@
 //! What the threads of a run share, and the seats that they give back.
 ghost use Rattle.std.specs.Prelude.{◌≡◌, ℕ, length, IfOk};
 ghost use Rattle.pool_ends.specs.Ends.{IsWhole};
+ghost use Rattle.replica_worker.specs.Cache.{AreSessionsOf};
 ghost use Rattle.session_store.specs.Rows.{IsDevice};
 ghost use Rattle.pool_work.specs.Stores.{AreSeats, BothTakeOver};
 
@@ -74,9 +75,30 @@ impl<'a, T: SharedRows, P: SharedCalls, R: Wait, G> Desk<'a, T, P, R, G> {
         ensures mine { IfOk result (λ done. BothTakeOver (T.is_seat self.now.rows.now) T.speaks (P.is_seat self.now.peers.now) P.speaks mine.rows done.rows mine.peers done.peers) }
         ensures whole { IfOk result (λ done. (d : ℕ) → IsDevice devices d → IsWhole self.now.charter.now d (T.known done.rows d).journal) }
     {
+        let mut replica = Replica::new(alloc)?;
+        self.settle_by(&mut replica, devices, mine)
+    }
+
+    /// The same by a replica.
+    fn settle_by(
+        &self,
+        replica: &mut Replica,
+        devices: u32,
+        mine: Seats<T, P>,
+    ) -> Result<Seats<T, P>, AllocError>
+    where
+        T::Seat: Drop,
+        P::Seat: Drop,
+        requires rows { T.charter self.now.rows.now ≡ self.now.charter.now }
+        requires peers { P.charter self.now.peers.now ≡ self.now.charter.now }
+        requires devices { devices ≡ length self.now.charter.now.rows }
+        requires mine { AreSeats (T.is_seat self.now.rows.now) (P.is_seat self.now.peers.now) mine.rows mine.peers }
+        requires remembers { AreSessionsOf self.now.charter.now replica.old.cache }
+        ensures mine { IfOk result (λ done. BothTakeOver (T.is_seat self.now.rows.now) T.speaks (P.is_seat self.now.peers.now) P.speaks mine.rows done.rows mine.peers done.peers) }
+        ensures whole { IfOk result (λ done. (d : ℕ) → IsDevice devices d → IsWhole self.now.charter.now d (T.known done.rows d).journal) }
+    {
         self.charter.recall();
         let Seats { rows, mut peers } = mine;
-        let mut replica = Replica::new(alloc)?;
         let gate = OpenGate;
         let runner = Runner {
             rt: self.rt,
@@ -89,7 +111,7 @@ impl<'a, T: SharedRows, P: SharedCalls, R: Wait, G> Desk<'a, T, P, R, G> {
             },
         };
         let mut store = SeatStore::new(self.rt, self.rows, rows);
-        runner.settle_all(&mut replica, &mut store, &mut peers, devices)?;
+        runner.settle_all(replica, &mut store, &mut peers, devices)?;
         Ok(Seats {
             rows: store.into_seat(),
             peers,

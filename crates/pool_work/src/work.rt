@@ -67,11 +67,29 @@ impl<'a, T: SharedRows, P: SharedCalls, R: Wait, G: Gate> Desk<'a, T, P, R, G> {
         requires place { IsSeatAt (receives_on ends) place }
         ensures { BothTakeOver (T.is_seat self.now.rows.now) T.speaks (P.is_seat self.now.peers.now) P.speaks seats.rows result.rows seats.peers result.peers }
     {
-        self.charter.recall();
         let Ok(mut replica) = Replica::new(alloc) else {
             self.board.stop();
             return seats;
         };
+        self.work_by::<C>(number, &mut replica, seats, &ends, &mut place)
+    }
+
+    /// The same by a replica.
+    fn work_by<C: Named>(
+        &self,
+        number: u32,
+        replica: &mut Replica,
+        seats: Seats<T, P>,
+        ends: &Ends<C>,
+        place: &mut Place,
+    ) -> Seats<T, P>
+        requires under { AreUnder C.charter self.now.charter.now (T.charter self.now.rows.now) (P.charter self.now.peers.now) }
+        requires seats { AreSeats (T.is_seat self.now.rows.now) (P.is_seat self.now.peers.now) seats.rows seats.peers }
+        requires place { IsSeatAt (receives_on ends.now) place.old }
+        requires remembers { AreSessionsOf C.charter replica.old.cache }
+        ensures { BothTakeOver (T.is_seat self.now.rows.now) T.speaks (P.is_seat self.now.peers.now) P.speaks seats.rows result.rows seats.peers result.peers }
+    {
+        self.charter.recall();
         let runner = Runner {
             rt: self.rt,
             peers: self.peers,
@@ -88,7 +106,7 @@ impl<'a, T: SharedRows, P: SharedCalls, R: Wait, G: Gate> Desk<'a, T, P, R, G> {
         } = seats;
         let mut store = SeatStore::new(self.rt, self.rows, rows);
         for _ in self.rt.forever() {
-            if !runner.serve::<C, T>(&ends, &mut place, &mut replica, &mut store, &mut seat) {
+            if !runner.serve::<C, T>(ends, place, replica, &mut store, &mut seat) {
                 break;
             }
         }

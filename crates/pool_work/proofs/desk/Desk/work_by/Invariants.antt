@@ -3,7 +3,7 @@ use Rattle.crossbeam_channel.specs.Claims.{IsSeatAt}
 use Rattle.crossbeam_channel.specs.Ends.{receives_on}
 use Rattle.replica_worker.specs.Cache.{AreSessionsOf}
 use Rattle.pool_work.specs.Stores.{TakesOver}
-use Rattle.pool_work.proofs.desk.Desk.work.Given as goal
+use Rattle.pool_work.proofs.desk.Desk.work_by.Given as goal
 
 abbrev pub invariant-loop : goal.invariant-loop
 invariant-loop g l = record {
