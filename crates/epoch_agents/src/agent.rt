@@ -9,7 +9,7 @@ use crate::heard::Heard;
 const WINDOW: u64 = 4;
 
 /// What the agent of a stream knows.
-#[derive(Clone, Copy, Debug)]
+#[derive(Clone, Copy)]
 pub(crate) struct Agent {
     /// The stamp of the stream's name, from 1.
     pub(crate) stamp: u64,

@@ -1,7 +1,7 @@
 //! What may happen to the streams of a device, and what it comes to.
 
 /// An event. `a` is the place of a stream, `stamp` the stamp of its name, `n` the number of one of its messages, each from 1.
-#[derive(Clone, Copy, Debug, PartialEq, Eq)]
+#[derive(Clone, Copy)]
 pub enum EpochEvent {
     /// The agent of a stream puts a message on the link, under the present name of the stream.
     Send {
@@ -27,7 +27,7 @@ pub enum EpochEvent {
 }
 
 /// What an event comes to.
-#[derive(Clone, Copy, Debug, PartialEq, Eq)]
+#[derive(Clone, Copy, Debug)]
 pub enum EpochAnswer {
     /// The message was put on the link.
     Sent,

@@ -8,7 +8,7 @@ use crate::event::{EpochAnswer, EpochEvent};
 pub(crate) type Turn = (EpochEvent, EpochAnswer);
 
 /// The answer to a message that arrived.
-#[derive(Clone, Copy, Debug)]
+#[derive(Clone, Copy)]
 pub(crate) struct Heard {
     /// The stream.
     pub(crate) a: u32,

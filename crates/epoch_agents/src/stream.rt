@@ -4,7 +4,7 @@ use agent_order::Line;
 
 /// A stream of a device: what one base station sends of it, from an INITIAL UE MESSAGE on. Its label is the station, 0 for a notice,
 /// and its place among the station's streams of the device.
-#[derive(Debug, Drop)]
+#[derive(Drop)]
 pub struct Stream {
     /// The base station.
     pub station: u16,
@@ -15,7 +15,7 @@ pub struct Stream {
 }
 
 /// A message that the row has committed.
-#[derive(Clone, Copy, Debug, PartialEq, Eq)]
+#[derive(Clone, Copy)]
 pub struct Merged {
     /// The place of its stream, from 1.
     pub a: u32,

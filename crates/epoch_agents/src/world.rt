@@ -25,7 +25,7 @@ type Packet = (u32, u64, u64);
 /// It keeps what the agents know, how many messages of each stream the row has committed, the messages that are on the link, the
 /// merge, and the events with their answers. A stream of which nothing is known has no entry in the maps. So an event is meant to take
 /// a time that is logarithmic in streams and events, but for a list that grows; no clause speaks of time.
-#[derive(Debug, Drop)]
+#[derive(Drop)]
 pub struct EpochWorld {
     streams: Vec<Stream>,
     agents: BTreeMap<u32, Agent>,
