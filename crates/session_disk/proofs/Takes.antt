@@ -62,8 +62,8 @@ module _ (follows : ℕ → List Entry → Entry → Type 0) (old new : StoreSta
 
     -- ---- of a record
 
-    module _ (entries : Entries) (r : LogRecord) (own : r.device ≡ d) (next : r.version ≡ read + 1) (newest : read ≡ length (journal_of old.rows d)) (made : entries d read ≡ Some entry) (octets : List ℕ) (form : octets ≡ form_of (session_of (journal_of new.rows d))) where
-      taken_next : (commit : Commit) → Commits (row_of old.rows d) (row_of new.rows d) read entry commit → octets ≡ r.session → Takes entries old.rows new.rows r
+    module _ (entries : Entries) (r : LogRecord) (own : r.device ≡ d) (next : r.version ≡ read + 1) (newest : read ≡ length (journal_of old.rows d)) (made : entries d read ≡ Some entry) where
+      taken_next : (commit : Commit) → Commits (row_of old.rows d) (row_of new.rows d) read entry commit → form_of (session_of (journal_of new.rows d)) ≡ r.session → Takes entries old.rows new.rows r
       taken_next (Stale asked current) ok same = absurd (ok.0 newest)
       taken_next (Committed version) ok same =
           let m = made_by version ok in (
@@ -72,20 +72,20 @@ module _ (follows : ℕ → List Entry → Entry → Type 0) (old new : StoreSta
               version = next ∙ ap (λ (n : ℕ). n + 1) (newest ∙ ap (λ (j : ℕ). length (journal_of old.rows j)) (sym own));
               entry = entry;
               made = ap (λ (j : ℕ). entries j (length (journal_of old.rows j))) own ∙ ap (entries d) (sym newest) ∙ made;
-              session = (m.range, sym same ∙ form ∙ m.form);
+              session = (m.range, sym same ∙ m.form);
             },
             m.rows ∙ ap (λ (j : ℕ). with_entry old.rows j entry) (sym own),
           )
 
-      other_next : (commit : Commit) → Commits (row_of old.rows d) (row_of new.rows d) read entry commit → (octets ≡ r.session → ⊥) → IsNext entries old.rows r → ⊥
+      other_next : (commit : Commit) → Commits (row_of old.rows d) (row_of new.rows d) read entry commit → (form_of (session_of (journal_of new.rows d)) ≡ r.session → ⊥) → IsNext entries old.rows r → ⊥
       other_next (Stale asked current) ok other is_next = ok.0 newest
       other_next (Committed version) ok other is_next =
           let m = made_by version ok in
           let same : Some entry ≡ Some is_next.entry =
           sym made ∙ ap (entries d) newest ∙ ap (λ (j : ℕ). entries j (length (journal_of old.rows j))) (sym own) ∙ is_next.made in
           let entry_is : entry ≡ is_next.entry = same_Some _ _ same in
-          other (form ∙ m.form ∙ ap (λ (e : Entry). form_of e.step.session) entry_is ∙ sym is_next.session.1)
+          other (m.form ∙ ap (λ (e : Entry). form_of e.step.session) entry_is ∙ sym is_next.session.1)
 
       -- the octets are compared
-      pub told : (commit : Commit) → Commits (row_of old.rows d) (row_of new.rows d) read entry commit → (fits : Bool) → Decides fits (octets ≡ r.session) → (fits ≡ true → Takes entries old.rows new.rows r) × (fits ≡ false → IsNext entries old.rows r → ⊥)
+      pub told : (commit : Commit) → Commits (row_of old.rows d) (row_of new.rows d) read entry commit → (fits : Bool) → Decides fits (form_of (session_of (journal_of new.rows d)) ≡ r.session) → (fits ≡ true → Takes entries old.rows new.rows r) × (fits ≡ false → IsNext entries old.rows r → ⊥)
       told commit ok fits decides = (λ yes. taken_next commit ok (decides.0 yes), λ no. other_next commit ok (λ same. true≢false (sym (decides.1 same) ∙ no)))

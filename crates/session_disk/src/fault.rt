@@ -10,7 +10,7 @@ use std::alloc::AllocError;
 use store_disk::DiskFault;
 
 /// Why a store was not opened.
-#[derive(Clone, Copy, Debug, PartialEq, Eq)]
+#[derive(Clone, Copy, Debug)]
 pub enum OpenCause {
     /// The gate at that place is the first that is open without a whole record that fits, and a next gate.
     Foreign {
@@ -43,7 +43,7 @@ impl From<AllocError> for OpenCause {
 }
 
 /// A store was not opened: its disk comes back.
-#[derive(Debug, Drop)]
+#[derive(Drop)]
 pub struct OpenFault<D> {
     /// The disk.
     pub disk: D,
@@ -52,7 +52,7 @@ pub struct OpenFault<D> {
 }
 
 /// A commit was not made, or is not known to be.
-#[derive(Debug, Drop)]
+#[derive(Drop)]
 pub enum DiskBad {
     /// There was no memory. Nothing changed, and the entry comes back.
     NoRoom(Entry),

@@ -1,7 +1,10 @@
 //! The rows of a log.
 ghost use Rattle.std.specs.Prelude.{◌≡◌, ◌≤◌, ◌*◌, ℕ, true, false, length, replicate, IfOk, OnOk, IsErrOf};
+ghost use Rattle.std.specs.Bool.{Decides};
+ghost use Rattle.device_types.specs.Journal.{session_of};
 ghost use Rattle.disk_log.specs.Log.{log_of, EndsAt};
-ghost use Rattle.session_store.specs.Rows.{opening_row, AreLawful};
+ghost use Rattle.session_form.specs.Form.{form_of};
+ghost use Rattle.session_store.specs.Rows.{opening_row, IsDevice, AreLawful, journal_of};
 ghost use Rattle.session_disk.specs.Fits.{AreRowsOf, IsLogOf, IsForeign};
 ghost use Rattle.session_disk.specs.Replay.{IsNext, Takes};
 ghost use Rattle.session_disk.specs.Stored.{entry_count};
@@ -13,6 +16,14 @@ use device_types::DeviceId;
 use disk_log::Record;
 use session_store::{RowLaw, Store};
 use std::alloc::AllocError;
+
+/// Has the row of a device the session of a record?
+fn has_session<L: RowLaw>(store: &Store<L>, d: DeviceId, next: &Record) -> bool
+    requires { IsDevice (length store.now.rows) d.0 }
+    ensures { Decides result (form_of (session_of (journal_of store.now.rows d.0)) ≡ next.now.session) }
+{
+    store.row(d).octets() == next.session()
+}
 
 /// Puts the entry of a record into the store, where the record is the next one of its device; tells whether it is. It fails for
 /// want of memory alone.
@@ -44,7 +55,7 @@ fn take_record<L: RowLaw, M: Maker<L>>(
     let Ok(_) = store.commit(d, version, entry) else {
         return Err(AllocError);
     };
-    Ok(store.row(d).octets() == next.session())
+    Ok(has_session(store, d, next))
 }
 
 /// Puts the entries of a log into a store that is empty. Tells the place of its last gate, which is closed.

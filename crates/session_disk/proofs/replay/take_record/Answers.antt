@@ -1,9 +1,4 @@
-use Rattle.std.proofs.Common.{rules, ◌≡◌, ◌+◌, ℕ, List, length, Some, sym, ap, ◌∙◌, subst}
-use Rattle.std.specs.Bool.{Decides}
-use Rattle.std.proofs.lemmas.Bool.Decides.{Decides-eqb}
-use Rattle.std.proofs.lemmas.Slice.Eq.{slice_eq-Decides}
-use Rattle.device_types.specs.Journal.{session_of}
-use Rattle.session_form.specs.Form.{form_of}
+use Rattle.std.proofs.Common.{rules, ◌≡◌, ◌+◌, length, Some, sym, ap, ◌∙◌, subst}
 use Rattle.session_row.specs.Row.{RowState}
 use Rattle.session_store.specs.Charter.{CharterState}
 use Rattle.session_store.specs.Rows.{IsDevice}
@@ -19,10 +14,8 @@ returns-clause-next g c =
     let version : c.args.next.now.version ≡ read + 1 = search rules in
     let newest = c.version-version.ensures ∙ ap (λ (row : RowState). length row.journal) c.row.ensures in
     let made = subst (λ (x : CharterState). g.M.Maker.made x d read ≡ Some c.in-Some.entry) c.requires.charter (sym c.in_ok-entry.ensures ∙ c.in-Some.is) in
-    let form = c.octets.ensures ∙ ap (λ (row : RowState). form_of (session_of row.journal)) c.row-2.ensures in
-    let decides = subst (λ (session : List ℕ). Decides c.eq.result (c.octets.result.now ≡ session)) c.session.ensures (slice_eq-Decides Decides-eqb c.octets.result.now c.session.result.now c.eq.result c.eq.ensures) in
     (told (g.L.RowLaw.follows new.charter) c.args.store.now new d read c.in-Some.entry is c.commit.ensures.others (λ J. g.met.L.RowLaw.can_follow new.charter d J c.in-Some.entry c.commit.ensures.in_form) c.commit.ensures.lawful
-    (g.M.Maker.made c.args.store.now.charter) c.args.next.now (sym c.device-2.ensures) version newest made c.octets.result.now form c.in-Ok.field-0 c.in-Ok.ensures.ok c.eq.result decides).0
+    (g.M.Maker.made c.args.store.now.charter) c.args.next.now (sym c.device-2.ensures) version newest made c.in-Ok.field-0 c.in-Ok.ensures.ok c.has_session.result c.has_session.ensures).0
 
 pub returns-clause-other : goal.returns-clause-other
 returns-clause-other g c =
@@ -33,7 +26,5 @@ returns-clause-other g c =
     let version : c.args.next.now.version ≡ read + 1 = search rules in
     let newest = c.version-version.ensures ∙ ap (λ (row : RowState). length row.journal) c.row.ensures in
     let made = subst (λ (x : CharterState). g.M.Maker.made x d read ≡ Some c.in-Some.entry) c.requires.charter (sym c.in_ok-entry.ensures ∙ c.in-Some.is) in
-    let form = c.octets.ensures ∙ ap (λ (row : RowState). form_of (session_of row.journal)) c.row-2.ensures in
-    let decides = subst (λ (session : List ℕ). Decides c.eq.result (c.octets.result.now ≡ session)) c.session.ensures (slice_eq-Decides Decides-eqb c.octets.result.now c.session.result.now c.eq.result c.eq.ensures) in
     (told (g.L.RowLaw.follows new.charter) c.args.store.now new d read c.in-Some.entry is c.commit.ensures.others (λ J. g.met.L.RowLaw.can_follow new.charter d J c.in-Some.entry c.commit.ensures.in_form) c.commit.ensures.lawful
-    (g.M.Maker.made c.args.store.now.charter) c.args.next.now (sym c.device-2.ensures) version newest made c.octets.result.now form c.in-Ok.field-0 c.in-Ok.ensures.ok c.eq.result decides).1
+    (g.M.Maker.made c.args.store.now.charter) c.args.next.now (sym c.device-2.ensures) version newest made c.in-Ok.field-0 c.in-Ok.ensures.ok c.has_session.result c.has_session.ensures).1
