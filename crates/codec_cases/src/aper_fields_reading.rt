@@ -5,7 +5,7 @@ use aper_fields::{
     BitReader, Ranged, close, end, read_bits_fixed, read_enum, read_len, read_octet_string,
     read_octets_fixed, read_open,
 };
-use echo_base::{Reason, Refusal};
+use echo_base::{OutOfMemory, Refusal};
 use std::alloc::Global;
 use std::fmt::Debug;
 use std::test::Fail;
@@ -180,22 +180,43 @@ fn pieces_behind_a_bit(rt: HostRuntime) -> Result<(), Fail> {
     Ok(())
 }
 
+/// Writes the place of what is in an open type, a bit, 28 bits, whether it ends there, and five bits more.
+fn tell_inside(text: &mut String, inside: &mut BitReader) -> Result<(), OutOfMemory> {
+    let place = inside.place();
+    let bit = read_bits_fixed(inside, 1);
+    let string = read_bits_fixed(inside, 28);
+    let ends = end(inside);
+    let more = read_bits_fixed(inside, 5);
+    write!(text, "{place} {bit:?} {string:?} {ends:?} {more:?}\n")
+}
+
+/// Writes the place behind an open type, whether one more is refused, and the length that stands there.
+fn tell_behind(text: &mut String, r: &mut BitReader) -> Result<(), OutOfMemory> {
+    let place = r.place();
+    let refused = read_open(r).is_err();
+    let length = read_len(r);
+    write!(text, "{place} {refused} {length:?}\n")
+}
+
+/// Writes what is read of an open type and behind it.
+fn tell_open(text: &mut String, r: &mut BitReader) -> Result<(), Fail> {
+    let mut inside = read_open(r)?;
+    tell_inside(text, &mut inside)?;
+    Ok(tell_behind(text, r)?)
+}
+
+/// 0x01234567 is 19088743.
+const CONTAINERS: &str = "\
+11 Ok(1) Ok(19088743) Ok(()) Err(Refusal { reason: Truncated, place: 15 })
+16 true Ok(2)
+";
+
 #[test]
 fn containers(rt: HostRuntime) -> Result<(), Fail> {
+    let mut text = String::new(rt.alloc());
     // An open type of five octets that holds a bit and, aligned, a bit string of 28 bits; and one that does not fit.
     let mut r = BitReader::new(b"\x05\x80\x12\x34\x56\x70\x02\xff", 10);
-    let mut inside = read_open(&mut r)?;
-    assert_eq!(rt; inside.place(), 11);
-    assert_eq!(rt; read_bits_fixed(&mut inside, 1), Ok(1));
-    assert_eq!(rt; read_bits_fixed(&mut inside, 28), Ok(0x0123_4567));
-    assert_eq!(rt; end(&inside), Ok(()));
-    let refused = Refusal {
-        reason: Reason::Truncated,
-        place: 15,
-    };
-    assert_eq!(rt; read_bits_fixed(&mut inside, 5), Err(refused));
-    assert_eq!(rt; r.place(), 16);
-    assert!(rt; read_open(&mut r).is_err());
-    assert_eq!(rt; read_len(&mut r), Ok(2));
+    tell_open(&mut text, &mut r)?;
+    assert_eq!(rt; text.as_str(), CONTAINERS);
     Ok(())
 }

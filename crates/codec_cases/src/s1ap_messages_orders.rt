@@ -15,8 +15,8 @@ const IES: [&str; 6] = [
     "00600006004000000001",
 ];
 
-/// The octets of the IEs in the order with that number, of 720: each is put at one of the places among those before it.
-fn in_order(alloc: Global, number: usize) -> Result<Vec<u8>, Fail> {
+/// The IEs in the order with that number, of 720: each is put at one of the places among those before it.
+fn order_of(alloc: Global, number: usize) -> Result<Vec<&'static str>, OutOfMemory> {
     let mut order: Vec<&str> = Vec::new(alloc);
     let mut number = number;
     for ie in IES {
@@ -24,11 +24,21 @@ fn in_order(alloc: Global, number: usize) -> Result<Vec<u8>, Fail> {
         order.insert(number % places, ie)?;
         number /= places;
     }
+    Ok(order)
+}
+
+/// The octets of a message with these IEs.
+fn octets_of(alloc: Global, order: &[&str]) -> Result<Vec<u8>, Fail> {
     let mut octets = hex::decode(alloc, "000c4037000006")?;
-    for ie in &order {
+    for ie in order {
         octets.extend_from_slice(&hex::decode(alloc, ie)?)?;
     }
     Ok(octets)
+}
+
+/// The octets of a message with the IEs in the order with that number.
+fn in_order(alloc: Global, number: usize) -> Result<Vec<u8>, Fail> {
+    octets_of(alloc, &order_of(alloc, number)?)
 }
 
 /// What is told of the first order, in which they are written.

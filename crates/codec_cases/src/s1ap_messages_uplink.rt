@@ -2,21 +2,28 @@
 
 use crate::tables::told;
 use echo_base::{Bad, OutOfMemory};
-use s1ap_messages::read_uplink;
+use s1ap_messages::{Pdu, read_uplink};
 use std::alloc::Global;
 use std::test::Fail;
 
+/// Writes the kind of a message.
+fn tell_kind(text: &mut String, pdu: &Pdu) -> Result<(), OutOfMemory> {
+    let kind = pdu.kind();
+    write!(text, "{kind:?}")
+}
+
 /// Writes the kind of message that an MME reads, or why it is refused.
-fn tell(alloc: Global, text: &mut String, octets: &[u8]) -> Result<(), Fail> {
+fn tell_received(alloc: Global, text: &mut String, octets: &[u8]) -> Result<(), OutOfMemory> {
     match read_uplink(alloc, octets) {
-        Ok(pdu) => {
-            let kind = pdu.kind();
-            write!(text, "{kind:?}")?;
-        }
-        Err(Bad::Refused(refusal)) => write!(text, "{refusal}")?,
-        Err(Bad::OutOfMemory) => return Err(Fail::from(OutOfMemory)),
+        Ok(pdu) => tell_kind(text, &pdu),
+        Err(Bad::Refused(refusal)) => write!(text, "{refusal}"),
+        Err(Bad::OutOfMemory) => Err(OutOfMemory),
     }
-    Ok(())
+}
+
+/// Writes what is told of the octets.
+fn tell(alloc: Global, text: &mut String, octets: &[u8]) -> Result<(), Fail> {
+    Ok(tell_received(alloc, text, octets)?)
 }
 
 #[test]

@@ -65,12 +65,18 @@ fn write_table(text: &mut String, kind: MessageKind) -> Result<(), Fail> {
     Ok(text.push('\n')?)
 }
 
+/// Writes the table of each kind.
+fn write_tables(text: &mut String) -> Result<(), Fail> {
+    for kind in KINDS {
+        write_table(text, kind)?;
+    }
+    Ok(())
+}
+
 #[test]
 fn has_the_elements_of_the_standard(rt: HostRuntime) -> Result<(), Fail> {
     let mut text = String::new(rt.alloc());
-    for kind in KINDS {
-        write_table(&mut text, kind)?;
-    }
+    write_tables(&mut text)?;
     assert_eq!(rt; text.as_str(), LINES);
     Ok(())
 }
