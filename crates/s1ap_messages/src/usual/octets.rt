@@ -97,23 +97,36 @@ fn behind(high: u64, low: u8) -> u64
     high * 256 + u64::from(low)
 }
 
+/// A number that goes on for so many octets more, and what stands behind it.
+fn longer(high: u64, octets: &[u8], more: u8) -> Option<(u64, &[u8])>
+    requires { 0 < more }
+    ensures octets { IfSome result (λ x. least_octets high ++ octets.now ≡ least_octets x.0 ++ x.1.now) }
+    ensures count { IfSome result (λ x. length (least_octets x.0) ≡ length (least_octets high) + more) }
+{
+    let (low, rest) = one(octets)?;
+    if high == 0 || high >= 4294967296 {
+        return None;
+    }
+    let n = behind(high, low);
+    if more == 1 {
+        return Some((n, rest));
+    }
+    longer(n, rest, more - 1)
+}
+
 /// A number in so many octets, and what stands behind it.
+#[inline(always)]
 #[tactic(auto, using(crate::proofs::UsualRead::least_one))]
 fn least(octets: &[u8], count: u8) -> Option<(u64, &[u8])>
     requires { 0 < count }
     ensures octets { IfSome result (λ x. octets.now ≡ least_octets x.0 ++ x.1.now) }
     ensures count { IfSome result (λ x. length (least_octets x.0) ≡ count) }
 {
+    let (first, rest) = one(octets)?;
     if count == 1 {
-        let (low, rest) = one(octets)?;
-        return Some((u64::from(low), rest));
+        return Some((u64::from(first), rest));
     }
-    let (high, rest) = least(octets, count - 1)?;
-    let (low, rest) = one(rest)?;
-    if high == 0 || high >= 4294967296 {
-        return None;
-    }
-    Some((behind(high, low), rest))
+    longer(u64::from(first), rest, count - 1)
 }
 
 /// The count less one that an octet tells: it counts in units, and some bits stand before it.
