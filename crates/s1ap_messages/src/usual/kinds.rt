@@ -17,6 +17,7 @@ use s1ap_pdu::{MessageKind, Outcome, Pdu, header_of, kind_with};
 use std::alloc::Global;
 
 /// The MME UE S1AP ID and the eNB UE S1AP ID, by which most messages begin, and what stands behind them.
+#[inline(always)]
 fn both(octets: &[u8], criticality: Criticality) -> Option<(u32, u32, &[u8])>
     ensures octets { IfSome result (λ x. octets.now ≡ ie_octets named.MME_UE_S1AP_ID (criticality_number criticality) (number_octets 0 64 x.0) ++ (ie_octets named.ENB_UE_S1AP_ID (criticality_number criticality) (number_octets 0 64 x.1) ++ x.2.now)) }
     ensures right { IfSome result (λ x. x.1 < 2 ^ 24) }
