@@ -18,8 +18,24 @@ done
 room=$(mktemp -d)
 trap 'rm -rf "$room"' EXIT
 
-# Proves and builds the program, where something has changed.
-crate=$(cd "$(dirname "$0")/../../crates/front_bench" && pwd)
+here=$(cd "$(dirname "$0")" && pwd)
+root=$(cd "$here/../.." && pwd)
+
+# A repository of its own: front_cases and the crates that it stands on, with what is built of them, and the program over its value.
+for name in device_types front_lock front_cases; do
+    mkdir -p "$room/crates/$name/out"
+    grep "^$name[: ]" "$root/crates.txt" >>"$room/crates.txt"
+    for part in src specs proofs out/rlib; do
+        if [ -d "$root/crates/$name/$part" ]; then cp -a "$root/crates/$name/$part" "$room/crates/$name/$part"; fi
+    done
+done
+cp "$root/HANDLES" "$room/"
+echo 'front_bench: device_types front_lock front_cases anyhow' >>"$room/crates.txt"
+crate=$room/crates/front_bench
+mkdir -p "$crate/src"
+cp "$here/main.txt" "$crate/src/main.rt"
+
+# Proves and builds it.
 (cd "$crate" && rt run -- front 1 0) >"$room/log" 2>&1 || {
     cat "$room/log" >&2
     exit 1

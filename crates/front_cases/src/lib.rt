@@ -1,10 +1,8 @@
-//! A value whose turns add numbers, and with it the tests of `front_lock`. The bench of the front measures it, too.
+//! A value whose turns add numbers, behind a front: the tests of the front take it, and its bench.
 #![tactic(auto)]
 
 mod tally;
 mod threads;
-#[cfg(test)]
-mod turns;
 
 pub use tally::{Add, Addition, Repeat, Tally};
-pub use threads::tally_of_front;
+pub use threads::{close_all, tally_of_front};

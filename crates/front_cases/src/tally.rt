@@ -7,7 +7,7 @@ use front_lock::{Held, Job};
 use std::alloc::{AllocError, Global};
 
 /// A number that a seat added.
-#[derive(Clone, Copy, Debug)]
+#[derive(Clone, Copy)]
 pub struct Addition {
     pub seat: u32,
     pub amount: u64,
@@ -62,7 +62,7 @@ impl Held for Tally {
 }
 
 /// Adds a number, and answers how many were added before it. It makes room for so many more first.
-#[derive(Debug, Drop)]
+#[derive(Drop)]
 pub struct Add {
     pub amount: u64,
     pub room: usize,
@@ -91,7 +91,7 @@ impl Job<Tally> for Add {
 }
 
 /// Adds again the number that was added at a place, from 0, and answers it.
-#[derive(Debug, Drop)]
+#[derive(Drop)]
 pub struct Repeat {
     pub place: usize,
 }

@@ -59,12 +59,8 @@ fn add_below<R: Wait>(
     seat
 }
 
-// Joins all seats of the front and closes it. `None` where one is missing: they are those with the numbers from 0, in order.
-pub(crate) fn close_all(
-    front: Front<Tally>,
-    mut seats: Vec<FrontSeat<Tally>>,
-    count: u32,
-) -> Option<Tally>
+/// Joins all seats of the front and closes it. `None` where one is missing: they are those with the numbers from 0, in order.
+pub fn close_all(front: Front<Tally>, mut seats: Vec<FrontSeat<Tally>>, count: u32) -> Option<Tally>
     requires some { 0 < count }
     requires count { seats_of front ≡ count }
     requires seats { All (λ s. IsSeatOf (λ t. t.most) front s) seats.items }

@@ -1,10 +1,9 @@
-//! Turns of seats in one thread, and in several.
-ghost use Rattle.std.specs.Prelude.{◌≡◌, ◌<◌, ◌≤◌, All, IfOk, IsTrue, OnOk, length};
+//! Turns of seats at one front, in one thread and in several.
+ghost use Rattle.std.specs.Prelude.{◌≡◌, ◌<◌, ◌≤◌, All, IfOk, IfSome, IsTrue, OnOk, length};
 ghost use Rattle.front_lock.specs.Front.{IsSeatOf, basis_of, seats_of, view};
 
-use crate::tally::{Add, Addition, Repeat, Tally};
-use crate::threads::{close_all, tally_of_front};
 use device_types::NoRoom;
+use front_cases::{Add, Addition, Repeat, Tally, close_all, tally_of_front};
 use front_lock::{Front, FrontSeat};
 use std::alloc::{AllocError, Global};
 use std::sync::Wait;
@@ -12,14 +11,17 @@ use std::test::Fail;
 use std::thread::Threads;
 
 /// What two seats do in turns, and the history that is closed. Seat 0 adds 3; seat 1 adds 4 and repeats the first number, which
-/// the other seat added; seat 0 finds no memory, and then adds 9.
+/// the other seat added; seat 0 finds no memory, and its job comes back; then it adds 9.
 const TURNS: &str = "\
-seat 0 Ok(0)
-seat 1 Ok(1)
-seat 1 Ok(3)
-seat 0 Err(NoRoom(Add { amount: 5, room: 18446744073709551615 }))
-seat 0 Ok(3)
-closed [Addition { seat: 0, amount: 3 }, Addition { seat: 1, amount: 4 }, Addition { seat: 1, amount: 3 }, Addition { seat: 0, amount: 9 }]
+seat 0: behind 0
+seat 1: behind 1
+seat 1: again 3
+seat 0: back 5 18446744073709551615
+seat 0: behind 3
+closed: 0 added 3
+closed: 1 added 4
+closed: 1 added 3
+closed: 0 added 9
 ";
 
 /// How many turns 2 to 4 threads made with 10,000 each, and whether those of each are in its order.
@@ -50,6 +52,18 @@ fn add<R: Wait>(
     front.turn(rt, seat, job)
 }
 
+/// Tells behind how many numbers a number was added, or that the job came back.
+fn tell_answer(
+    seat: u32,
+    answer: &Result<usize, NoRoom<Add>>,
+    told: &mut String,
+) -> Result<(), AllocError> {
+    match answer {
+        Ok(before) => writeln!(told, "seat {seat}: behind {before}"),
+        Err(NoRoom(job)) => writeln!(told, "seat {seat}: back {} {}", job.amount, job.room),
+    }
+}
+
 /// Adds a number, tells what comes, and answers whether it was added: then the seat has seen a number.
 fn tell_added<R: Wait>(
     rt: &R,
@@ -64,11 +78,11 @@ fn tell_added<R: Wait>(
     ensures seen { IfOk result (λ added. IsTrue added → 0 < length (view seat.new).seen) }
 {
     let answer = add(rt, front, seat, job);
-    writeln!(told, "seat {} {answer:?}", seat.number())?;
+    tell_answer(seat.number(), &answer, told)?;
     Ok(answer.is_ok())
 }
 
-/// Repeats the first number of all, and tells what comes.
+/// Repeats the first number of all, and tells it.
 fn tell_repeated<R: Wait>(
     rt: &R,
     front: &Front<Tally>,
@@ -79,8 +93,10 @@ fn tell_repeated<R: Wait>(
     requires seen { 0 < length (view seat.old).seen }
     ensures { IsSeatOf (λ t. t.most) front.now seat.new }
 {
-    let answer = front.turn(rt, seat, Repeat { place: 0 });
-    writeln!(told, "seat {} {answer:?}", seat.number())
+    let Ok(amount) = front.turn(rt, seat, Repeat { place: 0 }) else {
+        return Err(AllocError);
+    };
+    writeln!(told, "seat {}: again {amount}", seat.number())
 }
 
 /// The turns of two seats in one thread. It owns nothing: the seats are lent.
@@ -107,45 +123,59 @@ fn tell_turns<R: Wait>(
     Ok(())
 }
 
-/// Lets the two seats of a front take their turns, and gives them back.
+/// Lets the two seats of a front take their turns, and gives them back. `None` where memory ran out.
 fn seats_after<R: Wait>(
     rt: &R,
     alloc: Global,
     front: &Front<Tally>,
     mut seats: Vec<FrontSeat<Tally>>,
     told: &mut String,
-) -> Result<Vec<FrontSeat<Tally>>, Fail>
+) -> Option<Vec<FrontSeat<Tally>>>
     requires most { basis_of (λ t. t.most) front.now ≡ 9 }
     requires seats { All (λ s. IsSeatOf (λ t. t.most) front.now s) seats.items }
-    ensures { IfOk result (λ left. All (λ s. IsSeatOf (λ t. t.most) front.now s) left.items) }
+    ensures { IfSome result (λ left. All (λ s. IsSeatOf (λ t. t.most) front.now s) left.items) }
 {
-    let mut second = seats.pop().ok_or("no seat 1")?;
-    let mut first = seats.pop().ok_or("no seat 0")?;
-    tell_turns(rt, front, &mut first, &mut second, told)?;
-    Ok(Vec::from_array(alloc, [first, second])?)
+    let mut second = seats.pop()?;
+    let mut first = seats.pop()?;
+    tell_turns(rt, front, &mut first, &mut second, told).ok()?;
+    Vec::from_array(alloc, [first, second]).ok()
 }
 
-/// Closes a front of two seats, and tells its history.
-fn tell_closed(
+/// Tells the numbers that were added, and by whom.
+fn tell_additions(additions: &[Addition], told: &mut String) -> Result<(), AllocError> {
+    for addition in additions {
+        writeln!(told, "closed: {} added {}", addition.seat, addition.amount)?;
+    }
+    Ok(())
+}
+
+/// The value of a front of two seats behind their turns. `None` where memory ran out.
+fn tally_behind<R: Wait>(
+    rt: &R,
+    alloc: Global,
     front: Front<Tally>,
     seats: Vec<FrontSeat<Tally>>,
     told: &mut String,
-) -> Result<(), Fail>
+) -> Option<Tally>
+    requires most { basis_of (λ t. t.most) front ≡ 9 }
     requires count { seats_of front ≡ 2 }
     requires seats { All (λ s. IsSeatOf (λ t. t.most) front s) seats.items }
 {
-    let tally = close_all(front, seats, 2).ok_or("a seat is missing")?;
-    writeln!(told, "closed {:?}", tally.additions)?;
-    Ok(())
+    let left = seats_after(rt, alloc, &front, seats, told)?;
+    close_all(front, left, 2)
+}
+
+/// Lets two seats take their turns, and tells them and the history that is closed.
+fn tell_history<R: Wait>(rt: &R, alloc: Global, told: &mut String) -> Result<(), AllocError> {
+    let (front, seats) = Front::new(alloc, Tally::new(alloc, 9), 2)?;
+    let tally = tally_behind(rt, alloc, front, seats, told).ok_or(AllocError)?;
+    tell_additions(&tally.additions, told)
 }
 
 #[test]
 fn seats_take_turns(rt: HostRuntime) -> Result<(), Fail> {
-    let alloc = rt.alloc();
-    let mut told = String::new(alloc);
-    let (front, seats) = Front::new(alloc, Tally::new(alloc, 9), 2)?;
-    let left = seats_after(&rt, alloc, &front, seats, &mut told)?;
-    tell_closed(front, left, &mut told)?;
+    let mut told = String::new(rt.alloc());
+    tell_history(&rt, rt.alloc(), &mut told)?;
     assert_eq!(rt; told.as_str(), TURNS);
     Ok(())
 }
@@ -171,25 +201,34 @@ fn tell_seats(additions: &[Addition], seats: u32, told: &mut String) -> Result<(
 }
 
 /// What so many threads make of a front, with 10,000 turns each.
-fn tell_threads<R: Threads + Wait + Sync>(
+fn tell_tally<R: Threads + Wait + Sync>(
     rt: &R,
     alloc: Global,
     seats: u32,
     told: &mut String,
-) -> Result<(), Fail>
+) -> Result<(), AllocError>
     requires { 0 < seats }
 {
-    let tally = tally_of_front(rt, alloc, seats, 10_000)?.ok_or("a seat is missing")?;
-    tell_seats(&tally.additions, seats, told)?;
+    let tally = tally_of_front(rt, alloc, seats, 10_000)?.ok_or(AllocError)?;
+    tell_seats(&tally.additions, seats, told)
+}
+
+/// The same of 2, 3 and 4 threads.
+fn tell_tallies<R: Threads + Wait + Sync>(
+    rt: &R,
+    alloc: Global,
+    told: &mut String,
+) -> Result<(), AllocError> {
+    for seats in 2..5 {
+        tell_tally(rt, alloc, seats, told)?;
+    }
     Ok(())
 }
 
 #[test]
 fn threads_take_turns(rt: HostRuntime) -> Result<(), Fail> {
     let mut told = String::new(rt.alloc());
-    for seats in 2..5 {
-        tell_threads(&rt, rt.alloc(), seats, &mut told)?;
-    }
+    tell_tallies(&rt, rt.alloc(), &mut told)?;
     assert_eq!(rt; told.as_str(), THREADS);
     Ok(())
 }
