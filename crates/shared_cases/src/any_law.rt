@@ -3,8 +3,9 @@ ghost use Rattle.std.specs.Prelude.{◌≡◌, [], IfOk};
 ghost use Rattle.std.specs.Arc.{arc_value};
 ghost use Rattle.session_store.specs.Law.{CanFollow};
 
-use device_types::{Body, Book, CauseCode, Down, Effect, Effects, Entry, Input, Message, Step};
-use session_row::Row;
+use device_types::{
+    Body, Book, CauseCode, Down, Effect, Effects, Entry, Input, Message, Session, Step,
+};
 use session_store::{Charter, EchoLaw, RowLaw};
 use std::alloc::{AllocError, Global};
 use subs_table::SubsTable;
@@ -40,10 +41,10 @@ pub(crate) fn any_law(alloc: Global) -> Result<AnyLaw, AllocError> {
 }
 
 /// The first message of a device, with one message to it.
+#[tactic(auto, using(crate::proofs::Entries::opening_in_range))]
 pub(crate) fn first_entry(alloc: Global) -> Result<Entry, AllocError>
     ensures { IfOk result (CanFollow []) }
 {
-    let session = Row::<4>::new(alloc)?.session()?;
     let down = Effect::Down(Down::Release {
         station: 1,
         enb: 7,
@@ -62,6 +63,9 @@ pub(crate) fn first_entry(alloc: Global) -> Result<Entry, AllocError>
     };
     Ok(Entry {
         input: Input::Message(message),
-        step: Step { session, effects },
+        step: Step {
+            session: Session::opening(alloc),
+            effects,
+        },
     })
 }

@@ -1,5 +1,5 @@
 //! Offers of two seats at the peers of one device, whose messages are those of an attach up to the session.
-ghost use Rattle.std.specs.Prelude.{◌≡◌, ◌≤◌, ◌-◌, ◌∷◌, [], true, All, IfOk, IfSome, Some, slice_get};
+ghost use Rattle.std.specs.Prelude.{◌≡◌, ◌≤◌, ◌-◌, ◌∷◌, [], true, All, IfOk, IfSome, Some, length, slice_get};
 ghost use Rattle.std.specs.Arc.{arc_value};
 ghost use Rattle.device_machine.specs.Ends.{end_of};
 ghost use Rattle.device_types.specs.Alone.{alone_of};
@@ -83,12 +83,38 @@ fn attach_line(alloc: Global) -> Result<Messages, AllocError>
     ensures line { IfOk result IsLine }
     ensures short { IfOk result IsShort }
 {
+    let response = response(alloc)?;
     let messages = [
         message(1, attach()),
-        message(2, response(alloc)?),
+        message(2, response),
         message(3, Body::Secured),
     ];
     Ok(Messages::from(Vec::from_array(alloc, messages)?))
+}
+
+/// A table with the row alone.
+fn table_of(alloc: Global, row: &Subscriber) -> Result<SubsTable, Fail>
+    requires number { row.now.number ≡ 1 }
+    requires range { IsSubscriber row.now }
+    ensures { IfOk result (λ table. table ≡ row.now ∷ []) }
+{
+    let row = row.copy()?;
+    let mut table = SubsTable::new(alloc);
+    table.add(row)?;
+    Ok(table)
+}
+
+/// A law of the table, with the messages of its one device.
+fn law_of(alloc: Global, table: &SubsTable, line: &Messages) -> Result<EchoLaw, AllocError>
+    requires count { length table.now ≡ 1 }
+    requires line { IsLine line.now }
+    requires short { IsShort line.now }
+    ensures { IfOk result (λ law. arc_value law.charter ≡ record { rows = table.now; lines = line.now ∷ [] }) }
+{
+    let line = line.copy()?;
+    let mut book = Book::new(alloc);
+    book.push(line)?;
+    EchoLaw::new(alloc, table, &book)
 }
 
 /// The peers of one device, and two seats.
@@ -104,11 +130,8 @@ fn opened(
     ensures charter { IfOk result (λ made. arc_value made.0.law.charter ≡ record { rows = row.now ∷ []; lines = line.now ∷ [] }) }
     ensures seats { IfOk result (λ made. All (λ s. AreSeatsOf peer_basis made.0.fronts.fronts.items s.seats.items) made.1.items) }
 {
-    let mut table = SubsTable::new(alloc);
-    table.add(row.copy()?)?;
-    let mut book = Book::new(alloc);
-    book.push(line.copy()?)?;
-    let law = EchoLaw::new(alloc, &table, &book)?;
+    let table = table_of(alloc, row)?;
+    let law = law_of(alloc, &table, line)?;
     Ok(SharedPeers::new(alloc, law, &table, 2)?)
 }
 
@@ -119,6 +142,7 @@ fn tell_answer(answer: &Answer, told: &mut String) -> Result<(), AllocError> {
     }
 }
 
+/// Tells what was said to an offer.
 fn tell_offer(offer: &Offer, told: &mut String) -> Result<(), AllocError> {
     match offer {
         Offer::Accepted(answer) => {
@@ -131,6 +155,12 @@ fn tell_offer(offer: &Offer, told: &mut String) -> Result<(), AllocError> {
         }
         Offer::Ahead(last) => writeln!(told, "ahead of {last}"),
     }
+}
+
+/// The same, behind who made which call.
+fn tell_call(seat: u32, k: u64, offer: &Offer, told: &mut String) -> Result<(), AllocError> {
+    write!(told, "seat {seat} {k}: ")?;
+    tell_offer(offer, told)
 }
 
 /// Call `k` of the device on a lane of a peer, if it has one.
@@ -172,18 +202,18 @@ fn offer<R: Wait>(
         return Ok(());
     };
     let offer = peers.offer(rt, seat, DeviceId(1), k, call)?;
-    write!(told, "seat {} {k}: ", seat.number())?;
-    tell_offer(&offer, told)
+    tell_call(seat.number(), k, &offer, told)
 }
 
-/// The calls of the two seats.
-fn call_both<R: Wait>(
+/// The calls of the two seats, of what the machine alone makes.
+fn offer_all<R: Wait>(
     rt: &R,
     peers: &SharedPeers,
     first: &mut PeerSeat,
     second: &mut PeerSeat,
     row: &Subscriber,
     line: &Messages,
+    end: &DeviceEnd,
     told: &mut String,
 ) -> Result<(), AllocError>
     requires first { AreSeatsOf peer_basis peers.now.fronts.fronts.items first.old.seats.items }
@@ -191,20 +221,31 @@ fn call_both<R: Wait>(
     requires charter { arc_value peers.now.law.charter ≡ record { rows = row.now ∷ []; lines = line.now ∷ [] } }
     requires range { IsSubscriber row.now }
     requires short { IsShort line.now }
+    requires end { end.now ≡ end_of row.now line.now }
     ensures first { AreSeatsOf peer_basis peers.now.fronts.fronts.items first.new.seats.items }
     ensures second { AreSeatsOf peer_basis peers.now.fronts.fronts.items second.new.seats.items }
 {
-    let end = end_of(row, line.items())?;
-    let located = call_of(row, line, &end, Lane::Subscriber, 2);
+    let located = call_of(row, line, end, Lane::Subscriber, 2);
     offer(rt, peers, first, 2, located, told)?;
-    let vectors = call_of(row, line, &end, Lane::Subscriber, 1);
+    let vectors = call_of(row, line, end, Lane::Subscriber, 1);
     offer(rt, peers, second, 1, vectors, told)?;
-    let vectors = call_of(row, line, &end, Lane::Subscriber, 1);
+    let vectors = call_of(row, line, end, Lane::Subscriber, 1);
     offer(rt, peers, first, 1, vectors, told)?;
-    let located = call_of(row, line, &end, Lane::Subscriber, 2);
+    let located = call_of(row, line, end, Lane::Subscriber, 2);
     offer(rt, peers, first, 2, located, told)?;
-    let created = call_of(row, line, &end, Lane::Gateway, 1);
+    let created = call_of(row, line, end, Lane::Gateway, 1);
     offer(rt, peers, second, 1, created, told)
+}
+
+/// The two seats of the peers, in the order of their numbers. `None` where there are fewer.
+fn both(peers: &SharedPeers, mut seats: Vec<PeerSeat>) -> Option<(PeerSeat, PeerSeat)>
+    requires { All (λ s. AreSeatsOf peer_basis peers.now.fronts.fronts.items s.seats.items) seats.items }
+    ensures first { IfSome result (λ both. AreSeatsOf peer_basis peers.now.fronts.fronts.items both.0.seats.items) }
+    ensures second { IfSome result (λ both. AreSeatsOf peer_basis peers.now.fronts.fronts.items both.1.seats.items) }
+{
+    let second = seats.pop()?;
+    let first = seats.pop()?;
+    Some((first, second))
 }
 
 /// Joins the two seats of the peers, and closes them. `None` where they are not their two.
@@ -215,8 +256,33 @@ fn closed(peers: SharedPeers, mut into: PeerSeat, from: PeerSeat) -> Option<Vec<
     if peers.seats() != 2 || into.number() != 0 || from.number() != 1 {
         return None;
     }
-    peers.join(&mut into, from).ok()?;
+    let Ok(()) = peers.join(&mut into, from) else {
+        unreachable!()
+    };
     peers.close(into).ok()
+}
+
+/// The shards of the peers behind these calls. `None` where memory runs out.
+fn shards_offered<R: Wait>(
+    rt: &R,
+    peers: SharedPeers,
+    seats: Vec<PeerSeat>,
+    row: &Subscriber,
+    line: &Messages,
+    end: &DeviceEnd,
+    told: &mut String,
+) -> Option<Vec<PeerShard>>
+    requires seats { All (λ s. AreSeatsOf peer_basis peers.fronts.fronts.items s.seats.items) seats.items }
+    requires charter { arc_value peers.law.charter ≡ record { rows = row.now ∷ []; lines = line.now ∷ [] } }
+    requires range { IsSubscriber row.now }
+    requires short { IsShort line.now }
+    requires end { end.now ≡ end_of row.now line.now }
+{
+    let (mut first, mut second) = both(&peers, seats)?;
+    let offered = offer_all(rt, &peers, &mut first, &mut second, row, line, end, told);
+    let shards = closed(peers, first, second)?;
+    offered.ok()?;
+    Some(shards)
 }
 
 /// All turns of all shards.
@@ -232,30 +298,51 @@ fn tell_turns(shards: &[PeerShard], told: &mut String) -> Result<(), AllocError>
     Ok(())
 }
 
-/// The last of the peers' seats.
-fn last_seat(peers: &SharedPeers, seats: &mut Vec<PeerSeat>) -> Result<PeerSeat, &'static str>
-    requires { All (λ s. AreSeatsOf peer_basis peers.now.fronts.fronts.items s.seats.items) seats.old.items }
-    ensures seat { IfOk result (λ s. AreSeatsOf peer_basis peers.now.fronts.fronts.items s.seats.items) }
-    ensures others { All (λ s. AreSeatsOf peer_basis peers.now.fronts.fronts.items s.seats.items) seats.new.items }
+/// Tells the offers of two seats, and the turns of the shards that are closed.
+fn tell_seats<R: Wait>(
+    rt: &R,
+    alloc: Global,
+    row: &Subscriber,
+    line: &Messages,
+    end: &DeviceEnd,
+    told: &mut String,
+) -> Result<(), Fail>
+    requires number { row.now.number ≡ 1 }
+    requires range { IsSubscriber row.now }
+    requires line { IsLine line.now }
+    requires short { IsShort line.now }
+    requires end { end.now ≡ end_of row.now line.now }
 {
-    let Some(seat) = seats.pop() else {
-        return Err("there is no seat");
-    };
-    Ok(seat)
+    let (peers, seats) = opened(alloc, row, line)?;
+    let shards = shards_offered(rt, peers, seats, row, line, end, told).ok_or("not closed")?;
+    Ok(tell_turns(&shards, told)?)
+}
+
+/// The same of the device that attaches.
+fn tell_device<R: Wait>(
+    rt: &R,
+    alloc: Global,
+    row: &Subscriber,
+    told: &mut String,
+) -> Result<(), Fail>
+    requires number { row.now.number ≡ 1 }
+    requires range { IsSubscriber row.now }
+{
+    let line = attach_line(alloc)?;
+    let end = end_of(row, line.items())?;
+    tell_seats(rt, alloc, row, &line, &end, told)
+}
+
+/// The same of the device of the row.
+fn tell_row<R: Wait>(rt: &R, alloc: Global, told: &mut String) -> Result<(), Fail> {
+    let row = read_row(alloc, ROW.as_bytes(), 1)?;
+    tell_device(rt, alloc, &row, told)
 }
 
 #[test]
 fn an_offer_is_accepted_once(rt: HostRuntime) -> Result<(), Fail> {
-    let alloc = rt.alloc();
-    let mut told = String::new(alloc);
-    let row = read_row(alloc, ROW.as_bytes(), 1)?;
-    let line = attach_line(alloc)?;
-    let (peers, mut seats) = opened(alloc, &row, &line)?;
-    let mut second = last_seat(&peers, &mut seats)?;
-    let mut first = last_seat(&peers, &mut seats)?;
-    call_both(&rt, &peers, &mut first, &mut second, &row, &line, &mut told)?;
-    let shards = closed(peers, first, second).ok_or("not closed")?;
-    tell_turns(&shards, &mut told)?;
+    let mut told = String::new(rt.alloc());
+    tell_row(&rt, rt.alloc(), &mut told)?;
     assert_eq!(rt; told.as_str(), OFFERED);
     Ok(())
 }

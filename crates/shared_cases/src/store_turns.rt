@@ -83,6 +83,20 @@ fn call<R: Wait>(
     }
 }
 
+/// The two seats of a store, in the order of their numbers. `None` where there are fewer.
+fn both(
+    store: &SharedStore<AnyLaw>,
+    mut seats: Vec<StoreSeat<AnyLaw>>,
+) -> Option<(StoreSeat<AnyLaw>, StoreSeat<AnyLaw>)>
+    requires { All (λ s. AreSeatsOf store_basis store.now.fronts.fronts.items s.seats.items) seats.items }
+    ensures first { IfSome result (λ both. AreSeatsOf store_basis store.now.fronts.fronts.items both.0.seats.items) }
+    ensures second { IfSome result (λ both. AreSeatsOf store_basis store.now.fronts.fronts.items both.1.seats.items) }
+{
+    let second = seats.pop()?;
+    let first = seats.pop()?;
+    Some((first, second))
+}
+
 /// Joins the two seats of a store, and closes it. `None` where they are not its two.
 fn closed(
     store: SharedStore<AnyLaw>,
@@ -95,7 +109,9 @@ fn closed(
     if store.seats() != 2 || into.number() != 0 || from.number() != 1 {
         return None;
     }
-    store.join(&mut into, from).ok()?;
+    let Ok(()) = store.join(&mut into, from) else {
+        unreachable!()
+    };
     store.close(into).ok()
 }
 
@@ -148,31 +164,35 @@ fn call_all<R: Wait>(
     call(rt, alloc, store, first, "settle", DeviceId(18), told)
 }
 
-/// The last of the store's seats.
-fn last_seat(
-    store: &SharedStore<AnyLaw>,
-    seats: &mut Vec<StoreSeat<AnyLaw>>,
-) -> Result<StoreSeat<AnyLaw>, &'static str>
-    requires { All (λ s. AreSeatsOf store_basis store.now.fronts.fronts.items s.seats.items) seats.old.items }
-    ensures seat { IfOk result (λ s. AreSeatsOf store_basis store.now.fronts.fronts.items s.seats.items) }
-    ensures others { All (λ s. AreSeatsOf store_basis store.now.fronts.fronts.items s.seats.items) seats.new.items }
+/// The shards of a store behind these calls. `None` where memory runs out.
+fn shards_called<R: Wait>(
+    rt: &R,
+    alloc: Global,
+    store: SharedStore<AnyLaw>,
+    seats: Vec<StoreSeat<AnyLaw>>,
+    told: &mut String,
+) -> Option<Vec<StoreShard<AnyLaw>>>
+    requires devices { store.devices ≡ 32 }
+    requires seats { All (λ s. AreSeatsOf store_basis store.fronts.fronts.items s.seats.items) seats.items }
 {
-    let Some(seat) = seats.pop() else {
-        return Err("there is no seat");
-    };
-    Ok(seat)
+    let (mut first, mut second) = both(&store, seats)?;
+    let called = call_all(rt, alloc, &store, &mut first, &mut second, told);
+    let shards = closed(store, first, second)?;
+    called.ok()?;
+    Some(shards)
+}
+
+/// Tells the calls of two seats of a store, and the turns of the shards that are closed.
+fn tell_seats<R: Wait>(rt: &R, alloc: Global, told: &mut String) -> Result<(), AllocError> {
+    let (store, seats) = SharedStore::new(alloc, any_law(alloc)?, 32, 2)?;
+    let shards = shards_called(rt, alloc, store, seats, told).ok_or(AllocError)?;
+    tell_turns(&shards, told)
 }
 
 #[test]
 fn two_seats_take_turns(rt: HostRuntime) -> Result<(), Fail> {
-    let alloc = rt.alloc();
-    let mut told = String::new(alloc);
-    let (store, mut seats) = SharedStore::new(alloc, any_law(alloc)?, 32, 2)?;
-    let mut second = last_seat(&store, &mut seats)?;
-    let mut first = last_seat(&store, &mut seats)?;
-    call_all(&rt, alloc, &store, &mut first, &mut second, &mut told)?;
-    let shards = closed(store, first, second).ok_or("not closed")?;
-    tell_turns(&shards, &mut told)?;
+    let mut told = String::new(rt.alloc());
+    tell_seats(&rt, rt.alloc(), &mut told)?;
     assert_eq!(rt; told.as_str(), TURNS);
     Ok(())
 }
@@ -226,19 +246,45 @@ fn work_in_threads<R: Threads + Wait + Sync>(
     thread::map_vec(rt, seats, &|seat| work(rt, alloc, store, seat))
 }
 
-/// The last of the store's seats that were at work.
+/// The last of the seats that were at work. `None` where there is none, or memory ran out.
 fn last_left(
     store: &SharedStore<AnyLaw>,
     left: &mut Vec<Option<StoreSeat<AnyLaw>>>,
-) -> Result<StoreSeat<AnyLaw>, &'static str>
+) -> Option<StoreSeat<AnyLaw>>
     requires { All (λ o. IfSome o (λ s. AreSeatsOf store_basis store.now.fronts.fronts.items s.seats.items)) left.old.items }
-    ensures seat { IfOk result (λ s. AreSeatsOf store_basis store.now.fronts.fronts.items s.seats.items) }
+    ensures seat { IfSome result (λ s. AreSeatsOf store_basis store.now.fronts.fronts.items s.seats.items) }
     ensures others { All (λ o. IfSome o (λ s. AreSeatsOf store_basis store.now.fronts.fronts.items s.seats.items)) left.new.items }
 {
-    let Some(seat) = left.pop() else {
-        return Err("there is no seat");
-    };
-    seat.ok_or("memory ran out")
+    left.pop()?
+}
+
+/// The two seats that were at work, in the order of their numbers.
+fn both_left(
+    store: &SharedStore<AnyLaw>,
+    mut left: Vec<Option<StoreSeat<AnyLaw>>>,
+) -> Option<(StoreSeat<AnyLaw>, StoreSeat<AnyLaw>)>
+    requires { All (λ o. IfSome o (λ s. AreSeatsOf store_basis store.now.fronts.fronts.items s.seats.items)) left.items }
+    ensures first { IfSome result (λ both. AreSeatsOf store_basis store.now.fronts.fronts.items both.0.seats.items) }
+    ensures second { IfSome result (λ both. AreSeatsOf store_basis store.now.fronts.fronts.items both.1.seats.items) }
+{
+    let second = last_left(store, &mut left)?;
+    let first = last_left(store, &mut left)?;
+    Some((first, second))
+}
+
+/// The shards of a store behind this work. `None` where memory runs out.
+fn shards_worked<R: Threads + Wait + Sync>(
+    rt: &R,
+    alloc: Global,
+    store: SharedStore<AnyLaw>,
+    seats: Vec<StoreSeat<AnyLaw>>,
+) -> Option<Vec<StoreShard<AnyLaw>>>
+    requires devices { store.devices ≡ 32 }
+    requires seats { All (λ s. AreSeatsOf store_basis store.fronts.fronts.items s.seats.items) seats.items }
+{
+    let left = work_in_threads(rt, alloc, &store, seats).ok()?;
+    let (first, second) = both_left(&store, left)?;
+    closed(store, first, second)
 }
 
 /// Of each shard, how many turns it has, and how many writes were made.
@@ -255,16 +301,21 @@ fn tell_counts(shards: &[StoreShard<AnyLaw>], told: &mut String) -> Result<(), A
     Ok(())
 }
 
+/// Tells what the shards of a store count at which two threads were at work.
+fn tell_threads<R: Threads + Wait + Sync>(
+    rt: &R,
+    alloc: Global,
+    told: &mut String,
+) -> Result<(), AllocError> {
+    let (store, seats) = SharedStore::new(alloc, any_law(alloc)?, 32, 2)?;
+    let shards = shards_worked(rt, alloc, store, seats).ok_or(AllocError)?;
+    tell_counts(&shards, told)
+}
+
 #[test]
 fn two_threads_take_turns(rt: HostRuntime) -> Result<(), Fail> {
-    let alloc = rt.alloc();
-    let mut told = String::new(alloc);
-    let (store, seats) = SharedStore::new(alloc, any_law(alloc)?, 32, 2)?;
-    let mut left = work_in_threads(&rt, alloc, &store, seats)?;
-    let second = last_left(&store, &mut left)?;
-    let first = last_left(&store, &mut left)?;
-    let shards = closed(store, first, second).ok_or("not closed")?;
-    tell_counts(&shards, &mut told)?;
+    let mut told = String::new(rt.alloc());
+    tell_threads(&rt, rt.alloc(), &mut told)?;
     assert_eq!(rt; told.as_str(), THREADS);
     Ok(())
 }
