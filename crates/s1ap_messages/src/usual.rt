@@ -24,6 +24,7 @@ use s1ap_pdu::Pdu;
 use std::alloc::{AllocError, Global};
 
 /// The header of a message, the count of its IEs, and the IEs.
+#[inline(always)]
 fn parts(octets: &[u8]) -> Option<(u8, u8, u8, u8, &[u8])>
     ensures octets { IfSome result (λ x. octets.now ≡ x.0 ∷ x.1 ∷ x.2 ∷ counted (0 ∷ 0 ∷ x.3 ∷ x.4.now)) }
     ensures few { IfSome result (λ x. length (0 ∷ 0 ∷ x.3 ∷ x.4.now) < 16384) }
@@ -38,6 +39,7 @@ fn parts(octets: &[u8]) -> Option<(u8, u8, u8, u8, &[u8])>
 }
 
 /// The message that the octets are, where they are found to be its usual form.
+#[inline(always)]
 fn find_usual(alloc: Global, octets: &[u8]) -> Option<Pdu>
     ensures { IfSome result (λ p. (octets.now ≡ usual_octets p) × IsUsual p) }
 {

@@ -31,6 +31,7 @@ fn item(octets: &[u8], id: u16, criticality: Criticality) -> Option<&[u8]>
 }
 
 /// A list of one, or None for want of memory.
+#[inline(always)]
 fn list_of<T: Drop>(alloc: Global, item: T) -> Option<ListOf<T>>
     ensures { IfSome result (λ list. list ≡ item ∷ []) }
 {
@@ -42,6 +43,7 @@ fn list_of<T: Drop>(alloc: Global, item: T) -> Option<ListOf<T>>
 }
 
 /// An E-RAB that was set up, where all of the octets are it.
+#[inline(always)]
 #[tactic(auto, unfolding(crate::specs::Usual::done_octets))]
 fn done(octets: &[u8]) -> Option<ErabDone>
     ensures octets { IfSome result (λ erab. octets.now ≡ done_octets erab) }
@@ -72,6 +74,7 @@ pub fn erabs_done(alloc: Global, octets: &[u8]) -> Option<ErabsDone>
 }
 
 /// The NAS-PDU of an E-RAB that has one, where all of the octets are it.
+#[inline(always)]
 #[tactic(auto, unfolding(crate::specs::Usual::nas_octets))]
 fn nas(alloc: Global, octets: &[u8], present: bool) -> Option<Option<Octets>>
     ensures octets { IfSome result (λ nas. octets.now ≡ nas_octets nas) }

@@ -192,6 +192,7 @@ pub fn fields(alloc: Global, kind: MessageKind, octets: &[u8], count: u8) -> Opt
 }
 
 /// The kind of message whose header has these octets, as it is written.
+#[inline(always)]
 pub fn kind_of_header(outcome: u8, code: u8, criticality: u8) -> Option<MessageKind>
     ensures { IfSome result (λ kind. BeginsAs kind outcome code criticality) }
 {

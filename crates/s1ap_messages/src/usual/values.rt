@@ -197,6 +197,7 @@ fn stmsi(octets: &[u8]) -> Option<(Stmsi, &[u8])>
 }
 
 /// The S-TMSI of an INITIAL UE MESSAGE, which is its last IE, where it has one.
+#[inline(always)]
 pub fn last_stmsi(octets: &[u8]) -> Option<Option<Stmsi>>
     ensures octets { IfSome result (λ s. octets.now ≡ fields_octets (optional named.STMSI ∷ []) (option_map value.Stmsi s ∷ [])) }
     ensures right { IfSome result (λ s. IfSome (option_map value.Stmsi s) IsUsualValue) }
@@ -273,6 +274,7 @@ pub fn key(octets: &[u8]) -> Option<(&[u8], &[u8])>
 }
 
 /// The cause that one octet is, where it is a root of those of NAS.
+#[inline(always)]
 #[tactic(auto, unfolding(crate::specs::Usual::cause_octets, device_types::specs::Cause::cause_roots))]
 fn nas_cause(a: u8) -> Option<Cause>
     ensures octets { IfSome result (λ c. cause_octets c ≡ a ∷ []) }
@@ -289,6 +291,7 @@ fn nas_cause(a: u8) -> Option<Cause>
 }
 
 /// The cause that two octets are, where it is a root of those of the radio network.
+#[inline(always)]
 #[tactic(auto, unfolding(crate::specs::Usual::cause_octets, device_types::specs::Cause::cause_roots))]
 fn radio_cause(a: u8, b: u8) -> Option<Cause>
     ensures octets { IfSome result (λ c. cause_octets c ≡ a ∷ b ∷ []) }
@@ -331,6 +334,7 @@ pub fn cause(octets: &[u8]) -> Option<(Cause, &[u8])>
 }
 
 /// UE S1AP IDs that are both identities of a device, and what stands behind them.
+#[inline(always)]
 #[tactic(auto, unfolding(crate::specs::Usual::ids_octets))]
 pub fn ids(octets: &[u8]) -> Option<(UeIds, &[u8])>
     ensures octets { IfSome result (λ x. octets.now ≡ ie_octets named.UE_IDS level.reject (ids_octets x.0) ++ x.1.now) }
@@ -343,6 +347,7 @@ pub fn ids(octets: &[u8]) -> Option<(UeIds, &[u8])>
 }
 
 /// Octets in memory of their own, or None for want of memory.
+#[inline(always)]
 pub fn own(alloc: Global, octets: &[u8]) -> Option<Octets>
     ensures { IfSome result (λ o. o ≡ octets.now) }
 {
