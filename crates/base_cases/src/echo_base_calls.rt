@@ -218,6 +218,14 @@ const REFUSALS: &str = "\
 30 UnknownDevice imsi 262019876543210
 31 UnknownPair 1 1
 32 BadSession
+40 GtpHeader at 0
+41 GtpType 38 at 1
+42 GtpValue 93 at 12
+50 DiaHeader at 8
+51 DiaCommand 320 at 5
+52 DiaAvp 263 at 20
+53 MissingAvp 4294967295 at 160
+54 RepeatedAvp 1 at 44
 ";
 
 /// Adds a line with a refusal as it is printed.
@@ -271,11 +279,24 @@ fn put_others(text: &mut String) -> Result<(), Fail> {
     put(text, Reason::BadSession, 0)
 }
 
+/// What is refused in messages of the peers.
+fn put_peers(text: &mut String) -> Result<(), Fail> {
+    put(text, Reason::GtpHeader, 0)?;
+    put(text, Reason::GtpType(38), 1)?;
+    put(text, Reason::GtpValue(93), 12)?;
+    put(text, Reason::DiaHeader, 8)?;
+    put(text, Reason::DiaCommand(320), 5)?;
+    put(text, Reason::DiaAvp(263), 20)?;
+    put(text, Reason::MissingAvp(u32::MAX), 160)?;
+    put(text, Reason::RepeatedAvp(1), 44)
+}
+
 #[test]
 fn prints_refusals(rt: HostRuntime) -> Result<(), Fail> {
     let mut text = String::new(rt.alloc());
     put_s1ap(&mut text)?;
     put_others(&mut text)?;
+    put_peers(&mut text)?;
     assert_eq!(rt; text.as_str(), REFUSALS);
     Ok(())
 }

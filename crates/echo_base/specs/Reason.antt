@@ -1,10 +1,12 @@
 -- The reasons of refusals: their numbers, names and texts.
-use Rattle.std.specs.Prelude.{ℕ, ◌-◌, ◌/◌, ◌%◌, false, List, [], ◌∷◌, ◌++◌, length, replicate, slice_index_or, codes}
+use Rattle.std.specs.Prelude.{ℕ, nat_lt, if◌then◌else◌, ◌-◌, ◌/◌, ◌%◌, false, List, [], ◌∷◌, ◌++◌, length, replicate, slice_index_or, codes}
 use Rattle.std.specs.Fmt.{decimal, digit_glyph}
 use Rattle.echo_base.specs.declared.identity.Identity.{Identity}
 use Rattle.echo_base.specs.declared.identity.Identity.TheVariants as identity
 use Rattle.echo_base.specs.declared.reason.Reason.{Reason}
-use Rattle.echo_base.specs.declared.reason.Reason.TheVariants.{Truncated, LongLength, NonZeroPadding, NotMinimal, OutOfRange, TooLong, SequenceExtension, BadChoice, OtherProcedure, BadCriticality, MissingIe, RepeatedIe, TrailingBytes, WrongDirection, NasShort, NasDiscriminator, NasKind, NasIdentity, BadJson, MissingColumn, BadColumn, RepeatedImsi, RepeatedTmsi, TableFull, BadSection, BadLine, TooManyLines, LineTooLong, BadHex, UnknownDevice, UnknownPair, BadSession}
+use Rattle.echo_base.specs.declared.reason.Shown.{Shown}
+use Rattle.echo_base.specs.declared.reason.Shown.TheVariants.{Nothing, Placed, Code, Octet, Device, Pair}
+use Rattle.echo_base.specs.declared.reason.Reason.TheVariants.{Truncated, LongLength, NonZeroPadding, NotMinimal, OutOfRange, TooLong, SequenceExtension, BadChoice, OtherProcedure, BadCriticality, MissingIe, RepeatedIe, TrailingBytes, WrongDirection, NasShort, NasDiscriminator, NasKind, NasIdentity, BadJson, MissingColumn, BadColumn, RepeatedImsi, RepeatedTmsi, TableFull, BadSection, BadLine, TooManyLines, LineTooLong, BadHex, UnknownDevice, UnknownPair, BadSession, GtpHeader, GtpType, GtpValue, DiaHeader, DiaCommand, DiaAvp, MissingAvp, RepeatedAvp}
 
 abbrev pub reason_number : Reason → ℕ
 reason_number Truncated = 1
@@ -39,6 +41,14 @@ reason_number BadHex = 29
 reason_number (UnknownDevice identity) = 30
 reason_number (UnknownPair station enb) = 31
 reason_number BadSession = 32
+reason_number GtpHeader = 40
+reason_number (GtpType code) = 41
+reason_number (GtpValue code) = 42
+reason_number DiaHeader = 50
+reason_number (DiaCommand code) = 51
+reason_number (DiaAvp code) = 52
+reason_number (MissingAvp code) = 53
+reason_number (RepeatedAvp code) = 54
 
 -- the bare names by their numbers, where 0 has none
 abbrev pub names : List (List ℕ)
@@ -77,9 +87,25 @@ names = []
     ∷ codes "BadSession"
     ∷ []
 
+-- those of GTPv2-C, from 40 on
+abbrev pub gtp_names : List (List ℕ)
+gtp_names = codes "GtpHeader"
+    ∷ codes "GtpType"
+    ∷ codes "GtpValue"
+    ∷ []
+
+-- those of Diameter, from 50 on
+abbrev pub dia_names : List (List ℕ)
+dia_names = codes "DiaHeader"
+    ∷ codes "DiaCommand"
+    ∷ codes "DiaAvp"
+    ∷ codes "MissingAvp"
+    ∷ codes "RepeatedAvp"
+    ∷ []
+
 -- the bare name of the reason with that number, and nothing where no reason has it
 abbrev pub name_of_number : ℕ → List ℕ
-name_of_number number = slice_index_or names number []
+name_of_number number = if nat_lt number 40 then slice_index_or names number [] else (if nat_lt number 50 then slice_index_or gtp_names (number - 40) [] else slice_index_or dia_names (number - 50) [])
 
 abbrev pub reason_name : Reason → List ℕ
 reason_name reason = name_of_number (reason_number reason)
@@ -100,37 +126,58 @@ identity_text (identity.Tmsi tmsi) = codes "tmsi " ++ decimal tmsi
 abbrev pub at_place : ℕ → List ℕ
 at_place place = codes " at " ++ decimal place
 
+-- what of a reason stands behind its name
+abbrev pub shown_of : Reason → Shown
+shown_of Truncated = Placed
+shown_of LongLength = Placed
+shown_of NonZeroPadding = Placed
+shown_of NotMinimal = Placed
+shown_of OutOfRange = Placed
+shown_of TooLong = Placed
+shown_of SequenceExtension = Placed
+shown_of BadChoice = Placed
+shown_of (OtherProcedure code) = Code code
+shown_of BadCriticality = Placed
+shown_of (MissingIe id) = Code id
+shown_of (RepeatedIe id) = Code id
+shown_of TrailingBytes = Placed
+shown_of WrongDirection = Placed
+shown_of NasShort = Nothing
+shown_of NasDiscriminator = Nothing
+shown_of (NasKind octet) = Octet octet
+shown_of NasIdentity = Nothing
+shown_of BadJson = Nothing
+shown_of (MissingColumn column) = Nothing
+shown_of (BadColumn column) = Nothing
+shown_of RepeatedImsi = Nothing
+shown_of RepeatedTmsi = Nothing
+shown_of TableFull = Nothing
+shown_of BadSection = Nothing
+shown_of BadLine = Nothing
+shown_of TooManyLines = Nothing
+shown_of LineTooLong = Nothing
+shown_of BadHex = Nothing
+shown_of (UnknownDevice identity) = Device identity
+shown_of (UnknownPair station enb) = Pair station enb
+shown_of BadSession = Nothing
+shown_of GtpHeader = Placed
+shown_of (GtpType code) = Code code
+shown_of (GtpValue code) = Code code
+shown_of DiaHeader = Placed
+shown_of (DiaCommand code) = Code code
+shown_of (DiaAvp code) = Code code
+shown_of (MissingAvp code) = Code code
+shown_of (RepeatedAvp code) = Code code
+
+-- its text, where the refusal is at that place
+abbrev pub shown_text : Shown → ℕ → List ℕ
+shown_text Nothing place = []
+shown_text Placed place = at_place place
+shown_text (Code code) place = codes " " ++ decimal code ++ at_place place
+shown_text (Octet octet) place = codes " " ++ hex_octet octet
+shown_text (Device identity) place = codes " " ++ identity_text identity
+shown_text (Pair station enb) place = codes " " ++ decimal station ++ codes " " ++ decimal enb
+
 -- what stands behind the name, where the refusal is at that place
 abbrev pub detail_of : Reason → ℕ → List ℕ
-detail_of Truncated place = at_place place
-detail_of LongLength place = at_place place
-detail_of NonZeroPadding place = at_place place
-detail_of NotMinimal place = at_place place
-detail_of OutOfRange place = at_place place
-detail_of TooLong place = at_place place
-detail_of SequenceExtension place = at_place place
-detail_of BadChoice place = at_place place
-detail_of (OtherProcedure code) place = codes " " ++ decimal code ++ at_place place
-detail_of BadCriticality place = at_place place
-detail_of (MissingIe id) place = codes " " ++ decimal id ++ at_place place
-detail_of (RepeatedIe id) place = codes " " ++ decimal id ++ at_place place
-detail_of TrailingBytes place = at_place place
-detail_of WrongDirection place = at_place place
-detail_of NasShort place = []
-detail_of NasDiscriminator place = []
-detail_of (NasKind octet) place = codes " " ++ hex_octet octet
-detail_of NasIdentity place = []
-detail_of BadJson place = []
-detail_of (MissingColumn column) place = []
-detail_of (BadColumn column) place = []
-detail_of RepeatedImsi place = []
-detail_of RepeatedTmsi place = []
-detail_of TableFull place = []
-detail_of BadSection place = []
-detail_of BadLine place = []
-detail_of TooManyLines place = []
-detail_of LineTooLong place = []
-detail_of BadHex place = []
-detail_of (UnknownDevice identity) place = codes " " ++ identity_text identity
-detail_of (UnknownPair station enb) place = codes " " ++ decimal station ++ codes " " ++ decimal enb
-detail_of BadSession place = []
+detail_of reason place = shown_text (shown_of reason) place

@@ -29,4 +29,8 @@ pub enum Column {
     AmbrUl,
     /// The tracking areas where the device is not served.
     Forbidden,
+    /// The access point name of a second connection. No row needs it, and none is read yet.
+    Apn2,
+    /// The device's IPv4 address on its second connection. No row needs it, and none is read yet.
+    Ip2,
 }

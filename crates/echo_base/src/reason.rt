@@ -1,11 +1,12 @@
 //! Why input is refused.
 ghost use Rattle.std.specs.Prelude.{◌≡◌};
-ghost use Rattle.echo_base.specs.Reason.{reason_number, name_of_number, reason_name};
+ghost use Rattle.echo_base.specs.Reason.{reason_number, name_of_number, reason_name, shown_of};
 
 use crate::column::Column;
 use crate::identity::Identity;
 
-/// Why input is refused. Each reason has a number, from 1 on in this order.
+/// Why input is refused. Each reason has a number, in this order: from 1 on, from 40 on those of GTPv2-C, and from 50 on those of
+/// Diameter.
 #[derive(Clone, Copy, Debug, PartialEq, Eq)]
 pub enum Reason {
     /// The octets end within a field.
@@ -72,9 +73,75 @@ pub enum Reason {
     UnknownPair(u16, u32),
     /// A session of another form than its own.
     BadSession,
+    /// The first octet of a GTPv2-C message is not that of version 2 with a TEID and no piggybacked message (3GPP TS 29.274, 5.1).
+    GtpHeader,
+    /// A GTPv2-C message type that is not supported (TS 29.274, 6.1).
+    GtpType(u8),
+    /// A GTPv2-C information element of another form than its type's, with its type (TS 29.274, 8).
+    GtpValue(u8),
+    /// The version of a Diameter message is not 1, or its application not S6a (RFC 6733, 3; 3GPP TS 29.272, 7.1.8).
+    DiaHeader,
+    /// A Diameter command that is not supported, with its code (TS 29.272, 7.2.2).
+    DiaCommand(u32),
+    /// An AVP of another form than its code's, with its code.
+    DiaAvp(u32),
+    /// A needed AVP is missing, with its code.
+    MissingAvp(u32),
+    /// A needed AVP comes twice, with its code.
+    RepeatedAvp(u32),
+}
+
+/// What of a reason is printed behind its name.
+#[derive(Clone, Copy)]
+pub(crate) enum Shown {
+    /// Nothing.
+    Nothing,
+    /// The place of the refusal.
+    Placed,
+    /// A number, and the place.
+    Code(u32),
+    /// An octet.
+    Octet(u8),
+    /// An identity of a device.
+    Device(Identity),
+    /// A base station, and an eNB UE S1AP ID there.
+    Pair(u16, u32),
 }
 
 impl Reason {
+    /// What is printed behind the name.
+    pub(crate) fn shown(self) -> Shown
+        ensures { result ≡ shown_of self }
+    {
+        match self {
+            Reason::Truncated
+            | Reason::LongLength
+            | Reason::NonZeroPadding
+            | Reason::NotMinimal
+            | Reason::OutOfRange
+            | Reason::TooLong
+            | Reason::SequenceExtension
+            | Reason::BadChoice
+            | Reason::BadCriticality
+            | Reason::TrailingBytes
+            | Reason::WrongDirection
+            | Reason::GtpHeader
+            | Reason::DiaHeader => Shown::Placed,
+            Reason::OtherProcedure(code) | Reason::GtpType(code) | Reason::GtpValue(code) => {
+                Shown::Code(u32::from(code))
+            }
+            Reason::MissingIe(id) | Reason::RepeatedIe(id) => Shown::Code(u32::from(id)),
+            Reason::DiaCommand(command) => Shown::Code(command),
+            Reason::DiaAvp(avp) | Reason::MissingAvp(avp) | Reason::RepeatedAvp(avp) => {
+                Shown::Code(avp)
+            }
+            Reason::NasKind(octet) => Shown::Octet(octet),
+            Reason::UnknownDevice(identity) => Shown::Device(identity),
+            Reason::UnknownPair(station, enb) => Shown::Pair(station, enb),
+            _ => Shown::Nothing,
+        }
+    }
+
     /// The reason's number.
     pub fn number(&self) -> u8
         ensures { result ≡ reason_number self.now }
@@ -112,6 +179,14 @@ impl Reason {
             Reason::UnknownDevice(_) => 30,
             Reason::UnknownPair(_, _) => 31,
             Reason::BadSession => 32,
+            Reason::GtpHeader => 40,
+            Reason::GtpType(_) => 41,
+            Reason::GtpValue(_) => 42,
+            Reason::DiaHeader => 50,
+            Reason::DiaCommand(_) => 51,
+            Reason::DiaAvp(_) => 52,
+            Reason::MissingAvp(_) => 53,
+            Reason::RepeatedAvp(_) => 54,
         }
     }
 
@@ -160,6 +235,14 @@ pub fn name_of_number(number: u8) -> &'static str
         30 => "UnknownDevice",
         31 => "UnknownPair",
         32 => "BadSession",
+        40 => "GtpHeader",
+        41 => "GtpType",
+        42 => "GtpValue",
+        50 => "DiaHeader",
+        51 => "DiaCommand",
+        52 => "DiaAvp",
+        53 => "MissingAvp",
+        54 => "RepeatedAvp",
         _ => "",
     }
 }

@@ -4,6 +4,7 @@ ghost use Rattle.echo_base.specs.Reason.{hex_octet};
 ghost use Rattle.echo_base.specs.Answer.{refused};
 ghost use Rattle.echo_base.specs.Refusal.{refusal_text};
 
+use crate::reason::Shown;
 use crate::{OutOfMemory, Reason};
 use std::alloc::AllocFailed;
 use std::fmt;
@@ -13,11 +14,11 @@ use std::fmt;
 pub struct Refusal {
     /// Why.
     pub reason: Reason,
-    /// The octet's place for what is refused in a PDU or a session, and else 0.
+    /// The octet's place for what is refused in a PDU, a session or a message of a peer, and else 0.
     pub place: u64,
 }
 
-/// The refusal of what is not in a PDU or a session, which has the place 0.
+/// The refusal of what is in no PDU, session or message of a peer, which has the place 0.
 pub fn refused(reason: Reason) -> Refusal
     ensures { result ≡ refused reason }
 {
@@ -38,7 +39,7 @@ impl fmt::Display for HexOctet {
     }
 }
 
-/// Prints the reason's number and name, what the reason carries, and for a refusal in a PDU its place.
+/// Prints the reason's number and name, what the reason carries, and for a refusal in a PDU or a message of a peer its place.
 impl fmt::Display for Refusal {
     ghost output = { λ r. Some (refusal_text r) };
 
@@ -47,41 +48,16 @@ impl fmt::Display for Refusal {
         let number = reason.number();
         let name = reason.name();
         write!(f, "{number} {name}")?;
-        match reason {
-            Reason::Truncated
-            | Reason::LongLength
-            | Reason::NonZeroPadding
-            | Reason::NotMinimal
-            | Reason::OutOfRange
-            | Reason::TooLong
-            | Reason::SequenceExtension
-            | Reason::BadChoice
-            | Reason::BadCriticality
-            | Reason::TrailingBytes
-            | Reason::WrongDirection => write!(f, " at {place}"),
-            Reason::OtherProcedure(code) => write!(f, " {code} at {place}"),
-            Reason::MissingIe(id) | Reason::RepeatedIe(id) => write!(f, " {id} at {place}"),
-            Reason::NasKind(octet) => {
+        match reason.shown() {
+            Shown::Nothing => Ok(()),
+            Shown::Placed => write!(f, " at {place}"),
+            Shown::Code(code) => write!(f, " {code} at {place}"),
+            Shown::Octet(octet) => {
                 let octet = HexOctet(octet);
                 write!(f, " {octet}")
             }
-            Reason::UnknownDevice(identity) => write!(f, " {identity}"),
-            Reason::UnknownPair(station, enb) => write!(f, " {station} {enb}"),
-            Reason::NasShort
-            | Reason::NasDiscriminator
-            | Reason::NasIdentity
-            | Reason::BadJson
-            | Reason::MissingColumn(_)
-            | Reason::BadColumn(_)
-            | Reason::RepeatedImsi
-            | Reason::RepeatedTmsi
-            | Reason::TableFull
-            | Reason::BadSection
-            | Reason::BadLine
-            | Reason::TooManyLines
-            | Reason::LineTooLong
-            | Reason::BadHex
-            | Reason::BadSession => Ok(()),
+            Shown::Device(identity) => write!(f, " {identity}"),
+            Shown::Pair(station, enb) => write!(f, " {station} {enb}"),
         }
     }
 }
