@@ -23,6 +23,7 @@ AuthRequest { rand: ListOf { items: [1] }, autn: ListOf { items: [2] } }
 AttachAccept { plmn: 1, tac: 2, pti: 3, apn: ListOf { items: [97] }, ip: 4 }
 Message { number: 1, station: 2, enb: 3, body: Response { res: ListOf { items: [160, 161] } } }
 Message { number: 2, station: 2, enb: 3, body: ReleaseAsked { cause: CauseCode { group: 0, extended: true, index: 63 } } }
+Message { number: 3, station: 2, enb: 3, body: Data }
 Answer { lane: Subscriber, k: 1, answer: Vectors(ListOf { items: [1] }, ListOf { items: [2] }, ListOf { items: [3] }, ListOf { items: [4] }) }
 Created(1, 2, 3)
 Accepted(Created(4, 5, 6))
@@ -31,6 +32,7 @@ Ahead(7)
 Nas { station: 1, enb: 2, nas: SecurityCommand { eea: 224, eia: 192 } }
 Setup { station: 1, enb: 2, dl: 3, ul: 4, sgw: 5, teid: 6, eea: 7, eia: 8, key: Key { octets: ListOf { items: [17] } }, accept: Yes { plmn: 9, tac: 10, pti: 11, ip: 12 } }
 Release { station: 1, enb: 2, cause: CauseCode { group: 2, extended: false, index: 1 } }
+Page { plmn: 1, tac: 2 }
 Modify(1, 2)
 Purge
 Session { stage: Detached, link: Off, plmn: 0, tac: 0, eea: 0, eia: 0, pti: 0, res: ListOf { items: [] }, key: Key { octets: ListOf { items: [] } }, \
@@ -299,6 +301,7 @@ fn put_inputs(alloc: Global, text: &mut String) -> Result<(), Fail> {
     put(text, response(alloc))?;
     let cause = cause(0, true, 63);
     put(text, Ok(message(2, Body::ReleaseAsked { cause })))?;
+    put(text, Ok(message(3, Body::Data)))?;
     put(text, vectors(alloc))?;
     put(text, Ok(Answer::Created(1, 2, 3)))?;
     put(text, Ok(Offer::Accepted(Answer::Created(4, 5, 6))))?;
@@ -313,6 +316,7 @@ fn put_effects(alloc: Global, text: &mut String) -> Result<(), Fail> {
     put(text, Ok(Down::Nas { station, enb, nas }))?;
     put(text, setup(alloc))?;
     put(text, Ok(release()))?;
+    put(text, Ok(Down::Page { plmn: 1, tac: 2 }))?;
     put(text, Ok(GwCall::Modify(1, 2)))?;
     put(text, Ok(SubCall::Purge))?;
     put(text, Ok(Session::opening(alloc)))?;

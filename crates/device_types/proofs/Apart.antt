@@ -91,6 +91,7 @@ message row s m bodies.ContextFailed = refused (here s m) s.stage
 message row s m (bodies.ReleaseAsked cause) = asked (here s m) s.stage
 message row s m bodies.Released = one (here s m && (number s.stage == 13))
 message row s m (bodies.Capability octets) = one (here s m && is_settled s.stage)
+message row s m bodies.Data = one (number s.stage == 14)
 
 answer : (row : Subscriber) (s : Session) (a : Answer) → count_by (λ r. r.fits) (attach_answer s a ++ service_answer s a ++ [] ++ detach_answer s a) ≤ 1
 answer row s (answers.Vectors rand autn res key) = one (number s.stage == 1)

@@ -119,6 +119,10 @@ connected_stage : (stage : Stage) (addr teid : ℕ) → (number stage == 11) ≡
 connected_stage stages.Connected addr teid h = inl refl
 connected_stage _ addr teid h = absurd (cc)
 
+idle_stage : (stage : Stage) (addr teid : ℕ) → (number stage == 14) ≡ true → AreCalls (awaited_in stage addr teid) []
+idle_stage stages.Idle addr teid h = inl refl
+idle_stage _ addr teid h = absurd (cc)
+
 gone_stage : (stage : Stage) (registered : Bool) (addr teid : ℕ) → is_gone stage registered ≡ true → AreCalls (awaited_in stage addr teid) []
 gone_stage stages.Detached registered addr teid h = inl refl
 gone_stage stages.Releasing registered addr teid h = inl refl
@@ -178,6 +182,7 @@ message row s m bodies.ContextFailed = (λ h. dropped Rattle.device_types.specs.
 message row s m (bodies.ReleaseAsked cause) = (λ h. dropped cause s, ((λ h. freed cause s), tt))
 message row s m bodies.Released = (λ h. released s.registered s, tt)
 message row s m (bodies.Capability octets) = (λ h. settled_stage s.stage s.side_addr s.side_teid (both (here s m) _ h).1, tt)
+message row s m bodies.Data = (λ h. idle_stage s.stage s.side_addr s.side_teid h, tt)
 
 answer : (row : Subscriber) (s : Session) (a : Answer) → RulesCall s (attach_answer s a ++ service_answer s a ++ [] ++ detach_answer s a)
 answer row s (answers.Vectors rand autn res key) = (λ h. inl refl, tt)

@@ -27,13 +27,13 @@ use Rattle.device_types.specs.declared.session.Stage.{Stage}
 use Rattle.device_types.specs.declared.session.Stage.TheVariants as stages
 use Rattle.device_types.specs.declared.step.Step.{Step}
 use Rattle.device_types.specs.declared.subscriber.Subscriber.{Subscriber}
-use Rattle.device_types.specs.Acts.{Act, made, follow, run, tells, tells_unless, tells_to, sets_up, releases, moves_connection, left_behind, drops_ue, drops_at, frees_bearers, frees_at, normal_release, authentication_failure, detach, unspecified, nas_to, station_of, enb_of}
+use Rattle.device_types.specs.Acts.{Act, made, follow, run, tells, tells_unless, tells_to, sets_up, releases, moves_connection, left_behind, drops_ue, drops_at, frees_bearers, frees_at, normal_release, authentication_failure, detach, unspecified, nas_to, page, pages, station_of, enb_of}
 use Rattle.device_types.specs.AreaUpdate.{area_message}
 use Rattle.device_types.specs.Attach.{attach_message, attach_answer}
 use Rattle.device_types.specs.Detach.{detach_message, detach_answer, leaves_at, leaves}
 use Rattle.device_types.specs.Effect.{IsSent, IsOn, IsConnectedIn, IsConnected}
 use Rattle.device_types.specs.Input.{IsInput}
-use Rattle.device_types.specs.Message.{IsPair}
+use Rattle.device_types.specs.Message.{IsPair, IsFrom}
 use Rattle.device_types.specs.Rule.{Rule, fitting, number, here, is_pair, is_served, is_attaching, forbidden}
 use Rattle.device_types.specs.Service.{service_message, service_answer}
 use Rattle.device_types.specs.Session.{IsLink, IsSession}
@@ -208,11 +208,15 @@ released_in false s = record { connected = tt; sent = All-nil IsSent }
 same_stage : (s : Session) → IsConnected s → (n : ℕ) → Goes (made (record s { radio = n }) [])
 same_stage s c n = record { connected = c; sent = All-nil IsSent }
 
+-- a paging goes to no connection
+paged : (s : Session) → IsConnected s → Goes (pages s)
+paged s c = record { connected = c; sent = All-cons IsSent (page s) [] tt (All-nil IsSent) }
+
 -- a later update fits on the session's own connection
 later : (first h c b : Bool) → (not first && h && c && b) ≡ true → h ≡ true
 later first h c b e = (both (not first) h (both (not first && h) c (both (not first && h && c) b e).0).0).1
 
-message : (row : Subscriber) (s : Session) (m : Message) (b : Body) → IsPair m.station m.enb → IsLink s.link → IsConnected s → RulesGo s (attach_message row s m b ++ service_message s m b ++ area_message row s m b ++ detach_message s m b)
+message : (row : Subscriber) (s : Session) (m : Message) (b : Body) → IsFrom b m.station m.enb → IsLink s.link → IsConnected s → RulesGo s (attach_message row s m b ++ service_message s m b ++ area_message row s m b ++ detach_message s m b)
 message row s m (bodies.Attach plmn tac eea eia pti) p l c = (
   inr (inl (moved m.station m.enb p, (told (nas.AttachReject 12), (dropped normal_release, tt)))),
   (inr (inl (moved m.station m.enb p, ((λ t on. silent _ on), ((λ t on. making _ _ on tt), ((λ t on. silent _ on), tt))))), tt),
@@ -267,6 +271,7 @@ message row s m (bodies.ReleaseAsked cause) p l c =
     (inl ((λ h. here_on s m (is_attaching s.stage) l h), (dropped cause, tt)), (inl ((λ h. here_on s m ((number s.stage == 10) || (number s.stage == 11)) l h), (freed cause, tt)), tt))
 message row s m bodies.Released p l c = (inr (inr (λ h. released_in s.registered s)), tt)
 message row s m (bodies.Capability octets) p l c = (inr (inr (λ h. same_stage s c _)), tt)
+message row s m bodies.Data p l c = (inr (inr (λ h. paged s c)), tt)
 
 -- a row for an answer fits in a stage where the session has a connection
 answer : (s : Session) (a : Answer) → IsConnected s → RulesGo s (attach_answer s a ++ service_answer s a ++ [] ++ detach_answer s a)

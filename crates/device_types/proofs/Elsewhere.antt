@@ -47,6 +47,7 @@ unfit row s m bodies.ContextFailed h c = rw h refl
 unfit row s m (bodies.ReleaseAsked cause) h c = rw h refl
 unfit row s m bodies.Released h c = rw h refl
 unfit row s m (bodies.Capability octets) h c = rw h refl
+unfit row s m bodies.Data h c = absurd (cc)
 
 pub fits_none : (row : Subscriber) (s : Session) (m : Message) → IsElsewhere s m → comes m.body ≡ false → fit_count row s (inputs.Message m) ≡ 0
 unfolding step_table

@@ -157,6 +157,7 @@ message row s m bodies.ContextFailed = (inl ((dropped unspecified, tt), lit≤ t
 message row s m (bodies.ReleaseAsked cause) = (inl ((dropped cause, tt), lit≤ tt), (inl ((freed cause, tt), lit≤ tt), tt))
 message row s m bodies.Released = (inl (((λ t. lit≤ tt), ((λ t. lit≤ tt), tt)), lit≤ tt), tt)
 message row s m (bodies.Capability octets) = (inl (((λ t. lit≤ tt), tt), lit≤ tt), tt)
+message row s m bodies.Data = (inl (((λ t. lit≤ tt), tt), lit≤ tt), tt)
 
 answer : (s : Session) (a : Answer) → RulesFew (attach_answer s a ++ service_answer s a ++ [] ++ detach_answer s a)
 answer s (answers.Vectors rand autn res key) = (inl (((λ t. lit≤ tt), ((λ t. lit≤ tt), ((λ t. lit≤ tt), tt))), lit≤ tt), tt)

@@ -6,7 +6,7 @@ use Rattle.device_types.specs.declared.cause.CauseCode.{CauseCode}
 use Rattle.device_types.specs.declared.down.Accept.{Accept}
 use Rattle.device_types.specs.declared.down.Accept.TheVariants as accepts
 use Rattle.device_types.specs.declared.down.Down.{Down}
-use Rattle.device_types.specs.declared.down.Down.TheVariants.{Nas, Setup, Release}
+use Rattle.device_types.specs.declared.down.Down.TheVariants.{Nas, Setup, Release, Page}
 use Rattle.device_types.specs.declared.effect.Effect.{Effect}
 use Rattle.device_types.specs.declared.effect.Effect.TheVariants as effects
 use Rattle.device_types.specs.declared.input.Answer.{Answer}
@@ -36,7 +36,7 @@ use Rattle.device_types.specs.Down.{IsDown, IsReceiver, AreRates, IsTunnel, AreA
 use Rattle.device_types.specs.Effect.{IsWritable}
 use Rattle.device_types.specs.Input.{IsInput}
 use Rattle.device_types.specs.Keys.{IsKey, full}
-use Rattle.device_types.specs.Message.{IsArea, IsPair, IsBody}
+use Rattle.device_types.specs.Message.{IsArea, IsPair, IsFrom, IsBody}
 use Rattle.device_types.specs.Nas.{IsNasOut, HasNasFields}
 use Rattle.device_types.specs.Octets.{AreOctets}
 use Rattle.device_types.specs.Rule.{Rule, fitting}
@@ -91,6 +91,7 @@ abbrev DownIs : (CauseCode → Type 0) → Down → Type 0
 DownIs C (Nas station enb message) = IsReceiver station enb × IsNasOut message × HasNasFields message
 DownIs C (Setup station enb dl ul sgw teid eea eia key accept) = IsReceiver station enb × AreRates dl ul × IsTunnel sgw teid × AreAlgorithms eea eia × IsKey key × IsAccept accept
 DownIs C (Release station enb cause) = IsReceiver station enb × C cause
+DownIs C (Page plmn tac) = IsArea plmn tac
 
 abbrev EffectIs : (CauseCode → Type 0) → Effect → Type 0
 EffectIs C (effects.Down down) = DownIs C down
@@ -101,6 +102,7 @@ down_is : (down : Down) → DownIs IsCauseCode down → IsDown down
 down_is (Nas station enb message) h = h
 down_is (Setup station enb dl ul sgw teid eea eia key accept) h = h
 down_is (Release station enb cause) h = h
+down_is (Page plmn tac) h = h
 
 writable : (effect : Effect) → EffectIs IsCauseCode effect → IsWritable effect
 writable (effects.Down down) h = down_is down h
@@ -242,7 +244,7 @@ full_key (octet ∷ octets) k = k
 
 -- ---- the table
 
-message : (C : CauseCode → Type 0) (k : (c : CauseCode) → IsCauseCode c → C c) (row : Subscriber) (s : Session) → Ranged C s → (m : Message) (b : Body) → IsPair m.station m.enb → IsBody b → RulesRight C (attach_message row s m b ++ service_message s m b ++ area_message row s m b ++ detach_message s m b)
+message : (C : CauseCode → Type 0) (k : (c : CauseCode) → IsCauseCode c → C c) (row : Subscriber) (s : Session) → Ranged C s → (m : Message) (b : Body) → IsFrom b m.station m.enb → IsBody b → RulesRight C (attach_message row s m b ++ service_message s m b ++ area_message row s m b ++ detach_message s m b)
 message C k row s q m (bodies.Attach plmn tac eea eia pti) p i =
     let n = k normal_release (nas_code 0 (lit< tt)) in (
       (moved C n _ _ p, (told C (nas.AttachReject 12) tt (lit< tt), (dropped C normal_release n, tt))),
@@ -287,6 +289,7 @@ message C k row s q m bodies.ContextFailed p i =
 message C k row s q m (bodies.ReleaseAsked cause) p i = ((dropped C cause (k cause i), tt), ((freed C cause (k cause i), tt), tt))
 message C k row s q m bodies.Released p i = (((λ t r. silent C _ (with_link C Off tt t r)), ((λ t r. silent C _ r), tt)), tt)
 message C k row s q m (bodies.Capability octets) p i = (((λ t r. silent C _ (r.0, r.1, r.2, r.3, r.4, r.5, r.6, r.7, radio_low (length octets))), tt), tt)
+message C k row s q m bodies.Data p i = (((λ t r. making C _ _ r r.1), tt), tt)
 
 answer : (C : CauseCode → Type 0) (row : Subscriber) (s : Session) → Ranged C s → (a : Answer) → IsAnswer a → RulesRight C (attach_answer s a ++ service_answer s a ++ [] ++ detach_answer s a)
 answer C row s q (answers.Vectors rand autn res key) i =

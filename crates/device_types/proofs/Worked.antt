@@ -1,7 +1,8 @@
 -- Worked runs of the machine alone, computed: the cheapest test of the step table.
-use Rattle.std.proofs.Common.{◌≡◌, ℕ, true, false, List, [], ◌∷◌, length, refl}
+use Rattle.std.proofs.Common.{◌≡◌, ℕ, true, false, List, [], ◌∷◌, length, drop, refl}
 use Rattle.device_types.specs.declared.cause.CauseCode.{CauseCode}
-use Rattle.device_types.specs.declared.down.Down.TheVariants.{Nas, Release}
+use Rattle.device_types.specs.declared.down.Down.TheVariants.{Nas, Setup, Release, Page}
+use Rattle.device_types.specs.declared.down.Accept.TheVariants.{No}
 use Rattle.device_types.specs.declared.effect.Effect.TheVariants as effects
 use Rattle.device_types.specs.declared.effect.GwCall.TheVariants as gateway
 use Rattle.device_types.specs.declared.effect.SubCall.TheVariants as subscriber
@@ -61,6 +62,19 @@ day =
 refused : List Message
 refused = from 1 1 (bodies.Attach 0x02f839 1 224 224 1) ∷ from 2 1 (bodies.Response (3 ∷ 5 ∷ [])) ∷ []
 
+-- a notice, from no base station
+notice : ℕ → Message
+notice number = record { number = number; station = 0; enb = 0; body = bodies.Data }
+
+-- a notice before the device attaches; attach; a notice; release; a notice; service; a notice
+waiting : List Message
+waiting =
+    notice 1
+    ∷ from 2 1 (bodies.Attach 0x02f839 1 224 224 1) ∷ from 3 1 (bodies.Response (3 ∷ 4 ∷ [])) ∷ from 4 1 bodies.Secured
+    ∷ from 5 1 (bodies.ContextDone 12 13) ∷ from 6 1 bodies.AttachDone ∷ notice 7
+    ∷ from 8 1 (bodies.ReleaseAsked inactivity) ∷ from 9 1 bodies.Released ∷ notice 10
+    ∷ from 11 2 bodies.Service ∷ notice 12 ∷ []
+
 attach-steps : length (alone_of row attach) ≡ 10
 unfolding alone_of step_table step_of moves_connection drops_ue frees_bearers row attach from
 attach-steps = refl
@@ -92,3 +106,17 @@ refused-steps = refl
 refused-downs : effects_of lanes.Down (alone_of row refused) ≡ effects.Down (Nas 1 1 (AuthRequest (1 ∷ []) (2 ∷ []))) ∷ effects.Down (Nas 1 1 AuthReject) ∷ effects.Down (Release 1 1 (record { group = 2; extended = false; index = 1 })) ∷ []
 unfolding alone_of step_table step_of moves_connection drops_ue frees_bearers row refused from
 refused-downs = refl
+
+-- each message makes a step, and so do the five answers
+waiting-steps : length (alone_of row waiting) ≡ 17
+unfolding alone_of step_table step_of moves_connection drops_ue frees_bearers row waiting notice from inactivity
+waiting-steps = refl
+
+-- the third notice alone pages the device, and the request that follows sets up its context
+waiting-downs : drop 4 (effects_of lanes.Down (alone_of row waiting)) ≡ effects.Down (Page 0x02f839 1) ∷ effects.Down (Setup 1 2 10 11 8 9 224 224 (5 ∷ []) No) ∷ []
+unfolding alone_of step_table step_of moves_connection drops_ue frees_bearers row waiting notice from inactivity
+waiting-downs = refl
+
+waiting-last : (session_of (alone_of row waiting)).stage ≡ stages.Connecting
+unfolding alone_of step_table step_of moves_connection drops_ue frees_bearers row waiting notice from inactivity
+waiting-last = refl

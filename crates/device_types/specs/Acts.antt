@@ -2,7 +2,7 @@
 use Rattle.std.specs.Prelude.{ℕ, ◌==◌, Bool, if◌then◌else◌, ◌&&◌, true, false, List, [], ◌∷◌, ◌++◌}
 use Rattle.device_types.specs.declared.cause.CauseCode.{CauseCode}
 use Rattle.device_types.specs.declared.down.Accept.{Accept}
-use Rattle.device_types.specs.declared.down.Down.TheVariants.{Nas, Setup, Release}
+use Rattle.device_types.specs.declared.down.Down.TheVariants.{Nas, Setup, Release, Page}
 use Rattle.device_types.specs.declared.effect.Effect.{Effect}
 use Rattle.device_types.specs.declared.effect.Effect.TheVariants as effects
 use Rattle.device_types.specs.declared.effect.GwCall.{GwCall}
@@ -105,6 +105,13 @@ release s = effects.Down (Release (station_of s.link) (enb_of s.link) s.cause)
 
 abbrev pub releases : Act
 releases s = made (record s { stage = Releasing }) (release s ∷ [])
+
+-- the paging of the device in its tracking area (TS 23.401, 5.3.4.3 step 3)
+abbrev pub page : Session → Effect
+page s = effects.Down (Page s.plmn s.tac)
+
+abbrev pub pages : Act
+pages s = made s (page s ∷ [])
 
 -- ---- calls of the peers
 

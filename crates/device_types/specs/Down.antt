@@ -3,7 +3,7 @@ use Rattle.std.specs.Prelude.{ℕ, ◌^◌, ◌<◌}
 use Rattle.device_types.specs.declared.down.Accept.{Accept}
 use Rattle.device_types.specs.declared.down.Accept.TheVariants.{No, Yes}
 use Rattle.device_types.specs.declared.down.Down.{Down}
-use Rattle.device_types.specs.declared.down.Down.TheVariants.{Nas, Setup, Release}
+use Rattle.device_types.specs.declared.down.Down.TheVariants.{Nas, Setup, Release, Page}
 use Rattle.device_types.specs.Cause.{IsCauseCode}
 use Rattle.device_types.specs.Keys.{IsKey}
 use Rattle.device_types.specs.Message.{IsArea}
@@ -32,3 +32,4 @@ abbrev pub IsDown : Down → Type 0
 IsDown (Nas station enb nas) = IsReceiver station enb × IsNasOut nas × HasNasFields nas
 IsDown (Setup station enb dl ul sgw teid eea eia key accept) = IsReceiver station enb × AreRates dl ul × IsTunnel sgw teid × AreAlgorithms eea eia × IsKey key × IsAccept accept
 IsDown (Release station enb cause) = IsReceiver station enb × IsCauseCode cause
+IsDown (Page plmn tac) = IsArea plmn tac

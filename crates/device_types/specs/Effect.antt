@@ -1,6 +1,6 @@
 -- What a step makes: which of it can be written, and where it goes. Where a device has a connection.
 use Rattle.device_types.specs.declared.down.Down.{Down}
-use Rattle.device_types.specs.declared.down.Down.TheVariants.{Nas, Setup, Release}
+use Rattle.device_types.specs.declared.down.Down.TheVariants.{Nas, Setup, Release, Page}
 use Rattle.device_types.specs.declared.effect.Effect.{Effect}
 use Rattle.device_types.specs.declared.effect.Effect.TheVariants as effects
 use Rattle.device_types.specs.declared.session.Link.{Link}
@@ -17,11 +17,12 @@ IsWritable (effects.Down down) = IsDown down
 IsWritable (effects.Gateway call) = Unit {0}
 IsWritable (effects.Subscriber call) = Unit {0}
 
--- a message to the device goes to a base station, which are numbered from 1
+-- a message to the device goes to a base station, which are numbered from 1; a paging goes to each one of an area
 abbrev pub HasReceiver : Down → Type 0
 HasReceiver (Nas station enb nas) = IsPair station enb
 HasReceiver (Setup station enb dl ul sgw teid eea eia key accept) = IsPair station enb
 HasReceiver (Release station enb cause) = IsPair station enb
+HasReceiver (Page plmn tac) = Unit {0}
 
 -- a call, or such a message
 abbrev pub IsSent : Effect → Type 0

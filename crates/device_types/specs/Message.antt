@@ -1,7 +1,7 @@
 -- The messages of a device: the ranges of their fields.
-use Rattle.std.specs.Prelude.{ℕ, ◌^◌, ◌<◌, ◌≤◌}
+use Rattle.std.specs.Prelude.{◌≡◌, ℕ, ◌^◌, ◌<◌, ◌≤◌}
 use Rattle.device_types.specs.declared.message.Body.{Body}
-use Rattle.device_types.specs.declared.message.Body.TheVariants.{Attach, Service, Area, Detach, Response, Secured, SecurityRefused, AttachDone, ContextDone, ContextFailed, ReleaseAsked, Released, Capability}
+use Rattle.device_types.specs.declared.message.Body.TheVariants.{Attach, Service, Area, Detach, Response, Secured, SecurityRefused, AttachDone, ContextDone, ContextFailed, ReleaseAsked, Released, Capability, Data}
 use Rattle.device_types.specs.declared.message.Message.{Message}
 use Rattle.device_types.specs.Cause.{IsCauseCode}
 use Rattle.device_types.specs.Octets.{AreOctets}
@@ -15,6 +15,11 @@ pub record IsPair (station enb : ℕ) : Type 0 where
   pub station_least : 1 ≤ station
   pub station_most : station < 2 ^ 16
   pub enb_most : enb < 2 ^ 24
+
+-- where a message comes from: a notice of the gateway from no base station, which has the number 0, and any other from one
+abbrev pub IsFrom : Body → ℕ → ℕ → Type 0
+IsFrom Data station enb = (station ≡ 0) × (enb < 2 ^ 24)
+IsFrom _ station enb = IsPair station enb
 
 abbrev pub IsBody : Body → Type 0
 IsBody (Attach plmn tac eea eia pti) = IsArea plmn tac × (eea < 256) × (eia < 256) × (pti < 256)
@@ -30,7 +35,8 @@ IsBody ContextFailed = Unit {0}
 IsBody (ReleaseAsked cause) = IsCauseCode cause
 IsBody Released = Unit {0}
 IsBody (Capability octets) = AreOctets octets
+IsBody Data = Unit {0}
 
 pub record IsMessage (message : Message) : Type 0 where
-  pub pair : IsPair message.station message.enb
+  pub pair : IsFrom message.body message.station message.enb
   pub body : IsBody message.body

@@ -1,4 +1,4 @@
--- The rows of the service request (TS 23.401, 5.3.4.1) and of the release of the S1 connection (5.3.5).
+-- The rows of the service request (TS 23.401, 5.3.4.1), of data that waits (5.3.4.3) and of the release of the S1 connection (5.3.5).
 use Rattle.std.specs.Prelude.{◌^◌, ◌-◌, min, length, not, if◌then◌else◌, ◌&&◌, ◌||◌, List, [], ◌∷◌}
 use Rattle.device_types.specs.declared.down.Accept.TheVariants.{No}
 use Rattle.device_types.specs.declared.effect.GwCall.TheVariants as gateway
@@ -12,7 +12,7 @@ use Rattle.device_types.specs.declared.session.Bearer.TheVariants as bearers
 use Rattle.device_types.specs.declared.session.Link.TheVariants.{Off}
 use Rattle.device_types.specs.declared.session.Session.{Session}
 use Rattle.device_types.specs.declared.session.Stage.TheVariants.{Detached, AwaitModify, Connecting, Connected, AwaitRelease, Releasing, Idle}
-use Rattle.device_types.specs.Acts.{sets, enters, tells_to, sets_up, releases, calls, moves_connection, frees_bearers, unspecified}
+use Rattle.device_types.specs.Acts.{sets, enters, tells_to, sets_up, pages, releases, calls, moves_connection, frees_bearers, unspecified}
 use Rattle.device_types.specs.Rule.{Rule, rule, at, settled, held, here}
 
 abbrev pub service_message : Session → Message → Body → List Rule
@@ -25,6 +25,8 @@ service_message s m bodies.Service =
 service_message s m (bodies.ContextDone addr teid) =
     rule (here s m && at Connecting s) (sets (λ t. record t { side_addr = addr; side_teid = teid }) ∷ calls (gateway.Modify addr teid) ∷ enters AwaitModify ∷ []) ∷ []
 service_message s m bodies.ContextFailed = rule (here s m && at Connecting s) (frees_bearers unspecified ∷ []) ∷ []
+-- 5.3.4.3, step 3: an idle device is paged
+service_message s m bodies.Data = rule (at Idle s) (pages ∷ []) ∷ []
 -- 5.3.5, steps 1 and 2
 service_message s m (bodies.ReleaseAsked cause) = rule (here s m && (at Connecting s || at Connected s)) (frees_bearers cause ∷ []) ∷ []
 -- 5.3.5, step 6

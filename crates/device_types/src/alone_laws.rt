@@ -43,8 +43,8 @@ pub fn alone_is_ready(_row: &Subscriber, _messages: &[Message])
 {}
 
 /// Each session is in its ranges, with a cause that can be written, and has an S1 connection but where the device is detached or
-/// idle; each input is in its ranges; and each effect is a call, or a message to the device that can be written and goes to a base
-/// station.
+/// idle; each input is in its ranges; and each effect is a call, or a message to the device that can be written and, but for a
+/// paging, goes to a base station.
 #[tactic(auto, using(crate::proofs::Courses::sound))]
 pub fn alone_is_sound(_row: &Subscriber, _messages: &[Message])
     requires row { IsSubscriber _row.now }

@@ -25,7 +25,7 @@ pub enum Accept {
     },
 }
 
-/// A message to a device: to the base station `station`, where its eNB-UE-S1AP-ID is `enb`, below 2^24.
+/// A message to a device: to the base station `station`, where its eNB-UE-S1AP-ID is `enb`, below 2^24; or to all of an area.
 #[derive(Debug, Drop)]
 pub enum Down {
     /// DOWNLINK NAS TRANSPORT (3GPP TS 36.413, 9.1.7.2).
@@ -68,6 +68,13 @@ pub enum Down {
         enb: u32,
         /// Why.
         cause: CauseCode,
+    },
+    /// PAGING (9.1.6), to each base station of the device's tracking area.
+    Page {
+        /// The PLMN of the tracking area: its three octets as one number, the first one highest, below 2^24.
+        plmn: u32,
+        /// The code of the tracking area.
+        tac: u16,
     },
 }
 
@@ -115,6 +122,10 @@ impl Clone for Down {
                 station: *station,
                 enb: *enb,
                 cause: *cause,
+            }),
+            Down::Page { plmn, tac } => Ok(Down::Page {
+                plmn: *plmn,
+                tac: *tac,
             }),
         }
     }

@@ -5,7 +5,7 @@ use crate::list_of::{ListOf, Octets};
 use crate::try_copy::TryCopy;
 use std::alloc::AllocError;
 
-/// What a message says. NAS messages are those of 3GPP TS 24.301, the others those of TS 36.413.
+/// What a message says. NAS messages are those of 3GPP TS 24.301, and the others those of TS 36.413, but for the gateway's notice.
 #[derive(Debug, Drop)]
 pub enum Body {
     /// ATTACH REQUEST (TS 24.301, 8.2.4).
@@ -71,6 +71,8 @@ pub enum Body {
         /// The radio capability (9.2.1.27).
         octets: Octets,
     },
+    /// The gateway's notice that data waits for the device (TS 29.274, 7.2.11). It comes from no base station.
+    Data,
 }
 
 /// By hand, since each field of a derived clone may fail.
@@ -118,6 +120,7 @@ impl Clone for Body {
             Body::Capability { octets } => Ok(Body::Capability {
                 octets: octets.copy()?,
             }),
+            Body::Data => Ok(Body::Data),
         }
     }
 }
@@ -131,7 +134,7 @@ impl TryCopy for Body {
 pub struct Message {
     /// Its number among the device's messages, from 1.
     pub number: u64,
-    /// The base station that it came from, from 1.
+    /// The base station that it came from, from 1; a notice of the gateway has 0.
     pub station: u16,
     /// The eNB-UE-S1AP-ID of the device there, below 2^24 (TS 36.413, 9.2.3.4).
     pub enb: u32,

@@ -38,7 +38,7 @@ pub fn step_of_row(_row: &Subscriber, _session: &Session, _input: &Input, _step:
 {}
 
 /// A message that did not come on the session's S1 connection fits no row, but for those with which a device comes: an attach, a
-/// service request, and a tracking area update or a detach that is the first message of its connection.
+/// service request, and a tracking area update or a detach that is the first message of its connection; and but for a notice.
 pub fn elsewhere_fits_no_row(_row: &Subscriber, _session: &Session, _message: &Message)
     requires elsewhere { IsElsewhere _session.now _message.now }
     requires later { comes _message.now.body ≡ false }
@@ -77,7 +77,7 @@ pub fn step_can_be_written(_row: &Subscriber, _session: &Session, _input: &Input
     ensures effects { All IsWritable (step_of _row.now _session.now _input.now).effects }
 {}
 
-/// A device that is neither detached nor idle keeps an S1 connection, and each message to it goes to a base station.
+/// A device that is neither detached nor idle keeps an S1 connection, and each message to it but a paging goes to a base station.
 #[tactic(auto, using(crate::proofs::Connecting::keeps_connection, crate::proofs::Connecting::sends_to_stations))]
 pub fn step_keeps_connection(_row: &Subscriber, _session: &Session, _input: &Input)
     requires session { IsSession _session.now }
