@@ -2,7 +2,7 @@
 #![tactic(auto)]
 
 ghost use Rattle.std.specs.Prelude.{◌≡◌, [], ◌∷◌, IfOk};
-ghost use Rattle.device_types.specs.Acts.{made, behind, station_of, enb_of, nas_to, told, setup, release, releases, left_behind, moves_connection, drops_ue, frees_bearers};
+ghost use Rattle.device_types.specs.Acts.{made, behind, station_of, enb_of, nas_to, told, setup, page, release, releases, left_behind, moves_connection, drops_ue, frees_bearers};
 
 use device_types::{
     Accept, Bearer, CauseCode, Down, Effect, Effects, GwCall, Link, NasOut, Session, Stage, Step,
@@ -93,6 +93,16 @@ pub fn context_setup(session: &Session, accept: Accept) -> Result<Effect, AllocE
         key: session.key.copy()?,
         accept,
     }))
+}
+
+/// The paging of the device in its tracking area (TS 23.401, 5.3.4.3, step 3).
+pub fn paging(session: &Session) -> Effect
+    ensures { result ≡ page session.now }
+{
+    Effect::Down(Down::Page {
+        plmn: session.plmn,
+        tac: session.tac,
+    })
 }
 
 /// The release of the device's context, on the session's S1 connection and for the session's cause.

@@ -99,6 +99,7 @@ fn bare_body(alloc: Global, name: &str) -> Result<Body, Fail> {
         "Capability" => Body::Capability {
             octets: Octets::from(Vec::from_array(alloc, [61, 62, 63])?),
         },
+        "Data" => Body::Data,
         _ => return Err(Fail::new("no such message")),
     })
 }
@@ -188,6 +189,7 @@ fn write_down(text: &mut String, down: &Down) -> Result<(), AllocError> {
             write!(text, " release {station}/{enb} ")?;
             write_cause(text, *cause)
         }
+        Down::Page { plmn, tac } => write!(text, " page {plmn} {tac}"),
     }
 }
 

@@ -1,19 +1,19 @@
-//! The service request, and the release of the S1 connection (3GPP TS 23.401, 5.3.4.1 and 5.3.5).
+//! The service request, data that waits, and the release of the S1 connection (3GPP TS 23.401, 5.3.4.1, 5.3.4.3 and 5.3.5).
 #![tactic(auto)]
 
 ghost use Rattle.std.specs.Prelude.{◌≡◌, ◌^◌, ◌-◌, ◌∷◌, [], min, length, IfOk};
-ghost use Rattle.device_types.specs.Acts.{run, enters, tells_to, sets_up, moves_connection};
-ghost use Rattle.device_types.specs.Rule.{fitting};
+ghost use Rattle.device_types.specs.Acts.{run, enters, tells_to, sets_up, pages, moves_connection};
+ghost use Rattle.device_types.specs.Rule.{rule, fitting, at};
 ghost use Rattle.device_types.specs.Service.{service_message, service_answer};
 ghost use Rattle.device_types.specs.StepTable.{service_rules};
 ghost use Rattle.device_types.specs.declared.down.Accept.TheVariants.{No};
 ghost use Rattle.device_types.specs.declared.message.Body.TheVariants as bodies;
 ghost use Rattle.device_types.specs.declared.nas_out.NasOut.TheVariants.{ServiceReject};
-ghost use Rattle.device_types.specs.declared.session.Stage.TheVariants.{Connecting};
+ghost use Rattle.device_types.specs.declared.session.Stage.TheVariants.{Connecting, Idle};
 
 use bearer_proc::{
-    IMPLICITLY_DETACHED, UNSPECIFIED, context_setup, free_link, move_link, nas_to, release_context,
-    with_effect, without_effect,
+    IMPLICITLY_DETACHED, UNSPECIFIED, context_setup, free_link, move_link, nas_to, paging,
+    release_context, with_effect, without_effect,
 };
 use device_types::{
     Accept, Answer, Bearer, Body, CauseCode, Effect, GwCall, Input, Link, Message, NasOut, Octets,
@@ -41,6 +41,7 @@ fn on_message(session: &Session, message: &Message) -> Result<Option<Step>, Allo
         Body::ReleaseAsked { cause } => release_asked(session, message, *cause),
         Body::Released => released(session, message),
         Body::Capability { octets } => capability(session, message, octets),
+        Body::Data => data_waits(session),
         _ => Ok(None),
     }
 }
@@ -158,6 +159,17 @@ fn capability(
     let mut session = session.copy()?;
     session.radio = at_most_u32(octets.items().len());
     Ok(Some(without_effect(session)))
+}
+
+/// The gateway has data for the device: it is paged where it is idle.
+fn data_waits(session: &Session) -> Result<Option<Step>, AllocError>
+    ensures { IfOk result (λ step. step ≡ fitting (rule (at Idle session.now) (pages ∷ []) ∷ []) session.now) }
+{
+    if !session.is_at(Stage::Idle) {
+        return Ok(None);
+    }
+    let effect = paging(session);
+    Ok(Some(with_effect(session.copy()?, effect)?))
 }
 
 /// The number, or the greatest `u32` if it is greater.

@@ -13,10 +13,11 @@ use std::alloc::{AllocError, Global};
 use std::fmt::Debug;
 use std::test::Fail;
 
-/// Attach (5.3.2.1), service request (5.3.4.1) and S1 release (5.3.5), tracking area update (5.3.3) and detach (5.3.8.2), row by row: the
-/// subscriber is not served in the areas 8 and 9, and is in area 7. Then what fits no row: messages on the session's own connection that
-/// its stage does not take, and those that it would take on others (another number at its base station, and its number at another one);
-/// each kind of message while an answer is awaited; and answers that are not awaited, in each stage.
+/// Attach (5.3.2.1), service request (5.3.4.1), data that waits (5.3.4.3) and S1 release (5.3.5), tracking area update (5.3.3) and
+/// detach (5.3.8.2), row by row: the subscriber is not served in the areas 8 and 9, and is in area 7. Then what fits no row:
+/// messages on the session's own connection that its stage does not take, and those that it would take on others (another number at
+/// its base station, and its number at another one); each kind of message while an answer is awaited; a notice in each stage but
+/// one; and answers that are not awaited, in each stage.
 const STEPS: &str = "\
 Detached none None | 2/5 Attach 9 | stage=Releasing link=2/5 cause=2/0 | nas 2/5 AttachReject { cause: 12 }; release 2/5 2/0;
 Securing 1/3 None | 1/3 Attach 9 | stage=Releasing cause=2/0 | nas 1/3 AttachReject { cause: 12 }; release 1/3 2/0;
@@ -73,6 +74,7 @@ Connecting 1/3 Made registered | 1/3 ContextDone | stage=AwaitModify side=(41, 4
 Connecting 1/3 Active registered | 1/3 ContextDone | stage=AwaitModify side=(41, 42) | gateway Modify(41, 42);
 AwaitModify 1/3 Made registered | answer Modified | stage=Connected bearer=Active |
 Connecting 1/3 Made registered | 1/3 ContextFailed | stage=Releasing cause=2/3 | release 1/3 2/3;
+Idle none Made registered | 0/0 Data | | page 11 12;
 Connecting 1/3 Active registered | 1/3 ContextFailed | stage=AwaitRelease cause=2/3 | gateway Release;
 Connecting 1/3 None registered | 1/3 ContextFailed | stage=Releasing cause=2/3 | release 1/3 2/3;
 Connecting 1/3 None registered | 1/3 ReleaseAsked | stage=Releasing cause=0/20+ | release 1/3 0/20+;
@@ -177,6 +179,23 @@ AwaitRelease 1/3 Active registered | 1/3 Attach 7, 2/5 Attach 9, 1/4 Service, 2/
 AwaitRelease 1/3 Active registered | 1/3 Response 16, 1/3 Secured, 1/3 SecurityRefused, 1/3 AttachDone, 1/3 ContextDone, 1/3 ContextFailed, 1/3 ReleaseAsked, 1/3 Released, 1/3 Capability, 1/3 Area later 7, 1/3 Detach later | |
 AwaitDelete 1/3 Made | 1/3 Attach 7, 2/5 Attach 9, 1/4 Service, 2/5 Area first 7, 1/3 Area first 9, 2/3 Detach first, 1/3 Detach first off | |
 AwaitDelete 1/3 Made | 1/3 Response 16, 1/3 Secured, 1/3 SecurityRefused, 1/3 AttachDone, 1/3 ContextDone, 1/3 ContextFailed, 1/3 ReleaseAsked, 1/3 Released, 1/3 Capability, 1/3 Area later 7, 1/3 Detach later | |
+Detached none None | 0/0 Data | |
+Authenticating 1/3 None | 0/0 Data | |
+Securing 1/3 None | 0/0 Data | |
+Accepting 1/3 Made | 0/0 Data | |
+AcceptingContext 1/3 Made | 0/0 Data | |
+AcceptingDone 1/3 Made | 0/0 Data | |
+Connecting 1/3 Made registered | 0/0 Data | |
+Connected 1/3 Active registered | 0/0 Data | |
+Releasing 1/3 Made registered | 0/0 Data | |
+Releasing 1/3 None | 0/0 Data | |
+AwaitVectors 1/3 None | 0/0 Data | |
+AwaitLocation 1/3 None | 0/0 Data | |
+AwaitCreate 1/3 None | 0/0 Data | |
+AwaitModify 1/3 Made | 0/0 Data | |
+AwaitModify 1/3 Active registered | 0/0 Data | |
+AwaitRelease 1/3 Active registered | 0/0 Data | |
+AwaitDelete 1/3 Made | 0/0 Data | |
 AwaitVectors 1/3 None | answer Located, answer Created, answer Modified, answer Freed, answer Deleted, answer Purged | |
 AwaitLocation 1/3 None | answer Vectors, answer Created, answer Modified, answer Freed, answer Deleted, answer Purged | |
 AwaitCreate 1/3 None | answer Vectors, answer Located, answer Modified, answer Freed, answer Deleted, answer Purged | |

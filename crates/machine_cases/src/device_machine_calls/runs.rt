@@ -1,5 +1,5 @@
-//! The machine alone on a worked run: a device gives a wrong response; then it attaches, is released, asks for service, is released,
-//! updates its tracking area where it is not served, and detaches.
+//! The machine alone on a worked run: a device gives a wrong response; then it attaches, is released, is paged, asks for service, is
+//! released, updates its tracking area where it is not served, and detaches. Notices come before, between and behind.
 ghost use Rattle.std.specs.Prelude.{◌≤◌, length};
 
 use super::{message, subscriber, write_effects};
@@ -10,6 +10,7 @@ use std::test::Fail;
 
 /// A line a message.
 const MESSAGES: &str = "\
+0/0 Data
 1/5 Attach 7
 1/5 Response 17
 1/5 Released
@@ -21,7 +22,9 @@ const MESSAGES: &str = "\
 1/5 AttachDone
 1/5 ReleaseAsked
 1/5 Released
+0/0 Data
 1/6 Service
+0/0 Data
 1/6 ContextDone
 1/6 ReleaseAsked
 1/6 Released
@@ -33,6 +36,7 @@ const MESSAGES: &str = "\
 
 /// A line a step: the stage that it leads to, and what it makes. The steps on answers stand among them.
 const STEPS: &str = "\
+Detached |
 AwaitVectors | subscriber Vectors;
 Authenticating | nas 1/5 AuthRequest { rand: ListOf { items: [51] }, autn: ListOf { items: [52] } };
 Releasing | nas 1/5 AuthReject; release 1/5 2/1;
@@ -50,7 +54,9 @@ Connected |
 AwaitRelease | gateway Release;
 Releasing | release 1/5 0/20+;
 Idle |
+Idle | page 31 7;
 Connecting | setup 1/6 55 56 57 58 32 33 [0, 0, 0, 0, 0, 0, 0, 0, 0, 0, 0, 0, 0, 0, 0, 0, 0, 0, 0, 0, 0, 0, 0, 0, 0, 0, 0, 0, 0, 0, 0, 0] No;
+Connecting |
 AwaitModify | gateway Modify(41, 42);
 Connected |
 AwaitRelease | gateway Release;
@@ -89,7 +95,7 @@ fn a_device_comes_and_goes(rt: HostRuntime) -> Result<(), Fail> {
     let alloc = rt.alloc();
     let row = subscriber(alloc)?;
     let messages = messages(alloc)?;
-    assert!(rt; messages.len() < 20);
+    assert!(rt; messages.len() < 30);
     let steps = steps(alloc, &row, &messages)?;
     assert_eq!(rt; steps.as_str(), STEPS);
     Ok(())
