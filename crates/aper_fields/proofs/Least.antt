@@ -9,7 +9,7 @@ use Rattle.aper_fields.specs.Spelling.{IsOctets}
 use Rattle.aper_fields.specs.Format.{Format}
 use Rattle.aper_fields.specs.Sequence.{zero_bit_in, present_in, choice_in}
 use Rattle.aper_fields.specs.Many.{InOrder}
-use Rattle.aper_fields.specs.Asn1.{AsnType, Fields, part_run, bit_string, integer, only, enumerated, octet_string, fixed_octets, choice_index, extensible, on, choice, sequence, sequence_of, container, by_test, variant, named, needed, optional, absent, also, format, fields_in, flags_in, run, fields_run, flags_run, each_run, list_run, present_run, index_run, IsBetween, Fits, FieldsFit, IsSound, AreSound}
+use Rattle.aper_fields.specs.Asn1.{AsnType, Fields, part_run, bit_string, integer, only, enumerated, octet_string, fixed_octets, choice_index, one_bit, extensible, on, choice, sequence, sequence_of, container, by_test, variant, named, needed, optional, absent, also, format, fields_in, flags_in, run, fields_run, flags_run, each_run, list_run, present_run, index_run, IsBetween, Fits, FieldsFit, IsSound, AreSound}
 use Rattle.aper_fields.proofs.Ends.{EndsBy, nothing_ends, then_ends, front_ends, number_ends, fixed_bits_ends, enumerated_ends, octet_string_ends, fixed_octets_ends}
 use Rattle.aper_fields.proofs.Types.{in_order, sizes_bound, periodic}
 use Rattle.aper_fields.proofs.Room.{item_least}
@@ -88,6 +88,7 @@ mutual
   least (octet_string most few) sound v at bits s = ((s.0.0, s.0.2), octet_string_ends v at bits s.1)
   least (fixed_octets n fixed) sound v at bits s = (s.0, fixed_octets_ends v at bits s.1)
   least (choice_index roots n enough) sound v at bits s = (choice_in_range roots n v at bits s, choice_ends roots n v v at bits s)
+  least one_bit sound v at bits s = (tt, present_ends v v at bits s)
   least (extensible reason p) sound v at bits s =
       let x = least p sound v _ s.2 s.5 in
       (x.0, then_ends (fixed_bits_run 1 0) (run p v) at s.1 s.2 bits s.3 (zero_ends reason at s.0 s.1 s.4) x.1)

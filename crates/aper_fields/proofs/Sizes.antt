@@ -6,7 +6,7 @@ use Rattle.std.proofs.lemmas.Nat.{mul-le}
 use Rattle.aper_fields.specs.Run.{Run, ◌▸◌, fixed_bits_run, number_run, open_run}
 use Rattle.aper_fields.proofs.Lengths.{Takes, then_takes, number_takes, fixed_bits_takes, octet_string_takes, fixed_octets_takes, enumerated_takes, open_takes}
 use Rattle.aper_fields.proofs.NotEmpty.{first_some, bit_some, fixed_bits_some, number_some, text_some, marked_some, unmarked_some, octets_some}
-use Rattle.aper_fields.specs.Asn1.{AsnType, Fields, bit_string, integer, only, enumerated, octet_string, fixed_octets, choice_index, extensible, on, choice, sequence, sequence_of, container, by_test, variant, named, needed, optional, absent, also, run, fields_run, flags_run, each_run, list_run, item_run, part_run, present_run, index_run, Fits, FieldsFit, most_bits, most_flags, most_fields, takes_some, IsSound, AreSound}
+use Rattle.aper_fields.specs.Asn1.{AsnType, Fields, bit_string, integer, only, enumerated, octet_string, fixed_octets, choice_index, one_bit, extensible, on, choice, sequence, sequence_of, container, by_test, variant, named, needed, optional, absent, also, run, fields_run, flags_run, each_run, list_run, item_run, part_run, present_run, index_run, Fits, FieldsFit, most_bits, most_flags, most_fields, takes_some, IsSound, AreSound}
 use Rattle.aper_fields.proofs.Types.{small_top, sizes_bound}
 
 -- ---- at least a bit
@@ -20,6 +20,10 @@ index_some n index = first_some (fixed_bits_run 1 0) (fixed_bits_run n index) 0 
 part_some : {A : Type 0} (In : A → Type 0) (f : A → Run) → ((a : A) → In a → 0 < length (f a 0)) → (o : Option A) → IsSomeAnd o In → 0 < length (part_run f o 0)
 part_some In f each (Some a) fits = each a fits
 part_some In f each None fits = absurd fits
+
+present_some : (v : Bool) → 0 < length (present_run v 0)
+unfolding present_run
+present_some v = fixed_bits_some 1 _ (omega arith)
 
 pub some : {A : Type 0} (S : List ℕ → Type 0) (s : AsnType A) → takes_some s ≡ true → (v : A) → Fits S s v → 0 < length (run s v 0)
 unfolding run list_run
@@ -36,6 +40,7 @@ some S (extensible reason p) b v fits = first_some (fixed_bits_run 1 0) (run p v
 some S (on p most q) b v fits = first_some (run p v.0) (run (q v.0) v.1) 0 (some S p b v.0 fits.0)
 some S (fixed_octets n fixed) b v fits = octets_some n v (ltb-true _ _ b) fits.0
 some S (choice_index roots n enough) b v fits = index_some n v
+some S one_bit b v fits = present_some v
 some S (by_test true p q) b v fits = some S p b v fits
 some S (by_test false p q) b v fits = some S q b v fits
 some S (variant kind p) b v fits = part_some (λ a. Fits S p a) (λ a. run p a) (λ a f. some S p b a f) (kind.part v) fits
@@ -92,6 +97,7 @@ mutual
   takes S (octet_string most few) sound v fits = λ at. omega (arith, octet_string_takes v at, fits.0)
   takes S (fixed_octets n fixed) sound v fits = λ at. omega (arith, fixed_octets_takes v at, fits.0)
   takes S (choice_index roots n enough) sound v fits = λ at. omega (arith, index_takes n v at)
+  takes S one_bit sound v fits = present_takes v
   takes S (extensible reason p) sound v fits = then_takes 8 (most_bits p) (fixed_bits_run 1 0) (run p v) (fixed_bits_takes 1 0) (takes S p sound v fits)
   takes S (on p most q) sound v fits =
       let whole = then_takes (most_bits p) (most_bits (q v.0)) (run p v.0) (run (q v.0) v.1) (takes S p sound.0 v.0 fits.0) (takes S (q v.0) (sound.1 v.0).0 v.1 fits.1) in

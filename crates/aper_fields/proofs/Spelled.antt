@@ -11,7 +11,7 @@ use Rattle.aper_fields.specs.Format.{Format, ◌>>=◌, just, mapped, IsSpelledB
 use Rattle.aper_fields.proofs.Periodic.{IsPeriodic}
 use Rattle.aper_fields.specs.Sequence.{zero_bit_in, present_in, extensions_in, choice_in, criticality_in, item_in}
 use Rattle.aper_fields.specs.Many.{InOrder, inside}
-use Rattle.aper_fields.specs.Asn1.{AsnType, Fields, Variant, are_bounds, part_run, bit_string, integer, only, enumerated, octet_string, fixed_octets, choice_index, extensible, on, choice, sequence, sequence_of, container, by_test, variant, named, needed, optional, absent, also, format, fields_in, flags_in, run, fields_run, flags_run, each_run, list_run, item_run, present_run, index_run, IsBetween, Fits, FieldsFit, IsSound, AreSound}
+use Rattle.aper_fields.specs.Asn1.{AsnType, Fields, Variant, are_bounds, part_run, bit_string, integer, only, enumerated, octet_string, fixed_octets, choice_index, one_bit, extensible, on, choice, sequence, sequence_of, container, by_test, variant, named, needed, optional, absent, also, format, fields_in, flags_in, run, fields_run, flags_run, each_run, list_run, item_run, present_run, index_run, IsBetween, Fits, FieldsFit, IsSound, AreSound}
 use Rattle.aper_fields.proofs.Types.{in_order, sizes_bound, periodic}
 use Rattle.aper_fields.proofs.Opens.{FitsOpen, open_holds}
 use Rattle.aper_fields.proofs.Sizes.{some, takes}
@@ -94,6 +94,7 @@ mutual
   spelled (octet_string most few) sound v fits at = ((fits.0, omega (arith, fits.0, leb-true most 16383 few), fits.1), refl)
   spelled (fixed_octets n fixed) sound v fits at = (fits, refl)
   spelled (choice_index roots n enough) sound v fits at = choice_spelled roots n v fits (omega (arith, fits, leb-true roots (2 ^ n) (and_parts _ _ enough).0)) at
+  spelled one_bit sound v fits at = present_spelled v at
   spelled (extensible reason p) sound v fits at = (0, _, _, refl, zero_bit reason at, spelled p sound v fits _)
   spelled (on p most q) sound v fits at = (v.0, _, _, refl, spelled p sound.0 v.0 fits.0 at, (v.1, _, [], sym (append-nil _), spelled (q v.0) (sound.1 v.0).0 v.1 fits.1 _, (refl, refl)))
   spelled (choice p q) sound (inl a) fits at = (0, _, _, refl, choice_spelled 2 1 0 (omega arith) (omega arith) at, (a, refl, spelled p sound.0 a fits _))

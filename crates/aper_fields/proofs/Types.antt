@@ -10,7 +10,7 @@ use Rattle.aper_fields.proofs.ExactNumbers.{number_exactly}
 use Rattle.aper_fields.proofs.ExactPieces.{fixed_bits_exactly, enumerated_exactly, octet_string_exactly, fixed_octets_exactly}
 use Rattle.aper_fields.proofs.Periodic.{IsPeriodic, constant_periodic, then_periodic, fixed_bits_periodic, number_periodic, enumerated_periodic, octet_string_periodic, fixed_octets_periodic, open_periodic}
 use Rattle.aper_fields.specs.SequenceReading.{Reader}
-use Rattle.aper_fields.specs.Asn1.{AsnType, Fields, are_bounds, are_sizes, part_run, bit_string, integer, only, enumerated, octet_string, fixed_octets, choice_index, extensible, on, choice, sequence, sequence_of, container, by_test, variant, named, needed, optional, absent, also, format, fields_in, flags_in, reading, fields_at, flags_at, list_at, contained_item_at, run, fields_run, flags_run, each_run, list_run, item_run, present_run, index_run, Fits, FieldsFit}
+use Rattle.aper_fields.specs.Asn1.{AsnType, Fields, are_bounds, are_sizes, part_run, bit_string, integer, only, enumerated, octet_string, fixed_octets, choice_index, one_bit, extensible, on, choice, sequence, sequence_of, container, by_test, variant, named, needed, optional, absent, also, format, fields_in, flags_in, reading, fields_at, flags_at, list_at, contained_item_at, run, fields_run, flags_run, each_run, list_run, item_run, present_run, index_run, Fits, FieldsFit}
 use Rattle.aper_fields.proofs.SequenceExact.{behind, zero_bit_exactly, present_exactly, extensions_exactly, choice_exactly, item_exactly}
 use Rattle.aper_fields.proofs.Manys.{many_exactly}
 use Rattle.aper_fields.proofs.Inside.{inside_exactly}
@@ -49,6 +49,7 @@ mutual
   exactly (octet_string most few) = octet_string_exactly most
   exactly (fixed_octets n fixed) = fixed_octets_exactly n
   exactly (choice_index roots n enough) = choice_exactly roots n
+  exactly one_bit = present_exactly
   exactly (extensible reason p) = behind _ _ _ _ (zero_bit_exactly reason) (λ extension. exactly p)
   exactly (on p most q) = behind _ _ _ _ (exactly p) (λ a. behind _ _ _ _ (exactly (q a)) (λ b. just_exactly (a, b)))
   exactly (choice p q) = behind _ _ _ _ (choice_exactly 2 1) (λ kind. either_exactly (eqb kind 0) _ _ _ _ (mapped_exactly inl _ _ (exactly p)) (mapped_exactly inr _ _ (exactly q)))
@@ -91,7 +92,7 @@ flags_periodic (absent reason) v rest r = then_periodic _ _ (fixed_bits_periodic
 flags_periodic (also p q) v rest r = flags_periodic p v.0 _ (flags_periodic q v.1 rest r)
 
 mutual
-  unfolding run fields_run list_run
+  unfolding run fields_run list_run present_run
 
   pub periodic : {A : Type 0} (s : AsnType A) (v : A) → IsPeriodic (run s v)
   periodic (bit_string n) v = fixed_bits_periodic n v
@@ -101,6 +102,7 @@ mutual
   periodic (octet_string most few) v = octet_string_periodic v
   periodic (fixed_octets n fixed) v = fixed_octets_periodic v
   periodic (choice_index roots n enough) v = index_periodic n v
+  periodic one_bit v = fixed_bits_periodic 1 _
   periodic (extensible reason p) v = then_periodic _ _ (fixed_bits_periodic 1 0) (periodic p v)
   periodic (on p most q) v = then_periodic _ _ (periodic p v.0) (periodic (q v.0) v.1)
   periodic (choice p q) (inl a) = then_periodic _ _ (index_periodic 1 0) (periodic p a)

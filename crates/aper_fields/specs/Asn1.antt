@@ -69,6 +69,8 @@ mutual
     fixed_octets : (n : ℕ) → is_fixed_size n ≡ true → AsnType (List ℕ)
     -- the index of a root of a CHOICE with extension mark, in n bits
     choice_index : (roots n : ℕ) → is_index_width roots n ≡ true → AsnType ℕ
+    -- ENUMERATED of two roots without extension mark: is it the second?
+    one_bit : AsnType Bool
     -- a type with extension mark, of which no extension is taken
     extensible : {A : Type 0} → Reason → AsnType A → AsnType A
     -- one, and behind it what its value calls for, of at most so many bits
@@ -114,6 +116,7 @@ unfoldable mutual
   format (octet_string most few) = octet_string_in most
   format (fixed_octets n fixed) = fixed_octets_in n
   format (choice_index roots n enough) = choice_in roots n
+  format one_bit = present_in
   format (extensible reason p) = zero_bit_in reason >>= λ extension. format p
   format (on p most q) = format p >>= λ a. format (q a) >>= λ b. just (a, b)
   format (choice p q) = choice_in 2 1 >>= λ kind. formats.either (kind == 0) (mapped inl (format p)) (mapped inr (format q))
@@ -159,6 +162,7 @@ unfoldable mutual
   reading (octet_string most few) = octet_string_at most
   reading (fixed_octets n fixed) = fixed_octets_at n
   reading (choice_index roots n enough) = choice_at roots n
+  reading one_bit = present_at
   reading (extensible reason p) = reader.◌>>=◌ (zero_bit_at reason) (λ extension. reading p)
   reading (on p most q) = reader.◌>>=◌ (reading p) (λ a. reader.◌>>=◌ (reading (q a)) (λ b. done (a, b)))
   reading (choice p q) = reader.◌>>=◌ (choice_at 2 1) (λ kind. λ i. if kind == 0 then reader.◌>>=◌ (reading p) (λ a. done (inl a)) i else reader.◌>>=◌ (reading q) (λ b. done (inr b)) i)
@@ -223,6 +227,7 @@ unfoldable mutual
   run (octet_string most few) v = octet_string_run v
   run (fixed_octets n fixed) v = fixed_octets_run v
   run (choice_index roots n enough) v = index_run n v
+  run one_bit v = present_run v
   run (extensible reason p) v = fixed_bits_run 1 0 ▸ run p v
   run (on p most q) v = run p v.0 ▸ run (q v.0) v.1
   run (choice p q) (inl a) = index_run 1 0 ▸ run p a
@@ -256,6 +261,7 @@ abbrev mutual
   Fits S (octet_string most few) v = (length v ≤ most) × S v
   Fits S (fixed_octets n fixed) v = (length v ≡ n) × S v
   Fits S (choice_index roots n enough) v = v < roots
+  Fits S one_bit v = Unit {0}
   Fits S (extensible reason p) v = Fits S p v
   Fits S (on p most q) v = Fits S p v.0 × Fits S (q v.0) v.1
   Fits S (choice p q) (inl a) = Fits S p a
@@ -301,6 +307,7 @@ abbrev mutual
   most_bits (octet_string most few) = 23 + 8 * most
   most_bits (fixed_octets n fixed) = 7 + 8 * n
   most_bits (choice_index roots n enough) = 15 + n
+  most_bits one_bit = 8
   most_bits (extensible reason p) = 8 + most_bits p
   most_bits (on p most q) = most_bits p + most
   most_bits (choice p q) = 16 + (most_bits p + most_bits q)
@@ -325,6 +332,7 @@ takes_some (enumerated roots marked some) = if marked then true else nat_lt 1 ro
 takes_some (octet_string most few) = true
 takes_some (fixed_octets n fixed) = nat_lt 0 n
 takes_some (choice_index roots n enough) = true
+takes_some one_bit = true
 takes_some (extensible reason p) = true
 takes_some (on p most q) = takes_some p
 takes_some (choice p q) = true
@@ -345,6 +353,7 @@ abbrev mutual
   IsSound (octet_string most few) = Unit {0}
   IsSound (fixed_octets n fixed) = Unit {0}
   IsSound (choice_index roots n enough) = Unit {0}
+  IsSound one_bit = Unit {0}
   IsSound (extensible reason p) = IsSound p
   IsSound (on p most q) = IsSound p × ((a : _) → IsSound (q a) × (most_bits (q a) ≤ most))
   IsSound (choice p q) = IsSound p × IsSound q
