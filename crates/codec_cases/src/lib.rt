@@ -18,6 +18,8 @@ mod s1ap_messages_long;
 #[cfg(test)]
 mod s1ap_messages_orders;
 #[cfg(test)]
+mod s1ap_messages_paging;
+#[cfg(test)]
 mod s1ap_messages_refused;
 #[cfg(test)]
 mod s1ap_messages_refused_ies;

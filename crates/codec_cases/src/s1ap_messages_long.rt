@@ -93,7 +93,7 @@ fn tell_message(
 }
 
 /// Writes what is told of the octets.
-fn tell(alloc: Global, text: &mut String, octets: &[u8]) -> Result<(), OutOfMemory> {
+pub(crate) fn tell(alloc: Global, text: &mut String, octets: &[u8]) -> Result<(), OutOfMemory> {
     match read_pdu(alloc, octets) {
         Ok(pdu) => tell_message(alloc, text, octets, &pdu),
         Err(Bad::Refused(refusal)) => write!(text, "{refusal}"),

@@ -91,7 +91,7 @@ fn criticalities_have_their_numbers(rt: HostRuntime) {
     assert_eq!(rt; numbers, (0, 1, 2));
 }
 
-const KINDS: [MessageKind; 10] = [
+const KINDS: [MessageKind; 11] = [
     MessageKind::InitialUeMessage,
     MessageKind::UplinkNasTransport,
     MessageKind::DownlinkNasTransport,
@@ -102,6 +102,7 @@ const KINDS: [MessageKind; 10] = [
     MessageKind::UeContextReleaseCommand,
     MessageKind::UeContextReleaseComplete,
     MessageKind::UeCapabilityInfoIndication,
+    MessageKind::Paging,
 ];
 
 const LINES: &str = "\
@@ -115,6 +116,7 @@ UeContextReleaseRequest UEContextReleaseRequest 0:0 8:0 2:1
 UeContextReleaseCommand UEContextReleaseCommand 99:0 2:1
 UeContextReleaseComplete UEContextReleaseComplete 0:1 8:1
 UeCapabilityInfoIndication UECapabilityInfoIndication 0:0 8:0 74:1
+Paging Paging 80:1 43:1 109:1 46:1
 ";
 
 const MESSAGES: &str = "

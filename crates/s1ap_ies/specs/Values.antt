@@ -4,7 +4,7 @@ use Rattle.std.proofs.Common.{inl, inr}
 use Rattle.std.proofs.lemmas.Bool.{leb-true}
 use Rattle.echo_base.specs.declared.reason.Reason.TheVariants as reasons
 use Rattle.device_types.specs.Cause.{cause_roots}
-use Rattle.aper_fields.specs.Asn1.{AsnType, bit_string, integer, only, octet_string, enumerated, choice_index, extensible, on, choice, sequence, needed, optional, absent, also, named, container, sequence_of, is_head, IsSound}
+use Rattle.aper_fields.specs.Asn1.{AsnType, bit_string, integer, only, octet_string, enumerated, choice_index, one_bit, extensible, on, choice, sequence, needed, optional, absent, also, named, container, sequence_of, is_head, IsSound}
 use Rattle.s1ap_ies.specs.Types.{IsItemSound}
 use Rattle.s1ap_ies.specs.Criticalities.{reject, ignore}
 use Rattle.s1ap_ies.specs.declared.names.TheConstants as names
@@ -143,3 +143,29 @@ erabs_to_setup = list_of names.ERAB_TO_SETUP_ITEM reject refl erab_to_setup
 -- E-RAB Setup List (9.1.4.3)
 abbrev pub erabs_done : AsnType (List ErabDone)
 erabs_done = list_of names.ERAB_SETUP_ITEM ignore refl erab_done
+
+-- UE Identity Index Value (9.2.3.10)
+abbrev pub ue_index : AsnType ℕ
+ue_index = bit_string 10
+
+-- UE Paging Identity (9.2.3.13): a CHOICE of an S-TMSI and an IMSI, of which S-TMSIs alone are taken
+abbrev pub paging_id : AsnType Stmsi
+paging_id = extensible reasons.BadChoice (named (record { make = λ v. v.1; parts = λ v. (tt, v); back = λ v. refl; again = λ v. refl }) (on (only reasons.BadChoice 0 1 0 refl) 70 (λ index. stmsi)))
+
+pub paging_id_sound : IsSound paging_id
+paging_id_sound = (tt, λ index. ((refl, refl), leb-true 70 70 refl))
+
+-- CN Domain (9.2.3.22): is it cs?
+abbrev pub cn_domain : AsnType Bool
+cn_domain = one_bit
+
+-- TAI List Item, and List of TAIs (9.1.6)
+unfoldable pub tai_item : AsnType Tai
+tai_item = sequence (needed tai)
+
+pub tai_item_sound : IsItemSound tai_item
+unfolding tai_item
+tai_item_sound = (refl, leb-true _ _ refl, (refl, refl))
+
+abbrev pub tais : AsnType (List Tai)
+tais = list_of names.TAI_ITEM ignore refl tai_item

@@ -15,6 +15,12 @@ pub const ERABS_TO_SETUP: u16 = 24;
 /// The id of the IE NAS-PDU (9.2.3.5).
 pub const NAS_PDU: u16 = 26;
 
+/// The id of the IE UE Paging Identity (9.2.3.13).
+pub const PAGING_ID: u16 = 43;
+
+/// The id of the IE List of TAIs (9.1.6).
+pub const TAIS: u16 = 46;
+
 /// The id of the IE E-RAB Setup List (9.1.4.3).
 pub const ERABS_DONE: u16 = 51;
 
@@ -30,6 +36,9 @@ pub const SECURITY_KEY: u16 = 73;
 /// The id of the IE UE Radio Capability (9.2.1.27).
 pub const RADIO_CAPABILITY: u16 = 74;
 
+/// The id of the IE UE Identity Index Value (9.2.3.10).
+pub const UE_INDEX: u16 = 80;
+
 /// The id of the IE S-TMSI (9.2.3.6).
 pub const STMSI: u16 = 96;
 
@@ -42,14 +51,23 @@ pub const CGI: u16 = 100;
 /// The id of the IE UE Security Capabilities (9.2.1.40).
 pub const SEC_CAPS: u16 = 107;
 
+/// The id of the IE CN Domain (9.2.3.22).
+pub const CN_DOMAIN: u16 = 109;
+
 /// The id of the IE RRC Establishment Cause (9.2.1.3a).
 pub const RRC_CAUSE: u16 = 134;
+
+/// The id of an item of a List of TAIs (9.1.6).
+pub const TAI_ITEM: u16 = 47;
 
 /// The id of an item of an E-RAB Setup List (9.1.4.3).
 pub const ERAB_SETUP_ITEM: u16 = 50;
 
 /// The id of an item of an E-RAB to Be Setup List (9.1.4.1).
 pub const ERAB_TO_SETUP_ITEM: u16 = 52;
+
+/// The procedure code of paging (9.3.6).
+pub const PAGING: u8 = 10;
 
 /// The procedure code of a downlink NAS transport (9.3.6).
 pub const DOWNLINK_NAS_TRANSPORT: u8 = 11;

@@ -227,6 +227,25 @@ ue_capability_info_indication = record {
   part = elim [ pdus.UeCapabilityInfoIndication mme enb radio ↦ Some (mme, (enb, (radio, tt))) | _ ↦ None ];
 }
 
+-- PAGING (9.1.6)
+abbrev pub paging : Message
+paging = record {
+  Fields = _;
+  name = codes "Paging";
+  outcome = Initiating;
+  code = names.PAGING;
+  criticality = Ignore;
+  downlink = true;
+  rows =
+      must names.UE_INDEX Ignore ▸
+      must names.PAGING_ID Ignore ▸
+      must names.CN_DOMAIN Ignore ▸
+      must names.TAIS Ignore ▸
+      last;
+  make = pdus.Paging;
+  part = elim [ pdus.Paging index id cs tais ↦ Some (index, (id, (cs, (tais, tt)))) | _ ↦ None ];
+}
+
 -- what holds of the message of a kind
 abbrev pub by_kind {ℓ} : {B : Type ℓ} → (Message → B) → MessageKind → B
 by_kind f kind.InitialUeMessage = f initial_ue_message
@@ -239,12 +258,13 @@ by_kind f kind.UeContextReleaseRequest = f ue_context_release_request
 by_kind f kind.UeContextReleaseCommand = f ue_context_release_command
 by_kind f kind.UeContextReleaseComplete = f ue_context_release_complete
 by_kind f kind.UeCapabilityInfoIndication = f ue_capability_info_indication
+by_kind f kind.Paging = f paging
 
 abbrev pub message_of : MessageKind → Message
 message_of kind = by_kind (λ m. m) kind
 
 abbrev pub kinds : List MessageKind
-kinds = kind.InitialUeMessage ∷ kind.UplinkNasTransport ∷ kind.DownlinkNasTransport ∷ kind.InitialContextSetupRequest ∷ kind.InitialContextSetupResponse ∷ kind.InitialContextSetupFailure ∷ kind.UeContextReleaseRequest ∷ kind.UeContextReleaseCommand ∷ kind.UeContextReleaseComplete ∷ kind.UeCapabilityInfoIndication ∷ []
+kinds = kind.InitialUeMessage ∷ kind.UplinkNasTransport ∷ kind.DownlinkNasTransport ∷ kind.InitialContextSetupRequest ∷ kind.InitialContextSetupResponse ∷ kind.InitialContextSetupFailure ∷ kind.UeContextReleaseRequest ∷ kind.UeContextReleaseCommand ∷ kind.UeContextReleaseComplete ∷ kind.UeCapabilityInfoIndication ∷ kind.Paging ∷ []
 
 -- the kind of a message
 abbrev pub kind_of : Pdu → MessageKind
@@ -258,6 +278,7 @@ kind_of (pdus.UeContextReleaseRequest mme enb cause) = kind.UeContextReleaseRequ
 kind_of (pdus.UeContextReleaseCommand ids cause) = kind.UeContextReleaseCommand
 kind_of (pdus.UeContextReleaseComplete mme enb) = kind.UeContextReleaseComplete
 kind_of (pdus.UeCapabilityInfoIndication mme enb radio) = kind.UeCapabilityInfoIndication
+kind_of (pdus.Paging index id cs tais) = kind.Paging
 
 abbrev pub header_of : MessageKind → Header
 header_of kind = by_kind (λ m. record { outcome = m.outcome; code = m.code; criticality = m.criticality }) kind

@@ -3,6 +3,7 @@ use Rattle.std.specs.Borrow.{Bor}
 use Rattle.std.specs.Prelude.{◌≡◌, ℕ, ◌==◌, Bool, true, false, refl, List, [], ◌∷◌, map, Option, Some, None, option_map, IfSome}
 use Rattle.s1ap_ies.specs.declared.erab_to_setup.ErabToSetup.{ErabToSetup}
 use Rattle.s1ap_ies.specs.declared.erab_done.ErabDone.{ErabDone}
+use Rattle.s1ap_ies.specs.declared.tai.Tai.{Tai}
 use Rattle.aper_fields.specs.Asn1.{AsnType, Variant, integer, enumerated, octet_string, fixed_octets, by_test, variant, format, takes_some, IsSound}
 use Rattle.s1ap_ies.specs.declared.names.TheConstants as names
 use Rattle.s1ap_ies.specs.Values as types
@@ -11,12 +12,12 @@ use Rattle.s1ap_pdu.specs.declared.value.IeValue.TheVariants as value
 
 -- the value of an IE
 abbrev pub FieldValue : Type 0
-FieldValue = declared.IeValue (List ℕ) (List ErabToSetup) (List ErabDone)
+FieldValue = declared.IeValue (List ℕ) (List ErabToSetup) (List ErabDone) (List Tai)
 
 -- ---- values that are lent, as they are seen
 
 abbrev pub LentValue : Type 0
-LentValue = declared.IeValue (Bor (List ℕ)) (Bor (List ErabToSetup)) (Bor (List ErabDone))
+LentValue = declared.IeValue (Bor (List ℕ)) (Bor (List ErabToSetup)) (Bor (List ErabDone)) (Bor (List Tai))
 
 abbrev pub seen : LentValue → FieldValue
 seen (value.Mme mme) = value.Mme mme
@@ -24,15 +25,19 @@ seen (value.Cause cause) = value.Cause cause
 seen (value.Enb enb) = value.Enb enb
 seen (value.Bearers bearers) = value.Bearers bearers.now
 seen (value.Nas nas) = value.Nas nas.now
+seen (value.Paging stmsi) = value.Paging stmsi
+seen (value.Tais tais) = value.Tais tais.now
 seen (value.Done done) = value.Done done.now
 seen (value.Rates rates) = value.Rates rates
 seen (value.Tai tai) = value.Tai tai
 seen (value.Key key) = value.Key key.now
 seen (value.Radio radio) = value.Radio radio.now
+seen (value.Index index) = value.Index index
 seen (value.Stmsi stmsi) = value.Stmsi stmsi
 seen (value.Ids ids) = value.Ids ids
 seen (value.Cgi cgi) = value.Cgi cgi
 seen (value.Caps caps) = value.Caps caps
+seen (value.Domain cs) = value.Domain cs
 seen (value.Rrc rrc) = value.Rrc rrc
 
 abbrev pub all_seen : List (Option LentValue) → List (Option FieldValue)
@@ -82,6 +87,14 @@ erabs_to_setup = ie_type names.ERABS_TO_SETUP types.erabs_to_setup value.Bearers
 abbrev pub nas_pdu : IeType
 nas_pdu = ie_type names.NAS_PDU types.nas_pdu value.Nas (elim [ value.Nas v ↦ Some v | _ ↦ None ]) (λ v. refl) (elim [ value.Nas v ↦ refl | _ ↦ tt ]) tt refl
 
+-- UE Paging Identity (9.2.3.13)
+abbrev pub paging_id : IeType
+paging_id = ie_type names.PAGING_ID types.paging_id value.Paging (elim [ value.Paging v ↦ Some v | _ ↦ None ]) (λ v. refl) (elim [ value.Paging v ↦ refl | _ ↦ tt ]) types.paging_id_sound refl
+
+-- List of TAIs (9.1.6)
+abbrev pub tais : IeType
+tais = ie_type names.TAIS types.tais value.Tais (elim [ value.Tais v ↦ Some v | _ ↦ None ]) (λ v. refl) (elim [ value.Tais v ↦ refl | _ ↦ tt ]) types.tai_item_sound refl
+
 -- E-RAB Setup List (9.1.4.3)
 abbrev pub erabs_done : IeType
 erabs_done = ie_type names.ERABS_DONE types.erabs_done value.Done (elim [ value.Done v ↦ Some v | _ ↦ None ]) (λ v. refl) (elim [ value.Done v ↦ refl | _ ↦ tt ]) types.done_sound refl
@@ -102,6 +115,10 @@ security_key = ie_type names.SECURITY_KEY (fixed_octets names.SECURITY_KEY_OCTET
 abbrev pub radio_capability : IeType
 radio_capability = ie_type names.RADIO_CAPABILITY (octet_string names.MOST_OCTETS refl) value.Radio (elim [ value.Radio v ↦ Some v | _ ↦ None ]) (λ v. refl) (elim [ value.Radio v ↦ refl | _ ↦ tt ]) tt refl
 
+-- UE Identity Index Value (9.2.3.10)
+abbrev pub ue_index : IeType
+ue_index = ie_type names.UE_INDEX types.ue_index value.Index (elim [ value.Index v ↦ Some v | _ ↦ None ]) (λ v. refl) (elim [ value.Index v ↦ refl | _ ↦ tt ]) refl refl
+
 -- S-TMSI (9.2.3.6)
 abbrev pub stmsi : IeType
 stmsi = ie_type names.STMSI types.stmsi value.Stmsi (elim [ value.Stmsi v ↦ Some v | _ ↦ None ]) (λ v. refl) (elim [ value.Stmsi v ↦ refl | _ ↦ tt ]) (refl, refl) refl
@@ -118,6 +135,10 @@ cgi = ie_type names.CGI types.cgi value.Cgi (elim [ value.Cgi v ↦ Some v | _ �
 abbrev pub sec_caps : IeType
 sec_caps = ie_type names.SEC_CAPS types.sec_caps value.Caps (elim [ value.Caps v ↦ Some v | _ ↦ None ]) (λ v. refl) (elim [ value.Caps v ↦ refl | _ ↦ tt ]) (refl, refl) refl
 
+-- CN Domain (9.2.3.22)
+abbrev pub cn_domain : IeType
+cn_domain = ie_type names.CN_DOMAIN types.cn_domain value.Domain (elim [ value.Domain v ↦ Some v | _ ↦ None ]) (λ v. refl) (elim [ value.Domain v ↦ refl | _ ↦ tt ]) tt refl
+
 -- RRC Establishment Cause (9.2.1.3a)
 abbrev pub rrc_cause : IeType
 rrc_cause = ie_type names.RRC_CAUSE (enumerated names.RRC_CAUSE_ROOTS true refl) value.Rrc (elim [ value.Rrc v ↦ Some v | _ ↦ None ]) (λ v. refl) (elim [ value.Rrc v ↦ refl | _ ↦ tt ]) tt refl
@@ -129,15 +150,19 @@ by_ie f (value.Cause v) = f cause
 by_ie f (value.Enb v) = f enb
 by_ie f (value.Bearers v) = f erabs_to_setup
 by_ie f (value.Nas v) = f nas_pdu
+by_ie f (value.Paging v) = f paging_id
+by_ie f (value.Tais v) = f tais
 by_ie f (value.Done v) = f erabs_done
 by_ie f (value.Rates v) = f bit_rates
 by_ie f (value.Tai v) = f tai
 by_ie f (value.Key v) = f security_key
 by_ie f (value.Radio v) = f radio_capability
+by_ie f (value.Index v) = f ue_index
 by_ie f (value.Stmsi v) = f stmsi
 by_ie f (value.Ids v) = f ue_ids
 by_ie f (value.Cgi v) = f cgi
 by_ie f (value.Caps v) = f sec_caps
+by_ie f (value.Domain v) = f cn_domain
 by_ie f (value.Rrc v) = f rrc_cause
 
 abbrev pub id_of : FieldValue → ℕ
@@ -170,10 +195,12 @@ abbrev pub later_ies : List Listed
 later_ies =
     listed security_key (λ a at run s. s) (λ a. refl) ∷
     listed radio_capability (λ a at run s. s) (λ a. refl) ∷
+    listed ue_index (λ a at run s. s) (λ a. refl) ∷
     listed stmsi (λ a at run s. s) (λ a. refl) ∷
     listed ue_ids (λ a at run s. s) (λ a. refl) ∷
     listed cgi (λ a at run s. s) (λ a. refl) ∷
     listed sec_caps (λ a at run s. s) (λ a. refl) ∷
+    listed cn_domain (λ a at run s. s) (λ a. refl) ∷
     []
 
 abbrev pub ies_before_last : List Listed
@@ -183,6 +210,8 @@ ies_before_last =
     listed enb (λ a at run s. s) (λ a. refl) ∷
     listed erabs_to_setup (λ a at run s. s) (λ a. refl) ∷
     listed nas_pdu (λ a at run s. s) (λ a. refl) ∷
+    listed paging_id (λ a at run s. s) (λ a. refl) ∷
+    listed tais (λ a at run s. s) (λ a. refl) ∷
     listed erabs_done (λ a at run s. s) (λ a. refl) ∷
     listed bit_rates (λ a at run s. s) (λ a. refl) ∷
     listed tai (λ a at run s. s) (λ a. refl) ∷

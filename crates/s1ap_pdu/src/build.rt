@@ -1,7 +1,7 @@
 //! Messages of the values that were read: memory is taken here alone.
 
 ghost use Rattle.std.specs.Prelude.{◌≡◌, IsOk, Ok};
-ghost use Rattle.s1ap_pdu.specs.Messages.{initial_ue_message, uplink_nas_transport, downlink_nas_transport, initial_context_setup_request, initial_context_setup_response, initial_context_setup_failure, ue_context_release_request, ue_context_release_command, ue_context_release_complete, ue_capability_info_indication, made_from, message_from};
+ghost use Rattle.s1ap_pdu.specs.Messages.{initial_ue_message, uplink_nas_transport, downlink_nas_transport, initial_context_setup_request, initial_context_setup_response, initial_context_setup_failure, ue_context_release_request, ue_context_release_command, ue_context_release_complete, ue_capability_info_indication, paging, made_from, message_from};
 ghost use Rattle.s1ap_pdu.specs.Memory.{IsMade};
 
 use crate::pdu::Pdu;
@@ -186,6 +186,24 @@ fn ue_capability_info_indication(alloc: Global, slots: &Slots) -> Result<Pdu, Ou
     Ok(Pdu::UeCapabilityInfoIndication { mme, enb, radio })
 }
 
+#[tactic(auto, unfolding(crate::specs::Rows::fields_from))]
+fn paging(alloc: Global, slots: &Slots) -> Result<Pdu, OutOfMemory>
+    requires { IsOk (made_from paging slots.now) }
+    ensures { IsMade (made_from paging slots.now) result }
+{
+    find!(slots, 0, Index(index));
+    find!(slots, 1, Paging(id));
+    find!(slots, 2, Domain(cs));
+    find!(slots, 3, Tais(tais));
+    let tais = tais.own(alloc)?;
+    Ok(Pdu::Paging {
+        index: *index,
+        id: *id,
+        cs: *cs,
+        tais,
+    })
+}
+
 /// The message of that kind with the values in the slots, none of which is missing, its octets and lists in memory of their own.
 #[tactic(auto, unfolding(crate::specs::Messages::message_from))]
 pub fn message(alloc: Global, kind: MessageKind, slots: &Slots) -> Result<Pdu, OutOfMemory>
@@ -203,5 +221,6 @@ pub fn message(alloc: Global, kind: MessageKind, slots: &Slots) -> Result<Pdu, O
         MessageKind::UeContextReleaseCommand => Ok(ue_context_release_command(slots)),
         MessageKind::UeContextReleaseComplete => Ok(ue_context_release_complete(slots)),
         MessageKind::UeCapabilityInfoIndication => ue_capability_info_indication(alloc, slots),
+        MessageKind::Paging => paging(alloc, slots),
     }
 }

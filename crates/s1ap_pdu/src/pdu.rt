@@ -15,6 +15,9 @@ pub type ErabsToSetup = ListOf<ErabToSetup>;
 /// E-RABs that were set up, 1 to 256 of them (TS 36.413, 9.1.4.3).
 pub type ErabsDone = ListOf<ErabDone>;
 
+/// Tracking area identities, 1 to 256 of them (TS 36.413, 9.1.6).
+pub type Tais = ListOf<Tai>;
+
 /// A message of S1AP (TS 36.413, 9.1). `mme` is the MME UE S1AP ID, `enb` the eNB UE S1AP ID, below 2^24, and `nas` a
 /// NAS-PDU of at most 2,048 octets.
 #[derive(Debug, Drop)]
@@ -121,6 +124,17 @@ pub enum Pdu {
         /// UE Radio Capability, as long as the IEs of the message have at most 16,383 octets.
         radio: Octets,
     },
+    /// PAGING (9.1.6), from the MME.
+    Paging {
+        /// UE Identity Index Value, below 1024.
+        index: u16,
+        /// The S-TMSI of the UE.
+        id: Stmsi,
+        /// Is the CN domain cs?
+        cs: bool,
+        /// The tracking areas.
+        tais: Tais,
+    },
 }
 
 /// The values of a message of both identities and at most one IE more.
@@ -179,6 +193,9 @@ impl Pdu {
             }
             Pdu::UeContextReleaseComplete { mme, enb } => with_ids(*mme, *enb, None),
             Pdu::UeCapabilityInfoIndication { mme, enb, radio } => with_ids(*mme, *enb, Some(Radio(radio))),
+            Pdu::Paging { index, id, cs, tais } => {
+                [Some(Index(*index)), Some(Paging(*id)), Some(Domain(*cs)), Some(Tais(tais)), None, None]
+            }
         }
     }
 
@@ -197,6 +214,7 @@ impl Pdu {
             Pdu::UeContextReleaseCommand { .. } => MessageKind::UeContextReleaseCommand,
             Pdu::UeContextReleaseComplete { .. } => MessageKind::UeContextReleaseComplete,
             Pdu::UeCapabilityInfoIndication { .. } => MessageKind::UeCapabilityInfoIndication,
+            Pdu::Paging { .. } => MessageKind::Paging,
         }
     }
 }

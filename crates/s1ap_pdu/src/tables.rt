@@ -33,6 +33,8 @@ pub enum MessageKind {
     UeContextReleaseComplete,
     /// UE CAPABILITY INFO INDICATION (9.1.10).
     UeCapabilityInfoIndication,
+    /// PAGING (9.1.6).
+    Paging,
 }
 
 /// An information element that a message has.
@@ -95,13 +97,16 @@ const NO_ROW: IeRow = IeRow {
     needed: false,
 };
 
-/// The table of two, three, five or six rows.
+/// The table of two to six rows.
 macro_rules! table {
     ($a:expr, $b:expr) => {
         IeTable { rows: [$a, $b, NO_ROW, NO_ROW, NO_ROW, NO_ROW], len: 2 }
     };
     ($a:expr, $b:expr, $c:expr) => {
         IeTable { rows: [$a, $b, $c, NO_ROW, NO_ROW, NO_ROW], len: 3 }
+    };
+    ($a:expr, $b:expr, $c:expr, $d:expr) => {
+        IeTable { rows: [$a, $b, $c, $d, NO_ROW, NO_ROW], len: 4 }
     };
     ($a:expr, $b:expr, $c:expr, $d:expr, $e:expr) => {
         IeTable { rows: [$a, $b, $c, $d, $e, NO_ROW], len: 5 }
@@ -194,6 +199,7 @@ fn row_of(kind: MessageKind) -> MessageRow
         UeContextReleaseCommand => row("UEContextReleaseCommand", Down, Initiating, names::UE_CONTEXT_RELEASE, Reject, table!(reject(names::UE_IDS), ignore(names::CAUSE))),
         UeContextReleaseComplete => row("UEContextReleaseComplete", Up, Successful, names::UE_CONTEXT_RELEASE, Reject, table!(ignore(names::MME_UE_S1AP_ID), ignore(names::ENB_UE_S1AP_ID))),
         UeCapabilityInfoIndication => row("UECapabilityInfoIndication", Up, Initiating, names::UE_CAPABILITY_INFO_INDICATION, Ignore, table!(reject(names::MME_UE_S1AP_ID), reject(names::ENB_UE_S1AP_ID), ignore(names::RADIO_CAPABILITY))),
+        Paging => row("Paging", Down, Initiating, names::PAGING, Ignore, table!(ignore(names::UE_INDEX), ignore(names::PAGING_ID), ignore(names::CN_DOMAIN), ignore(names::TAIS))),
     }
 }
 
@@ -232,6 +238,7 @@ pub fn kind_with(outcome: Outcome, code: u8) -> Option<MessageKind>
         (Initiating, names::UE_CONTEXT_RELEASE) => Some(MessageKind::UeContextReleaseCommand),
         (Successful, names::UE_CONTEXT_RELEASE) => Some(MessageKind::UeContextReleaseComplete),
         (Initiating, names::UE_CAPABILITY_INFO_INDICATION) => Some(MessageKind::UeCapabilityInfoIndication),
+        (Initiating, names::PAGING) => Some(MessageKind::Paging),
         _ => None,
     }
 }

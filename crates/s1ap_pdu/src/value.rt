@@ -8,16 +8,17 @@ ghost use Rattle.s1ap_pdu.specs.Values.{value_type, among, later_ies, last_ie, s
 ghost use Rattle.aper_fields.specs.Run.{then_written};
 ghost use Rattle.s1ap_pdu.specs.Run.{value_run, IsRightValue};
 
-use crate::pdu::{ErabsDone, ErabsToSetup};
+use crate::pdu::{ErabsDone, ErabsToSetup, Tais};
 use aper_fields::{
-    BitReader, BitWriter, EnumValue, Ranged, read_enum, read_octet_string, read_octets_fixed,
-    write_enum, write_octet_string, write_octets_fixed,
+    BitReader, BitWriter, EnumValue, Ranged, read_bits_fixed, read_enum, read_octet_string,
+    read_octets_fixed, read_present, write_bits_fixed, write_enum, write_octet_string,
+    write_octets_fixed, write_present,
 };
 use device_types::Octets;
 use echo_base::{OutOfMemory, Refusal};
 use s1ap_ies::{
     BitRates, Cause, Cgi, Criticality, ErabDone, ErabToSetup, FoundList, PlainValue, SecCaps,
-    Stmsi, Tai, UeIds, find_list, names, write_list,
+    Stmsi, Tai, UeIds, find_list, names, read_paging_id, write_list, write_paging_id,
 };
 use std::alloc::Global;
 use std::marker::Model;
@@ -25,7 +26,7 @@ use std::marker::Model;
 /// The value of an IE that a message has (TS 36.413, 9.2). Octets and lists lie in what is read where they were found, and are
 /// lent where they are written.
 #[derive(Drop)]
-pub enum IeValue<O, S, D> {
+pub enum IeValue<O, S, D, T> {
     /// MME UE S1AP ID (9.2.3.3), the IE 0.
     Mme(u32),
     /// Cause (9.2.1.3), the IE 2.
@@ -36,6 +37,10 @@ pub enum IeValue<O, S, D> {
     Bearers(S),
     /// NAS-PDU (9.2.3.5), the IE 26.
     Nas(O),
+    /// UE Paging Identity (9.2.3.13), the IE 43.
+    Paging(Stmsi),
+    /// List of TAIs (9.1.6), the IE 46.
+    Tais(T),
     /// E-RAB Setup List (9.1.4.3), the IE 51.
     Done(D),
     /// UE Aggregate Maximum Bit Rate (9.2.1.20), the IE 66.
@@ -46,6 +51,8 @@ pub enum IeValue<O, S, D> {
     Key(O),
     /// UE Radio Capability (9.2.1.27), the IE 74.
     Radio(O),
+    /// UE Identity Index Value (9.2.3.10), the IE 80.
+    Index(u16),
     /// S-TMSI (9.2.3.6), the IE 96.
     Stmsi(Stmsi),
     /// UE S1AP IDs (9.1.4.6), the IE 99.
@@ -54,6 +61,8 @@ pub enum IeValue<O, S, D> {
     Cgi(Cgi),
     /// UE Security Capabilities (9.2.1.40), the IE 107.
     Caps(SecCaps),
+    /// CN Domain (9.2.3.22), the IE 109: is it cs?
+    Domain(bool),
     /// RRC Establishment Cause (9.2.1.3a), the IE 134.
     Rrc(EnumValue),
 }
@@ -86,10 +95,11 @@ pub type FoundValue<'a> = IeValue<
     FoundOctets<'a>,
     FoundList<'a, ErabToSetup>,
     FoundList<'a, ErabDone>,
+    FoundList<'a, Tai>,
 >;
 
 /// A value as it is written.
-pub type LentValue<'a> = IeValue<&'a Octets, &'a ErabsToSetup, &'a ErabsDone>;
+pub type LentValue<'a> = IeValue<&'a Octets, &'a ErabsToSetup, &'a ErabsDone, &'a Tais>;
 
 /// Finds an octet string of at most so many octets.
 fn find_text<'a>(r: &mut BitReader<'a>, most: usize) -> Result<FoundOctets<'a>, Refusal>
@@ -116,10 +126,12 @@ fn find_later_value<'a>(r: &mut BitReader<'a>, id: u16) -> Result<FoundValue<'a>
     match id {
         names::SECURITY_KEY => Ok(IeValue::Key(find_key(r)?)),
         names::RADIO_CAPABILITY => Ok(IeValue::Radio(find_text(r, names::MOST_OCTETS)?)),
+        names::UE_INDEX => Ok(IeValue::Index(read_bits_fixed(r, 10)? as u16)),
         names::STMSI => Ok(IeValue::Stmsi(Stmsi::read(r)?)),
         names::UE_IDS => Ok(IeValue::Ids(UeIds::read(r)?)),
         names::CGI => Ok(IeValue::Cgi(Cgi::read(r)?)),
         names::SEC_CAPS => Ok(IeValue::Caps(SecCaps::read(r)?)),
+        names::CN_DOMAIN => Ok(IeValue::Domain(read_present(r)?)),
         _ => Ok(IeValue::Rrc(read_enum(r, names::RRC_CAUSE_ROOTS, true)?)),
     }
 }
@@ -140,6 +152,8 @@ pub fn find_value<'a>(r: &mut BitReader<'a>, id: u16) -> Result<FoundValue<'a>, 
         )),
         names::ERABS_TO_SETUP => Ok(IeValue::Bearers(find_list(r, names::ERAB_TO_SETUP_ITEM)?)),
         names::NAS_PDU => Ok(IeValue::Nas(find_text(r, names::MOST_OCTETS_OF_NAS)?)),
+        names::PAGING_ID => Ok(IeValue::Paging(read_paging_id(r)?)),
+        names::TAIS => Ok(IeValue::Tais(find_list(r, names::TAI_ITEM)?)),
         names::ERABS_DONE => Ok(IeValue::Done(find_list(r, names::ERAB_SETUP_ITEM)?)),
         names::BIT_RATES => Ok(IeValue::Rates(BitRates::read(r)?)),
         names::TAI => Ok(IeValue::Tai(Tai::read(r)?)),
@@ -161,15 +175,19 @@ pub fn write_value(w: &mut BitWriter, value: &LentValue) -> Result<(), OutOfMemo
             write_list(w, names::ERAB_TO_SETUP_ITEM, Criticality::Reject, bearers)
         }
         IeValue::Nas(nas) => write_octet_string(w, nas.items()),
+        IeValue::Paging(stmsi) => write_paging_id(w, *stmsi),
+        IeValue::Tais(tais) => write_list(w, names::TAI_ITEM, Criticality::Ignore, tais),
         IeValue::Done(done) => { write_list(w, names::ERAB_SETUP_ITEM, Criticality::Ignore, done) }
         IeValue::Rates(rates) => rates.write(w),
         IeValue::Tai(tai) => tai.write(w),
         IeValue::Key(key) => write_octets_fixed(w, key.items()),
         IeValue::Radio(radio) => write_octet_string(w, radio.items()),
+        IeValue::Index(index) => write_bits_fixed(w, u64::from(*index), 10),
         IeValue::Stmsi(stmsi) => stmsi.write(w),
         IeValue::Ids(ids) => ids.write(w),
         IeValue::Cgi(cgi) => cgi.write(w),
         IeValue::Caps(caps) => caps.write(w),
+        IeValue::Domain(cs) => write_present(w, *cs),
         IeValue::Rrc(rrc) => write_enum(w, names::RRC_CAUSE_ROOTS, true, *rrc),
     }
 }
