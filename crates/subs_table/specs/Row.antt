@@ -8,13 +8,13 @@ use Rattle.serde_json.specs.Read.{read}
 use Rattle.serde_json.specs.Find.{get}
 use Rattle.device_types.specs.declared.subscriber.Subscriber.{Subscriber}
 use Rattle.echo_base.specs.declared.column.Column.{Column}
-use Rattle.echo_base.specs.declared.column.Column.TheVariants.{Imsi, Tmsi, Rand, Autn, Res, Key, Apn, Ip, Sgw, Teid, AmbrDl, AmbrUl, Forbidden}
+use Rattle.echo_base.specs.declared.column.Column.TheVariants.{Imsi, Tmsi, Rand, Autn, Res, Key, Apn, Ip, Sgw, Teid, AmbrDl, AmbrUl, Forbidden, Apn2, Ip2}
 use Rattle.echo_base.specs.declared.reason.Reason.TheVariants.{BadJson, MissingColumn, BadColumn}
 use Rattle.echo_base.specs.declared.refusal.Refusal.{Refusal}
 use Rattle.echo_base.specs.Answer.{◌>>=◌, refused}
 use Rattle.subs_table.specs.Kinds.{Kind, whole, decimal, hexadecimal, address, name, wholes}
 
--- the columns in their order, all of them needed
+-- the columns that a row needs, in their order
 abbrev pub columns : List Column
 columns = Imsi ∷ Tmsi ∷ Rand ∷ Autn ∷ Res ∷ Key ∷ Apn ∷ Ip ∷ Sgw ∷ Teid ∷ AmbrDl ∷ AmbrUl ∷ Forbidden ∷ []
 
@@ -33,6 +33,8 @@ key_of Teid = codes "teid"
 key_of AmbrDl = codes "ambr_dl"
 key_of AmbrUl = codes "ambr_ul"
 key_of Forbidden = codes "forbidden"
+key_of Apn2 = codes "apn2"
+key_of Ip2 = codes "ip2"
 
 -- ---- reading an object: what it has, or the refusal, which has no place
 

@@ -17,7 +17,7 @@ use echo_base::{Bad, Column, Reason, Refusal, decode_hex, refused};
 use serde_json::Value;
 use std::alloc::{AllocError, Global};
 
-/// The columns in their order.
+/// The columns that a row needs, in their order.
 const COLUMNS: [Column; 13] = [
     Column::Imsi,
     Column::Tmsi,
@@ -53,6 +53,8 @@ fn key(column: Column) -> &'static str
         Column::AmbrDl => "ambr_dl",
         Column::AmbrUl => "ambr_ul",
         Column::Forbidden => "forbidden",
+        Column::Apn2 => "apn2",
+        Column::Ip2 => "ip2",
     }
 }
 
@@ -115,9 +117,9 @@ fn is_decimal(text: &str) -> bool
     text.as_bytes().iter().all(|c| c.is_ascii_digit())
 }
 
-/// The number of a text of 15 decimal digits.
+/// The number of a text of 15 decimal digits, as an IMSI has (3GPP TS 23.003, 2.2); no other text is one.
 #[tactic(auto, unfolding(crate::specs::Kinds::number_of))]
-fn fifteen_digits(text: &str) -> Option<u64>
+pub fn fifteen_digits(text: &str) -> Option<u64>
     ensures number { result ≡ number_of 15 text.now }
     ensures range { IfSome result (λ n. n < 10 ^ 15) }
 {

@@ -5,5 +5,6 @@ mod columns;
 mod row;
 mod table;
 
+pub use columns::fifteen_digits;
 pub use row::read_row;
 pub use table::SubsTable;
