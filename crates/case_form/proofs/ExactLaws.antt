@@ -89,6 +89,16 @@ value_exact value_of word_of P found only = record {
   only = λ v run rest s. rw (s.1, only v s.0) refl;
 }
 
+-- a word that stands for a value, where a value has many words
+pub known_exact : {A : Type 0} (value_of : List ℕ → Option A) → IsExact (λ v run. (word : List ℕ) × (value_of word ≡ Some v) × (run ≡ word ∷ [])) (word_at >>= λ word. known (value_of word) tt)
+known_exact value_of = record {
+  found = λ words rest v e.
+      let x = bind_ok (word_at words) (λ x. known (value_of x.0) tt x.1) (v, rest) e in
+      let d = known_ok (value_of x.0.0) tt x.0.1 v rest x.2 in
+      (x.0.0 ∷ [], (x.0.0, d.0, refl), word_found words x.0.1 x.0.0 x.1 ∙ rw d.1 refl);
+  only = λ v run rest s. rw (s.2, s.1) refl;
+}
+
 pub number_exact : (most : ℕ) → most < 2 ^ 32 → IsExact (λ n run. IsWithin most n × (run ≡ decimal n ∷ [])) (number_at most)
 unfolding number_at
 number_exact most small = value_exact (number_of most) decimal (IsWithin most) (λ word n e. number_found most n word small e) (λ n within. number_only most n small within)

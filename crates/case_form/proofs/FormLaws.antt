@@ -16,22 +16,22 @@ use Rattle.device_types.specs.declared.subscriber.Subscriber.{Subscriber}
 use Rattle.subs_table.specs.Row.{row_of}
 use Rattle.subs_table.specs.Table.{add_refusal, has_key, imsi_of, tmsi_of, most_rows}
 use Rattle.case_form.specs.declared.case.TraceLine.{TraceLine}
+use Rattle.case_form.specs.declared.case.TraceKind.{TraceKind}
 use Rattle.case_form.specs.declared.section.Section.{Section}
 use Rattle.case_form.specs.declared.section.Section.TheVariants.{Subscribers, Trace, Schedule}
 use Rattle.case_form.specs.Case.{most_octets, row_reason, form_reason}
 use Rattle.device_types.specs.Event.{IsInForm}
-use Rattle.device_types.specs.Numbers.{IsWithin}
 use Rattle.case_form.specs.Event.{event_of}
-use Rattle.case_form.specs.Said.{most_lines}
+use Rattle.case_form.specs.Said.{most_lines, HasStation}
 use Rattle.case_form.specs.Section.{is_passed_over, is_heading, heading_of}
 use Rattle.case_form.specs.State.{Seen, unread, next, next_heading_reason, own_reason, reason_behind, rows_after, trace_after, schedule_after, own_after, after}
-use Rattle.case_form.specs.Trace.{sent_of}
+use Rattle.case_form.specs.Trace.{sent_of, notice_of, kind_from, kind_of}
 use Rattle.case_form.proofs.EventLaws.{event_found}
 use Rattle.case_form.proofs.StateLaws.{by_line, chain_none, some_of}
 use Rattle.case_form.proofs.TraceLaws.{sent_found}
 
 abbrev pub IsStation : TraceLine → Type 0
-IsStation line = IsWithin 65535 line.station
+IsStation line = HasStation line.kind
 
 pub record IsProper (seen : Seen) : Type 0 where
   pub rows_most : length seen.rows ≤ most_rows
@@ -102,17 +102,23 @@ All-more_option : {A : Type 0} (P : A → Type 0) (xs : List A) (o : Option A) �
 All-more_option P xs None all here = All-append P xs [] all (All-nil P)
 All-more_option P xs (Some x) all here = All-push P xs x all (here x refl)
 
-stationed : (number : ℕ) (line : List ℕ) (sent : Option (ℕ × List ℕ)) → sent_of line ≡ sent → (t : TraceLine) → option_map (λ (sent : ℕ × List ℕ). record { line = number; station = sent.0; text = sent.1 }) sent ≡ Some t → IsStation t
-stationed number line None is t e = absurd cc
-stationed number line (Some sent) is t e = subst IsStation (same_Some _ t e) (sent_found line sent is).0
+has_station : (line : List ℕ) (sent : Option (ℕ × List ℕ)) (notice : Option ℕ) → sent_of line ≡ sent → (kind : TraceKind) → kind_from sent notice ≡ Some kind → HasStation kind
+has_station line (Some sent) notice is kind e = subst HasStation (same_Some _ kind e) (sent_found line sent is).0
+has_station line None None is kind e = absurd cc
+has_station line None (Some imsi) is kind e = subst HasStation (same_Some _ kind e) tt
 
-trace_stays : (seen : Seen) (line : List ℕ) → IsProper seen → form_reason (length seen.trace) (is_some (sent_of line)) ≡ None → IsProper (record seen { trace = trace_after seen.number seen.trace line })
+stationed : (number : ℕ) (line : List ℕ) (kind : Option TraceKind) → kind_of line ≡ kind → (t : TraceLine) → option_map (λ (kind : TraceKind). record { line = number; kind = kind }) kind ≡ Some t → IsStation t
+unfolding kind_of
+stationed number line None is t e = absurd cc
+stationed number line (Some kind) is t e = subst IsStation (same_Some _ t e) (has_station line (sent_of line) (notice_of line) refl kind is)
+
+trace_stays : (seen : Seen) (line : List ℕ) → IsProper seen → form_reason (length seen.trace) (is_some (kind_of line)) ≡ None → IsProper (record seen { trace = trace_after seen.number seen.trace line })
 unfolding trace_after
 trace_stays seen line p none = record {
   rows_most = p.rows_most;
-  trace_most = length-more seen.trace _ most_lines (not_full (length seen.trace) (is_some (sent_of line)) none);
+  trace_most = length-more seen.trace _ most_lines (not_full (length seen.trace) (is_some (kind_of line)) none);
   schedule_most = p.schedule_most;
-  stations = All-more_option IsStation seen.trace _ p.stations (stationed seen.number line (sent_of line) refl);
+  stations = All-more_option IsStation seen.trace _ p.stations (stationed seen.number line (kind_of line) refl);
   events = p.events;
 }
 

@@ -25,8 +25,11 @@ pub parse_numeral : {E : Type 0} (word : List ℕ) (r : Result ℕ E) → Parses
 parse_numeral word r h e = parse_digits digits 32 word r h (numeral_parts word e).1
 
 -- digits are text
+pub digits_are_text : (word : List ℕ) → list_all is_ascii_digit word ≡ true → IsUtf8 word
+digits_are_text word all = IsUtf8-from_ascii word (IsAscii-from_digits word (digits.to word all))
+
 pub numeral_is_text : (word : List ℕ) → is_numeral word ≡ true → IsUtf8 word
-numeral_is_text word e = IsUtf8-from_ascii word (IsAscii-from_digits word (digits.to word (numeral_parts word e).1))
+numeral_is_text word e = digits_are_text word (numeral_parts word e).1
 
 -- what parse refuses is above the most
 pub too_large : {E : Type 0} (most : ℕ) (text word : List ℕ) (r : Result ℕ E) (e : E) → most < 2 ^ 32 → is_numeral word ≡ true → text ≡ word → ParsesUnsigned 32 10 text r → r ≡ Err e → None ≡ number_of most word

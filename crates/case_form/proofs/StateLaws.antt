@@ -22,7 +22,8 @@ use Rattle.case_form.specs.Event.{event_of}
 use Rattle.case_form.specs.Said.{most_lines}
 use Rattle.case_form.specs.Section.{place_of, is_passed_over, is_heading, heading_of}
 use Rattle.case_form.specs.State.{Seen, unread, next, is_late, next_heading_reason, own_reason, reason_behind, rows_after, trace_after, schedule_after, own_after, after}
-use Rattle.case_form.specs.Trace.{sent_of}
+use Rattle.case_form.specs.declared.case.TraceKind.{TraceKind}
+use Rattle.case_form.specs.Trace.{kind_of}
 use Rattle.case_form.proofs.PlaceLaws.{place, where_true, counted-push, rows_of-push, trace_of-push, schedule_of-push, refusals-push, section_behind-heading, headings-push, headings-same}
 
 -- what was seen is what the lines say, none of them is refused, and no line is counted that says nothing
@@ -221,7 +222,7 @@ row_grows before line seen s item plain section none =
       schedule = no_gain Schedule before line (placed_event (place before line)) seen.schedule (here Schedule);
     }
 
-trace_grows : (before : List (List ℕ)) (line : List ℕ) (seen : Seen) → IsSeen before seen → (is_passed_over line || is_heading line) ≡ false → is_heading line ≡ false → seen.section ≡ Some Trace → form_reason (length seen.trace) (is_some (sent_of line)) ≡ None → IsGrown before line seen (record (next seen) { trace = trace_after (next seen).number seen.trace line })
+trace_grows : (before : List (List ℕ)) (line : List ℕ) (seen : Seen) → IsSeen before seen → (is_passed_over line || is_heading line) ≡ false → is_heading line ≡ false → seen.section ≡ Some Trace → form_reason (length seen.trace) (is_some (kind_of line)) ≡ None → IsGrown before line seen (record (next seen) { trace = trace_after (next seen).number seen.trace line })
 unfolding trace_after
 trace_grows before line seen s item plain section none =
     let here = λ (other : Section). counted_here before line Trace other item (sym s.section ∙ section) in
@@ -231,8 +232,8 @@ trace_grows before line seen s item plain section none =
       number = refl;
       rows = no_gain Subscribers before line (placed_row (place before line)) seen.rows (here Subscribers);
       trace = record {
-        more = ap (λ (n : ℕ). seen.trace ++ option_to_list (option_map (λ (sent : ℕ × List ℕ). record { line = n; station = sent.0; text = sent.1 }) (sent_of line))) (same_number before line seen s) ∙ is_grown _ seen.trace _ (here Trace);
-        there = λ t. is_some-map _ (sent_of line) ∙ good_form (length seen.trace) (is_some (sent_of line)) none;
+        more = ap (λ (n : ℕ). seen.trace ++ option_to_list (option_map (λ (kind : TraceKind). record { line = n; kind = kind }) (kind_of line))) (same_number before line seen s) ∙ is_grown _ seen.trace _ (here Trace);
+        there = λ t. is_some-map _ (kind_of line) ∙ good_form (length seen.trace) (is_some (kind_of line)) none;
       };
       schedule = no_gain Schedule before line (placed_event (place before line)) seen.schedule (here Schedule);
     }

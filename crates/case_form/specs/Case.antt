@@ -19,7 +19,7 @@ use Rattle.case_form.specs.Event.{event_of}
 use Rattle.case_form.specs.Lines.{lines_of}
 use Rattle.case_form.specs.Said.{CaseState, most_lines}
 use Rattle.case_form.specs.Section.{place_of, is_passed_over, is_heading, heading_of}
-use Rattle.case_form.specs.Trace.{sent_of}
+use Rattle.case_form.specs.Trace.{kind_of}
 
 -- how many octets a line may have
 abbrev pub most_octets : ℕ
@@ -72,7 +72,7 @@ unfoldable pub rows_of : List (List ℕ) → List Subscriber
 rows_of lines = filter_map placed_row (counted Subscribers lines)
 
 abbrev pub placed_trace_line : Placed → Option TraceLine
-placed_trace_line p = option_map (λ sent. record { line = placed_number p; station = sent.0; text = sent.1 }) (sent_of p.line)
+placed_trace_line p = option_map (λ kind. record { line = placed_number p; kind = kind }) (kind_of p.line)
 
 unfoldable pub trace_of : List (List ℕ) → List TraceLine
 trace_of lines = filter_map placed_trace_line (counted Trace lines)
@@ -104,7 +104,7 @@ form_reason before good = if nat_le most_lines before then Some TooManyLines els
 abbrev pub section_reason : Option Section → Placed → Option Reason
 section_reason None p = Some BadSection
 section_reason (Some Subscribers) p = row_reason (rows_of p.before) (row_of (length (counted Subscribers p.before) + 1) p.line)
-section_reason (Some Trace) p = form_reason (length (counted Trace p.before)) (is_some (sent_of p.line))
+section_reason (Some Trace) p = form_reason (length (counted Trace p.before)) (is_some (kind_of p.line))
 section_reason (Some Schedule) p = form_reason (length (counted Schedule p.before)) (is_some (placed_event p))
 
 -- why a line is refused, or nothing; the first of these that applies

@@ -18,7 +18,7 @@ use Rattle.case_form.specs.declared.section.Section.TheVariants.{Subscribers, Tr
 use Rattle.case_form.specs.Case.{most_octets, row_reason, form_reason}
 use Rattle.case_form.specs.Event.{event_of}
 use Rattle.case_form.specs.Section.{place_of, is_passed_over, is_heading, heading_of}
-use Rattle.case_form.specs.Trace.{sent_of}
+use Rattle.case_form.specs.Trace.{kind_of}
 
 -- the section of the last heading, the number of the last line, and what the lines say
 pub record Seen : Type 0 where
@@ -51,7 +51,7 @@ next_heading_reason section (Some heading) = if is_late heading section then Som
 abbrev pub own_reason : Option Section → Seen → List ℕ → Option Reason
 own_reason None seen line = Some BadSection
 own_reason (Some Subscribers) seen line = row_reason seen.rows (row_of (length seen.rows + 1) line)
-own_reason (Some Trace) seen line = form_reason (length seen.trace) (is_some (sent_of line))
+own_reason (Some Trace) seen line = form_reason (length seen.trace) (is_some (kind_of line))
 own_reason (Some Schedule) seen line = form_reason (length seen.schedule) (is_some (event_of (length seen.rows) line))
 
 -- why a line is refused behind what was seen
@@ -66,7 +66,7 @@ unfoldable pub rows_after : List Subscriber → List ℕ → List Subscriber
 rows_after rows line = rows ++ option_to_list (result_ok (row_of (length rows + 1) line))
 
 unfoldable pub trace_after : ℕ → List TraceLine → List ℕ → List TraceLine
-trace_after number trace line = trace ++ option_to_list (option_map (λ sent. record { line = number; station = sent.0; text = sent.1 }) (sent_of line))
+trace_after number trace line = trace ++ option_to_list (option_map (λ kind. record { line = number; kind = kind }) (kind_of line))
 
 unfoldable pub schedule_after : ℕ → List Event → List ℕ → List Event
 schedule_after rows schedule line = schedule ++ option_to_list (event_of rows line)

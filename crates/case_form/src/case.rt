@@ -1,28 +1,43 @@
 //! Cases.
 ghost use Rattle.std.specs.Prelude.{◌≡◌, ◌≤◌, length, All};
 ghost use Rattle.device_types.specs.Event.{IsInForm};
-ghost use Rattle.device_types.specs.Numbers.{IsWithin};
 ghost use Rattle.subs_table.specs.Table.{IsTable};
-ghost use Rattle.case_form.specs.Said.{most_lines};
+ghost use Rattle.case_form.specs.Said.{most_lines, HasStation};
 
 use device_types::{Event, Octets};
 use echo_base::Reason;
 use std::marker::Model;
 use subs_table::SubsTable;
 
-/// A line of a trace: what a base station sent.
+/// A line of a trace.
 #[derive(Debug, Drop)]
 pub struct TraceLine {
     /// The number of the line in the case text, from 1.
     pub line: u32,
-    /// The base station, from 1.
-    pub station: u16,
-    /// The PDU as hexadecimal text, which is not yet looked at: one octet or more, none of which is a space.
-    pub text: Octets,
+    /// What it says.
+    pub kind: TraceKind,
 }
 
-/// What a case text says: subscribers, what the base stations sent, and a schedule. A base station is from 1 to 65535, the numbers of
-/// an event are in their limits, its device is one of the subscribers, and trace and schedule have at most 100,000 lines each.
+/// What a line of a trace says.
+#[derive(Debug, Drop)]
+pub enum TraceKind {
+    /// What a base station sent.
+    Pdu {
+        /// The base station, from 1.
+        station: u16,
+        /// The PDU as hexadecimal text, which is not yet looked at: one octet or more, none of which is a space.
+        text: Octets,
+    },
+    /// The gateway's notice that data waits for a device.
+    Data {
+        /// The device's IMSI, of 15 decimal digits.
+        imsi: u64,
+    },
+}
+
+/// What a case text says: subscribers, what base stations and the gateway sent, and a schedule. A base station is from 1 to 65535,
+/// the numbers of an event are in their limits, its device is one of the subscribers, and trace and schedule have at most 100,000
+/// lines each.
 #[derive(Debug, Drop)]
 pub struct Case {
     pub(crate) table: SubsTable,
@@ -50,10 +65,10 @@ impl Case {
         &self.table
     }
 
-    /// What the base stations sent, in order. It takes no memory.
+    /// What base stations and the gateway sent, in order. It takes no memory.
     pub fn trace(&self) -> &[TraceLine]
         ensures value { result.now ≡ self.now.trace }
-        ensures stations { All (λ line. IsWithin 65535 line.station) self.now.trace }
+        ensures stations { All (λ line. HasStation line.kind) self.now.trace }
         ensures most { length self.now.trace ≤ most_lines }
     {
         &self.trace

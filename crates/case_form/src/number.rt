@@ -8,7 +8,7 @@ ghost use Rattle.case_form.specs.Number.{is_numeral, number_of};
 use std::str;
 
 /// Are all octets decimal digits?
-fn are_digits(octets: &[u8]) -> bool
+pub(crate) fn are_digits(octets: &[u8]) -> bool
     ensures { result ≡ list_all is_ascii_digit octets.now }
 {
     octets.iter().all(|octet| octet.is_ascii_digit())

@@ -9,14 +9,14 @@ ghost use Rattle.case_form.specs.Event.{event_of};
 ghost use Rattle.case_form.specs.Said.{IsInLimits};
 ghost use Rattle.case_form.specs.Section.{heading_of};
 ghost use Rattle.case_form.specs.State.{Takes, TakesLine, counts_behind, seen_of, unread, next, next_heading_reason, reason_behind, rows_after, trace_after, schedule_after, after};
-ghost use Rattle.case_form.specs.Trace.{sent_of};
+ghost use Rattle.case_form.specs.Trace.{kind_of};
 
 use crate::case::{Case, CaseBad, TraceLine};
 use crate::event::read_event;
 use crate::section::{Section, heading_of, is_heading, is_passed_over};
-use crate::trace::read_sent;
+use crate::trace::read_kind;
 use bstr::ByteSlice;
-use device_types::{Event, Octets};
+use device_types::Event;
 use echo_base::{Bad, Reason, refused};
 use std::alloc::Global;
 use subs_table::{SubsTable, read_row};
@@ -61,21 +61,16 @@ fn take_trace_line(
     number: u32,
     line: &[u8],
 ) -> Result<(), Bad>
-    ensures { Takes result (form_reason (length trace.old.items) (is_some (sent_of line.now))) true
+    ensures { Takes result (form_reason (length trace.old.items) (is_some (kind_of line.now))) true
         (trace.new.items ≡ trace_after number trace.old.items line.now) }
 {
     if trace.len() >= MOST_LINES {
         return Err(refused(Reason::TooManyLines).into());
     }
-    let Some((station, text)) = read_sent(line) else {
+    let Some(kind) = read_kind(alloc, line)? else {
         return Err(refused(Reason::BadLine).into());
     };
-    let text = Octets::from(Vec::from_slice(alloc, text)?);
-    trace.push(TraceLine {
-        line: number,
-        station,
-        text,
-    })?;
+    trace.push(TraceLine { line: number, kind })?;
     Ok(())
 }
 
@@ -177,7 +172,8 @@ fn take_next(reading: &mut Reading, line: &[u8]) -> Result<(), CaseBad>
 /// begin with `#`, are passed over. The headings `[subscribers]`, `[trace]` and `[schedule]` stand in this order, each at
 /// most once. Behind them stand:
 /// - JSON objects, the rows of the subscriber table;
-/// - lines `STATION TEXT`: a base station from 1 to 65535, and a text of one octet or more without spaces;
+/// - lines `STATION TEXT`: a base station from 1 to 65535, and a text of one octet or more without spaces; and lines `data IMSI`:
+///   that word, and 15 decimal digits;
 /// - events, as `take R D N`, with words parted by one space: a replica from 1 to 16, a device from 1 to the number of
 ///   rows, and numbers of messages and effects from 1 to 4294967295. Numbers have no leading zeros.
 ///

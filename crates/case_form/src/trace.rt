@@ -1,10 +1,18 @@
 //! The lines of a trace.
 
-ghost use Rattle.std.specs.Prelude.{◌≡◌, option_map};
-ghost use Rattle.echo_base.specs.Reading.{GivesSomeBy};
-ghost use Rattle.case_form.specs.Trace.{text_at, sent_of};
+ghost use Rattle.std.specs.Prelude.{◌≡◌, option_map, IfOk};
+ghost use Rattle.echo_base.specs.Reading.{GivesSome, GivesSomeBy};
+ghost use Rattle.subs_table.specs.Kinds as kinds;
+ghost use Rattle.case_form.specs.Trace.{text_at, sent_of, data_at, imsi_at, notice_of, kind_of};
 
+use crate::case::TraceKind;
+use crate::number::are_digits;
 use crate::words::Words;
+use device_types::Octets;
+use echo_base::OutOfMemory;
+use std::alloc::Global;
+use std::str;
+use subs_table::fifteen_digits;
 
 /// Reads a word that is not empty.
 #[tactic(auto, unfolding(crate::specs::Trace::text_at))]
@@ -20,7 +28,7 @@ fn read_text<'a>(words: &mut Words<'a>) -> Option<&'a [u8]>
 
 /// The base station that a line of a trace names, and the text behind it.
 #[tactic(auto, unfolding(crate::specs::Trace::sent_at, crate::specs::Trace::sent_of))]
-pub(crate) fn read_sent(line: &[u8]) -> Option<(u16, &[u8])>
+fn read_sent(line: &[u8]) -> Option<(u16, &[u8])>
     ensures { option_map (λ sent. (sent.0, sent.1.now)) result ≡ sent_of line.now }
 {
     let mut words = Words::new(line);
@@ -30,4 +38,65 @@ pub(crate) fn read_sent(line: &[u8]) -> Option<(u16, &[u8])>
         return None;
     }
     Some((station as u16, text))
+}
+
+/// Reads the word with which a notice begins.
+#[tactic(auto, unfolding(crate::specs::Trace::data_at))]
+fn read_data(words: &mut Words) -> Option<()>
+    ensures { GivesSome result words.new (data_at words.old) }
+{
+    match words.word()? {
+        b"data" => Some(()),
+        _ => None,
+    }
+}
+
+/// The number of a word of 15 decimal digits.
+fn imsi_of(word: &[u8]) -> Option<u64>
+    ensures { result ≡ kinds.number_of 15 word.now }
+{
+    if !are_digits(word) {
+        return None;
+    }
+    let Ok(text) = str::from_utf8(word) else {
+        return None;
+    };
+    fifteen_digits(text)
+}
+
+/// Reads an IMSI.
+#[tactic(auto, unfolding(crate::specs::Trace::imsi_at))]
+fn read_imsi(words: &mut Words) -> Option<u64>
+    ensures { GivesSome result words.new (imsi_at words.old) }
+{
+    imsi_of(words.word()?)
+}
+
+/// The IMSI that a notice names.
+#[tactic(auto, unfolding(crate::specs::Trace::notice_at, crate::specs::Trace::notice_of))]
+fn read_notice(line: &[u8]) -> Option<u64>
+    ensures { result ≡ notice_of line.now }
+{
+    let mut words = Words::new(line);
+    read_data(&mut words)?;
+    let imsi = read_imsi(&mut words)?;
+    if !words.is_at_end() {
+        return None;
+    }
+    Some(imsi)
+}
+
+/// What a line of a trace says, if it is one. It fails for want of memory alone.
+#[tactic(auto, unfolding(crate::specs::Trace::kind_of))]
+pub(crate) fn read_kind(alloc: Global, line: &[u8]) -> Result<Option<TraceKind>, OutOfMemory>
+    ensures { IfOk result (λ kind. kind ≡ kind_of line.now) }
+{
+    if let Some((station, text)) = read_sent(line) {
+        let text = Octets::from(Vec::from_slice(alloc, text)?);
+        return Ok(Some(TraceKind::Pdu { station, text }));
+    }
+    match read_notice(line) {
+        Some(imsi) => Ok(Some(TraceKind::Data { imsi })),
+        None => Ok(None),
+    }
 }

@@ -108,13 +108,14 @@ fn many_rows(alloc: Global, count: u32) -> Result<String, AllocError> {
 
 /// A case with every kind of line and of event, as `text_of` reads it.
 const CASE: &str =
-    r#"# A case.^||[subscribers]|@^|#|{"imsi":"208930000000002","tmsi":2,&|[trace]|1 0g||65535 é^|[schedule]|send 1 7|take 4 2 8|answer 3 1 subscriber 8|answer 6 2 gateway 5|read 4|write 5|stop 16|reply 2 9|push 2 down 10|push 1 gateway 3|effect 2 gateway 11|effect 1 down 6|# end|settle 1 subscriber 4294967295|settle 2 gateway 13"#;
+    r#"# A case.^||[subscribers]|@^|#|{"imsi":"208930000000002","tmsi":2,&|[trace]|1 0g||65535 é^|data 000000000000007|[schedule]|send 1 7|take 4 2 8|answer 3 1 subscriber 8|answer 6 2 gateway 5|read 4|write 5|stop 16|reply 2 9|push 2 down 10|push 1 gateway 3|effect 2 gateway 11|effect 1 down 6|# end|settle 1 subscriber 4294967295|settle 2 gateway 13"#;
 
 /// What it says.
 const SAID: &str = "\
 1 208930000000001 1
 2 208930000000002 2
-[TraceLine { line: 8, station: 1, text: ListOf { items: [48, 103] } }, TraceLine { line: 10, station: 65535, text: ListOf { items: [195, 169] } }]
+[TraceLine { line: 8, kind: Pdu { station: 1, text: ListOf { items: [48, 103] } } }, TraceLine { line: 10, kind: Pdu { station: 65535, text: ListOf { items: [195, 169] } } }, \
+TraceLine { line: 11, kind: Data { imsi: 7 } }]
 [Send { d: DeviceId(1), n: 7 }, Take { r: 4, d: DeviceId(2), n: 8 }, Answer { r: 3, d: DeviceId(1), lane: Subscriber, k: 8 }, \
 Answer { r: 6, d: DeviceId(2), lane: Gateway, k: 5 }, Read { r: 4 }, Write { r: 5 }, Stop { r: 16 }, Reply { d: DeviceId(2), n: 9 }, \
 Push { d: DeviceId(2), lane: Down, k: 10 }, Push { d: DeviceId(1), lane: Gateway, k: 3 }, Effect { d: DeviceId(2), lane: Gateway, k: 11 }, \

@@ -109,6 +109,21 @@ const TRACE_LINES: &str = "\
 1 =BadLine 2\n\
 1=BadLine 2\n\
 1\t00=BadLine 2\n\
+data 208930000000001=good\n\
+data 000000000000000=good\n\
+data 20893000000000=BadLine 2\n\
+data 2089300000000011=BadLine 2\n\
+data 20893000000000x=BadLine 2\n\
+data +20893000000001=BadLine 2\n\
+data 208930000000001 =BadLine 2\n\
+data 208930000000001 00=BadLine 2\n\
+data  208930000000001=BadLine 2\n\
+data =BadLine 2\n\
+data=BadLine 2\n\
+Data 208930000000001=BadLine 2\n\
+data\t208930000000001=BadLine 2\n\
+\x20data 208930000000001=BadLine 2\n\
+1 data=good\n\
 x=BadLine 2\n\
 ";
 
