@@ -1,5 +1,5 @@
 -- Admitted messages are in their ranges, and numbered from 1.
-use Rattle.std.proofs.Common.{◌≡◌, ℕ, ◌+◌, ◌^◌, ◌<◌, Bool, true, false, eqb, List, [], ◌∷◌, ◌++◌, length, map, fold, Option, Some, None, suc, zero, refl, sym, ap, ◌∙◌, subst, inl, inr, arith}
+use Rattle.std.proofs.Common.{◌≡◌, ℕ, lit<, ◌+◌, ◌^◌, ◌<◌, Bool, true, false, eqb, List, [], ◌∷◌, ◌++◌, length, map, fold, Option, Some, None, suc, zero, refl, sym, ap, ◌∙◌, subst, inl, inr, arith}
 use Rattle.std.specs.Prelude.{if◌then◌else◌, All, find, ◌==◌, Result, Ok, Err, IfOk, IfSome}
 use Rattle.std.specs.List.{AllByRecursion, range_with_len}
 use Rattle.std.proofs.lemmas.Bool.{cases_Bool}
@@ -13,9 +13,13 @@ use Rattle.device_types.specs.declared.subscriber.DeviceId.{DeviceId}
 use Rattle.device_types.specs.declared.message.Body.{Body}
 use Rattle.device_types.specs.declared.message.Message.{Message}
 use Rattle.device_types.specs.Line.{number_of, IsLine}
-use Rattle.device_types.specs.Message.{IsBody, IsMessage}
+use Rattle.device_types.specs.declared.message.Body.TheVariants as bodies
+use Rattle.device_types.specs.Message.{IsFrom, IsBody, IsMessage}
 use Rattle.device_types.specs.Numbers.{IsWithin}
 use Rattle.case_form.specs.declared.case.TraceLine.{TraceLine}
+use Rattle.case_form.specs.declared.case.TraceKind.{TraceKind}
+use Rattle.case_form.specs.declared.case.TraceKind.TheVariants as kinds
+use Rattle.case_form.specs.Said.{HasStation}
 use Rattle.s1ap_ies.specs.declared.names.TheConstants as names
 use Rattle.s1ap_ies.specs.declared.tai.Tai.{Tai}
 use Rattle.s1ap_ies.specs.declared.stmsi.Stmsi.{Stmsi}
@@ -33,21 +37,31 @@ use Rattle.nas_kinds.specs.declared.nas_in.NasIn.TheVariants.{AttachRequest, Att
 use Rattle.nas_kinds.specs.Reading.{nas_of}
 use Rattle.entry_edge.specs.declared.sent.Sent.{Sent}
 use Rattle.entry_edge.specs.declared.check.Taken.{Taken}
-use Rattle.entry_edge.specs.Sent.{octets_of, service_from, request_of, onward_of, context_from, named, numbered, code_of, sent_of, said_by}
-use Rattle.entry_edge.specs.Trace.{Turn, Admitted, Refused, device_for, taken_by, taken_at, turn_of, turn, history, and_message, messages_of, book_of}
+use Rattle.entry_edge.specs.Sent.{octets_of, service_from, request_of, onward_of, context_from, named, numbered, code_of, sent_of, said_by, notice}
+use Rattle.entry_edge.specs.Trace.{Turn, Admitted, Refused, said_in, station_in, device_for, taken_by, taken_at, turn_of, turn, history, and_message, messages_of, book_of}
 use Rattle.entry_edge.proofs.Causes.{cause_left}
 use Rattle.entry_edge.proofs.NasRanges.{IsNasRight, nas_right}
 
 -- ---- what a message says
 
-abbrev IsSentRight : Sent → Type 0
-IsSentRight s = (s.enb < 2 ^ 24) × IsBody s.body
+-- the body of a message of a base station, which is no notice
+abbrev IsSaid : Body → Type 0
+IsSaid bodies.Data = ⊥
+IsSaid body = IsBody body
 
-service_right : (end : ℕ) (stmsi : Option Stmsi) → IfOk (service_from end stmsi) (λ said. IsBody said.1)
+abbrev IsSentRight : Sent → Type 0
+IsSentRight s = (s.enb < 2 ^ 24) × IsSaid s.body
+
+-- it comes from its base station
+from_station : (body : Body) (station enb : ℕ) → IsWithin 65535 station → enb < 2 ^ 24 → IsSaid body → IsFrom body station enb × IsBody body
+from_station bodies.Data station enb within low said = absurd said
+from_station _ station enb within low said = (record { station_least = within.0; station_most = omega arith; enb_most = low }, said)
+
+service_right : (end : ℕ) (stmsi : Option Stmsi) → IfOk (service_from end stmsi) (λ said. IsSaid said.1)
 service_right end None = tt
 service_right end (Some s) = tt
 
-request_right : (end : ℕ) (tai : Tai) (stmsi : Option Stmsi) (m : NasIn) → IsTai tai → IsNasRight m → IfOk (request_of end tai stmsi m) (λ said. IsBody said.1)
+request_right : (end : ℕ) (tai : Tai) (stmsi : Option Stmsi) (m : NasIn) → IsTai tai → IsNasRight m → IfOk (request_of end tai stmsi m) (λ said. IsSaid said.1)
 request_right end tai stmsi (AttachRequest identity eea eia pti) h n = (h, n.0, n.1, n.2)
 request_right end tai stmsi (DetachRequest off identity) h n = tt
 request_right end tai stmsi (AreaRequest identity) h n = h
@@ -57,7 +71,7 @@ request_right end tai stmsi (AuthResponse res) h n = tt
 request_right end tai stmsi SecurityComplete h n = tt
 request_right end tai stmsi (SecurityReject cause) h n = tt
 
-onward_right : (tai : Tai) (m : NasIn) → IsTai tai → IsNasRight m → IfOk (onward_of tai m) IsBody
+onward_right : (tai : Tai) (m : NasIn) → IsTai tai → IsNasRight m → IfOk (onward_of tai m) IsSaid
 onward_right tai AttachComplete h n = tt
 onward_right tai (DetachRequest off identity) h n = tt
 onward_right tai (AreaRequest identity) h n = h
@@ -73,11 +87,11 @@ sent_ok s = Ok s
 is_sent : (one s : Sent) → IsSentRight one → sent_ok one ≡ Ok s → IsSentRight s
 is_sent one s right e = let same : one ≡ s = cc in subst IsSentRight same right
 
-named_right : (enb : ℕ) (said : Result (Identity × Body) Refusal) (s : Sent) → enb < 2 ^ 24 → IfOk said (λ x. IsBody x.1) → (said >>= named enb) ≡ Ok s → IsSentRight s
+named_right : (enb : ℕ) (said : Result (Identity × Body) Refusal) (s : Sent) → enb < 2 ^ 24 → IfOk said (λ x. IsSaid x.1) → (said >>= named enb) ≡ Ok s → IsSentRight s
 named_right enb (Ok x) s en h e = is_sent _ s (en, h) e
 named_right enb (Err x) s en h e = absurd (cc e)
 
-numbered_right : (mme enb : ℕ) (body : Result Body Refusal) (s : Sent) → enb < 2 ^ 24 → IfOk body IsBody → (body >>= numbered mme enb) ≡ Ok s → IsSentRight s
+numbered_right : (mme enb : ℕ) (body : Result Body Refusal) (s : Sent) → enb < 2 ^ 24 → IfOk body IsSaid → (body >>= numbered mme enb) ≡ Ok s → IsSentRight s
 numbered_right mme enb (Ok body) s en h e = is_sent _ s (en, h) e
 numbered_right mme enb (Err x) s en h e = absurd (cc e)
 
@@ -89,7 +103,7 @@ uplink_right : (mme enb : ℕ) (tai : Tai) (read : Result NasIn Refusal) (s : Se
 uplink_right mme enb tai (Ok m) s en h n e = numbered_right mme enb (onward_of tai m) s en (onward_right tai m h n) e
 uplink_right mme enb tai (Err x) s en h n e = absurd (cc e)
 
-context_right : (o : Option ErabDone) → IfSome o IsErabDone → IsBody (context_from o)
+context_right : (o : Option ErabDone) → IfSome o IsErabDone → IsSaid (context_from o)
 context_right None h = tt
 context_right (Some item) h = (h.1, h.2)
 
@@ -129,22 +143,28 @@ said_right text s e = from_octets (octets_of text) s e
 -- ---- the turns
 
 abbrev IsTurnRight : Turn → Type 0
-IsTurnRight (Admitted t) = IsWithin 65535 t.station × IsSentRight t.sent
+IsTurnRight (Admitted t) = IsFrom t.sent.body t.station t.sent.enb × IsBody t.sent.body
 IsTurnRight (Refused r) = Unit {0}
 
-with_device : (line : TraceLine) (s : Sent) (device : Result DeviceId Refusal) → IsWithin 65535 line.station → IsSentRight s → IsTurnRight (turn_of line.line (device >>= λ d. Ok (record { device = d; station = line.station; sent = s })))
-with_device line s (Ok d) station right = (station, right)
-with_device line s (Err x) station right = tt
+with_device : (line station : ℕ) (s : Sent) (device : Result DeviceId Refusal) → IsFrom s.body station s.enb × IsBody s.body → IsTurnRight (turn_of line (device >>= λ d. Ok (record { device = d; station = station; sent = s })))
+with_device line station s (Ok d) right = right
+with_device line station s (Err x) right = tt
 
-with_said : (rows : List Subscriber) (H : List Turn) (line : TraceLine) (said : Result Sent Refusal) → said_by line.text ≡ said → IsWithin 65535 line.station → IsTurnRight (turn_of line.line (said >>= taken_by rows H line.station))
-with_said rows H line (Ok s) is station = with_device line s (device_for rows H (line.station, s.enb) s.claim) station (said_right line.text s is)
-with_said rows H line (Err x) is station = tt
+with_said : (rows : List Subscriber) (H : List Turn) (line station : ℕ) (text : List ℕ) (said : Result Sent Refusal) → said_by text ≡ said → IsWithin 65535 station → IsTurnRight (turn_of line (said >>= taken_by rows H station))
+with_said rows H line station text (Ok s) is within =
+    let right = said_right text s is in
+    with_device line station s (device_for rows H (station, s.enb) s.claim) (from_station s.body station s.enb within right.0 right.1)
+with_said rows H line station text (Err x) is within = tt
 
-turn_right : (rows : List Subscriber) (H : List Turn) (line : TraceLine) → IsWithin 65535 line.station → IsTurnRight (turn_of line.line (taken_at rows H line))
+of_kind : (rows : List Subscriber) (H : List Turn) (line : ℕ) (kind : TraceKind) → HasStation kind → IsTurnRight (turn_of line (said_in kind >>= taken_by rows H (station_in kind)))
+of_kind rows H line (kinds.Pdu station text) within = with_said rows H line station text (said_by text) refl within
+of_kind rows H line (kinds.Data imsi) none = with_device line 0 (notice imsi) (device_for rows H (0, 0) (notice imsi).claim) ((refl, lit< tt), tt)
+
+turn_right : (rows : List Subscriber) (H : List Turn) (line : TraceLine) → HasStation line.kind → IsTurnRight (turn_of line.line (taken_at rows H line))
 unfolding taken_at
-turn_right rows H line station = with_said rows H line (said_by line.text) refl station
+turn_right rows H line station = of_kind rows H line.line line.kind station
 
-turns_right : (rows : List Subscriber) (trace : List TraceLine) (H : List Turn) → AllByRecursion (λ line. IsWithin 65535 line.station) trace → AllByRecursion IsTurnRight H → AllByRecursion IsTurnRight (fold (turn rows) H trace)
+turns_right : (rows : List Subscriber) (trace : List TraceLine) (H : List Turn) → AllByRecursion (λ line. HasStation line.kind) trace → AllByRecursion IsTurnRight H → AllByRecursion IsTurnRight (fold (turn rows) H trace)
 turns_right rows [] H stations all = all
 turns_right rows (line ∷ trace) H stations all = turns_right rows trace (turn rows H line) stations.1 (turn_right rows H line stations.0, all)
 
@@ -159,31 +179,31 @@ range_more a (suc n) =
 no_line : IsLine []
 no_line = record { numbers = refl; ranges = All-nil IsMessage }
 
-line_more : (messages : List Message) (t : Taken) → IsWithin 65535 t.station → IsSentRight t.sent → IsLine messages → IsLine (and_message messages t)
-line_more messages t station right line =
+line_more : (messages : List Message) (t : Taken) → IsTurnRight (Admitted t) → IsLine messages → IsLine (and_message messages t)
+line_more messages t right line =
     let n = length messages in
     let last : n + 1 ≡ 1 + n = omega arith in
     let more : suc n ≡ n + 1 = omega arith in
     let numbers : map number_of messages ++ (n + 1) ∷ [] ≡ range_with_len 1 (n + 1) = ap (λ (l : List ℕ). l ++ (n + 1) ∷ []) line.numbers ∙ ap (λ (k : ℕ). range_with_len 1 n ++ k ∷ []) last ∙ sym (range_more 1 n) ∙ ap (range_with_len 1) more in
     record {
       numbers = simp (map-append, length-append) numbers;
-      ranges = All-push IsMessage messages _ line.ranges (record { pair = record { station_least = station.0; station_most = omega arith; enb_most = right.0 }; body = right.1 });
+      ranges = All-push IsMessage messages _ line.ranges (record { pair = right.0; body = right.1 });
     }
 
-push_right : (test : Bool) (messages : List Message) (t : Taken) → IsWithin 65535 t.station → IsSentRight t.sent → IsLine messages → IsLine (if test then and_message messages t else messages)
-push_right true messages t station right line = line_more messages t station right line
-push_right false messages t station right line = line
+push_right : (test : Bool) (messages : List Message) (t : Taken) → IsTurnRight (Admitted t) → IsLine messages → IsLine (if test then and_message messages t else messages)
+push_right true messages t right line = line_more messages t right line
+push_right false messages t right line = line
 
 messages_right : (d : ℕ) (H : List Turn) → AllByRecursion IsTurnRight H → IsLine (messages_of d H)
 messages_right d [] all = no_line
 messages_right d (Refused r ∷ H) all = messages_right d H all.1
-messages_right d (Admitted t ∷ H) all = push_right (eqb t.device.0 d) (messages_of d H) t all.0.0 all.0.1 (messages_right d H all.1)
+messages_right d (Admitted t ∷ H) all = push_right (eqb t.device.0 d) (messages_of d H) t all.0 (messages_right d H all.1)
 
 lines_right : (ds : List ℕ) (H : List Turn) → AllByRecursion IsTurnRight H → AllByRecursion IsLine (map (λ d. messages_of d H) ds)
 lines_right [] H all = tt
 lines_right (d ∷ ds) H all = (messages_right d H all, lines_right ds H all)
 
--- the lines of the book of a trace without base station 0
-pub book_right : (n : ℕ) (rows : List Subscriber) (trace : List TraceLine) → All (λ line. IsWithin 65535 line.station) trace → All IsLine (book_of n (history rows trace))
+-- the lines of the book of a trace whose PDUs are from no base station 0
+pub book_right : (n : ℕ) (rows : List Subscriber) (trace : List TraceLine) → All (λ line. HasStation line.kind) trace → All IsLine (book_of n (history rows trace))
 book_right n rows trace stations =
-    All-from_recursion IsLine (book_of n (history rows trace)) (lines_right (range_with_len 1 n) (history rows trace) (turns_right rows trace [] (recursion_from_All (λ line. IsWithin 65535 line.station) trace stations) tt))
+    All-from_recursion IsLine (book_of n (history rows trace)) (lines_right (range_with_len 1 n) (history rows trace) (turns_right rows trace [] (recursion_from_All (λ line. HasStation line.kind) trace stations) tt))

@@ -8,7 +8,7 @@ use Rattle.echo_base.specs.declared.identity.Identity.TheVariants.{Tmsi}
 use Rattle.echo_base.specs.declared.refusal.Refusal.{Refusal}
 use Rattle.echo_base.specs.Answer.{◌>>=◌, refused}
 use Rattle.device_types.specs.declared.message.Body.{Body}
-use Rattle.device_types.specs.declared.message.Body.TheVariants.{Attach, Service, Area, Detach, Response, Secured, SecurityRefused, AttachDone, ContextDone, ContextFailed, ReleaseAsked, Released, Capability}
+use Rattle.device_types.specs.declared.message.Body.TheVariants.{Attach, Service, Area, Detach, Response, Secured, SecurityRefused, AttachDone, ContextDone, ContextFailed, ReleaseAsked, Released, Capability, Data}
 use Rattle.device_types.specs.declared.cause.CauseCode.{CauseCode}
 use Rattle.s1ap_ies.specs.declared.names.TheConstants as names
 use Rattle.s1ap_ies.specs.declared.cause.Cause.{Cause}
@@ -22,7 +22,7 @@ use Rattle.nas_kinds.specs.declared.nas_in.NasIn.{NasIn}
 use Rattle.nas_kinds.specs.declared.nas_in.NasIn.TheVariants.{AttachRequest, AttachComplete, DetachRequest, AreaRequest, AuthResponse, SecurityComplete, SecurityReject, ServiceRequest}
 use Rattle.nas_kinds.specs.Kinds.{type_of}
 use Rattle.nas_kinds.specs.Reading.{nas_of}
-use Rattle.entry_edge.specs.declared.sent.Claim.TheVariants.{Named, Numbered}
+use Rattle.entry_edge.specs.declared.sent.Claim.TheVariants.{Named, Numbered, Noticed}
 use Rattle.entry_edge.specs.declared.sent.Sent.{Sent}
 
 -- ---- the text
@@ -99,6 +99,10 @@ said_by text = do
   pdu ← message_at octets
   sent_of (length octets) pdu
 
+-- a notice that data waits for the device with that IMSI; it has no eNB UE S1AP ID, for which 0 stands
+abbrev pub notice : ℕ → Sent
+notice imsi = record { claim = Noticed imsi; enb = 0; body = Data }
+
 -- the body by which a pair is free again
 abbrev pub is_release : Body → Bool
 is_release (Attach plmn tac eea eia pti) = false
@@ -114,3 +118,4 @@ is_release ContextFailed = false
 is_release (ReleaseAsked cause) = false
 is_release Released = true
 is_release (Capability octets) = false
+is_release Data = false

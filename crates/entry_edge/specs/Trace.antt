@@ -11,12 +11,14 @@ use Rattle.device_types.specs.declared.subscriber.DeviceId.{DeviceId}
 use Rattle.device_types.specs.declared.message.Message.{Message}
 use Rattle.subs_table.specs.Table.{device_by, imsi_of, tmsi_of}
 use Rattle.case_form.specs.declared.case.TraceLine.{TraceLine}
+use Rattle.case_form.specs.declared.case.TraceKind.{TraceKind}
+use Rattle.case_form.specs.declared.case.TraceKind.TheVariants.{Pdu, Data}
 use Rattle.entry_edge.specs.declared.sent.Claim.{Claim}
-use Rattle.entry_edge.specs.declared.sent.Claim.TheVariants.{Named, Numbered}
+use Rattle.entry_edge.specs.declared.sent.Claim.TheVariants.{Named, Numbered, Noticed}
 use Rattle.entry_edge.specs.declared.sent.Sent.{Sent}
 use Rattle.entry_edge.specs.declared.check.Taken.{Taken}
 use Rattle.entry_edge.specs.declared.admission.RefusedLine.{RefusedLine}
-use Rattle.entry_edge.specs.Sent.{is_release, said_by}
+use Rattle.entry_edge.specs.Sent.{is_release, said_by, notice}
 
 -- what came of a line: its message is admitted, or the line is refused
 pub data Turn : Type 0 where
@@ -31,6 +33,7 @@ pub data Turn : Type 0 where
 abbrev pub is_named : Claim → Bool
 is_named (Named identity) = true
 is_named (Numbered mme) = false
+is_named (Noticed imsi) = false
 
 abbrev pub binds : Taken → Bool
 binds t = is_named t.sent.claim
@@ -80,7 +83,7 @@ bound pair H = if_there pair H (opened pair H)
 
 -- ---- the checks
 
--- the device of a request is that of its identity
+-- the device of a request is that of its identity, and that of a notice is that of its IMSI
 abbrev pub device_of_identity : List Subscriber → Identity → Option DeviceId
 device_of_identity rows (Imsi imsi) = device_by imsi_of rows imsi
 device_of_identity rows (Tmsi tmsi) = device_by tmsi_of rows tmsi
@@ -97,6 +100,7 @@ agreed pair mme (Some d) = if d.0 == mme then Ok d else Err (refused (UnknownPai
 abbrev pub device_for : List Subscriber → List Turn → Pair → Claim → Result DeviceId Refusal
 device_for rows H pair (Named identity) = known identity (device_of_identity rows identity)
 device_for rows H pair (Numbered mme) = agreed pair mme (bound pair H)
+device_for rows H pair (Noticed imsi) = known (Imsi imsi) (device_of_identity rows (Imsi imsi))
 
 -- whose message it is
 abbrev pub taken_by : List Subscriber → List Turn → ℕ → Sent → Result Taken Refusal
@@ -104,9 +108,19 @@ taken_by rows H station sent = do
   device ← device_for rows H (station, sent.enb) sent.claim
   Ok (record { device = device; station = station; sent = sent })
 
--- The checks of a line, in order: its text, its PDU, what the message says, and whose it is. The first that fails is its refusal.
+-- what a line of that kind says, whatever came before it
+abbrev pub said_in : TraceKind → Result Sent Refusal
+said_in (Pdu station text) = said_by text
+said_in (Data imsi) = Ok (notice imsi)
+
+-- the base station that it names; a notice comes from none, for which 0 stands
+abbrev pub station_in : TraceKind → ℕ
+station_in (Pdu station text) = station
+station_in (Data imsi) = 0
+
+-- The checks of a line, in order: its text, its PDU, what the message says, and whose it is; of a notice only whose it is. The first that fails is its refusal.
 unfoldable pub taken_at : List Subscriber → List Turn → TraceLine → Result Taken Refusal
-taken_at rows H line = said_by line.text >>= taken_by rows H line.station
+taken_at rows H line = said_in line.kind >>= taken_by rows H (station_in line.kind)
 
 abbrev pub turn_of : ℕ → Result Taken Refusal → Turn
 turn_of line (Ok t) = Admitted t

@@ -3,6 +3,7 @@
 ghost use Rattle.std.specs.Prelude.{◌≡◌, ◌-◌, ◌≤◌, ◌∷◌, ◌++◌, [], ℕ, List, length, replicate, All, OnOk, IfOk, slice_index_or, slice_set};
 ghost use Rattle.device_types.specs.Line.{IsLine};
 ghost use Rattle.device_types.specs.Numbers.{IsWithin};
+ghost use Rattle.case_form.specs.Said.{HasStation};
 ghost use Rattle.entry_edge.specs.Trace.{Turn, turn, history, and_message, book_of, refused_of};
 ghost use Rattle.entry_edge.specs.Kept.{IsSeen};
 
@@ -135,17 +136,18 @@ fn bound_up(alloc: Global, lines: Vec<Messages>) -> Result<Book, OutOfMemory>
     Ok(book)
 }
 
-/// Goes through a trace in order. Each line is admitted to the book, as the next message of its device, or refused for the
-/// first check that it fails: BadHex; the refusals of `read_pdu`; WrongDirection at octet 1 for a message that an MME sends;
-/// for an INITIAL UE MESSAGE and an UPLINK NAS TRANSPORT the refusals of `read_nas`, then NasKind with the message type
-/// where the NAS message does not belong there; MissingIe of the S-TMSI, whose id is 96, at the end of the PDU, for a SERVICE REQUEST
-/// without it; UnknownDevice for an INITIAL UE MESSAGE whose identity is that of no row; UnknownPair for any other message
-/// whose pair of base station and eNB UE S1AP ID is bound to no device, or to one whose number is not the message's MME UE
-/// S1AP ID. An admitted INITIAL UE MESSAGE binds its pair to its device and frees the pair that the device had; an admitted
-/// UE CONTEXT RELEASE COMPLETE frees its pair. A refused line adds nothing and binds nothing.
+/// Goes through a trace in order. Each line is admitted to the book, as the next message of its device, or refused for the first
+/// check that it fails. A notice has the one check UnknownDevice, for an IMSI that is that of no row. A PDU has these: BadHex; the
+/// refusals of `read_pdu`; WrongDirection at octet 1 for a message that an MME sends; for an INITIAL UE MESSAGE and an UPLINK NAS
+/// TRANSPORT the refusals of `read_nas`, then NasKind with the message type where the NAS message does not belong there; MissingIe
+/// of the S-TMSI, whose id is 96, at the end of the PDU, for a SERVICE REQUEST without it; UnknownDevice for an INITIAL UE MESSAGE
+/// whose identity is that of no row; UnknownPair for any other message whose pair of base station and eNB UE S1AP ID is bound to no
+/// device, or to one whose number is not the message's MME UE S1AP ID. An admitted INITIAL UE MESSAGE binds its pair to its device
+/// and frees the pair that the device had; an admitted UE CONTEXT RELEASE COMPLETE frees its pair. A notice binds nothing, and has
+/// the base station and the eNB UE S1AP ID 0. A refused line adds nothing and binds nothing.
 pub fn admit(alloc: Global, table: &SubsTable, trace: &[TraceLine]) -> Result<Admitted, OutOfMemory>
-    // No base station is 0.
-    requires { All (λ line. IsWithin 65535 line.station) trace.now }
+    // No base station of a PDU is 0.
+    requires { All (λ line. HasStation line.kind) trace.now }
     ensures book { IfOk result (λ a. a.book ≡ book_of (length table.now) (history table.now trace.now)) }
     ensures refused { IfOk result (λ a. a.refused.items ≡ refused_of (history table.now trace.now)) }
     ensures lines { IfOk result (λ a. All IsLine a.book) }

@@ -99,7 +99,7 @@ impl Bindings {
                 self.bind(pair, t.device)?;
                 Ok(())
             }
-            Claim::Numbered(_) => {
+            Claim::Numbered(_) | Claim::Noticed(_) => {
                 if is_release(&t.sent.body) {
                     self.free(pair);
                     return Ok(());

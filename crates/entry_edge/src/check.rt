@@ -4,12 +4,12 @@ ghost use Rattle.std.specs.Prelude.{◌≡◌, List, length, IfOk, Some};
 ghost use Rattle.device_types.specs.Numbers.{IsWithin};
 ghost use Rattle.echo_base.specs.Answer.{IsAnswer};
 ghost use Rattle.entry_edge.specs.Sent.{octets_of, said_by};
-ghost use Rattle.entry_edge.specs.Trace.{Turn, known, device_of_identity, agreed, device_for, taken_at};
+ghost use Rattle.entry_edge.specs.Trace.{Turn, said_in, station_in, known, device_of_identity, agreed, device_for, taken_at};
 ghost use Rattle.entry_edge.specs.Kept.{Keeps};
 
 use crate::bindings::{Bindings, Pair};
-use crate::sent::{Claim, Sent, sent_of};
-use case_form::TraceLine;
+use crate::sent::{Claim, Sent, notice, sent_of};
+use case_form::{TraceKind, TraceLine};
 use device_types::{DeviceId, Octets};
 use echo_base::{Bad, Identity, Reason, Refusal, decode_hex, refused};
 use s1ap_messages::read_pdu;
@@ -21,7 +21,7 @@ use subs_table::SubsTable;
 pub struct Taken {
     /// The device that it is from.
     pub device: DeviceId,
-    /// The base station that it came from.
+    /// The base station that it came from, or 0 for a notice.
     pub station: u16,
     /// What it says.
     pub sent: Sent,
@@ -51,6 +51,26 @@ fn read_line(alloc: Global, text: &[u8]) -> Result<Sent, Bad>
     let octets = octets.octets();
     let pdu = read_pdu(alloc, octets)?;
     sent_of(alloc, octets.len() as u64, pdu)
+}
+
+/// What a line of that kind says, whatever came before it.
+fn read_kind(alloc: Global, kind: &TraceKind) -> Result<Sent, Bad>
+    ensures { IsAnswer (said_in kind.now) result }
+{
+    match kind {
+        TraceKind::Pdu { text, .. } => read_line(alloc, text.octets()),
+        TraceKind::Data { imsi } => Ok(notice(*imsi)),
+    }
+}
+
+/// The base station that a line of that kind names; a notice comes from none, for which 0 stands.
+fn station_of(kind: &TraceKind) -> u16
+    ensures { result ≡ station_in kind.now }
+{
+    match kind {
+        TraceKind::Pdu { station, .. } => *station,
+        TraceKind::Data { .. } => 0,
+    }
 }
 
 /// The device with that identity.
@@ -93,6 +113,7 @@ fn device_for(
     match claim {
         Claim::Named(identity) => known(table, identity),
         Claim::Numbered(mme) => agreed(pair, mme, bindings.bound(pair)),
+        Claim::Noticed(imsi) => known(table, Identity::Imsi(imsi)),
     }
 }
 
@@ -107,12 +128,13 @@ pub fn check(
     ensures taken { (H : List Turn) → Keeps (length table.now) H bindings.now → IsAnswer (taken_at table.now H line.now) result }
     ensures within { (H : List Turn) → Keeps (length table.now) H bindings.now → IfOk result (λ t. IsWithin (length table.now) t.device.0) }
 {
-    let sent = read_line(alloc, line.text.octets())?;
-    let pair = (line.station, sent.enb);
+    let sent = read_kind(alloc, &line.kind)?;
+    let station = station_of(&line.kind);
+    let pair = (station, sent.enb);
     let device = device_for(table, bindings, pair, sent.claim)?;
     Ok(Taken {
         device,
-        station: line.station,
+        station,
         sent,
     })
 }

@@ -3,19 +3,20 @@
 ghost use Rattle.std.specs.Prelude.{◌≡◌, ◌^◌, ◌<◌, ◌∷◌, [], length, IfOk, IfSome};
 ghost use Rattle.device_types.specs.Cause.{IsCauseCode};
 ghost use Rattle.device_types.specs.Down.{IsAccept, IsDown};
+ghost use Rattle.device_types.specs.Message.{IsArea};
 ghost use Rattle.device_types.specs.Nas.{IsNasOut};
 ghost use Rattle.device_types.specs.Subscriber.{IsSubscriber};
 ghost use Rattle.s1ap_ies.specs.Run.{IsNas};
 ghost use Rattle.s1ap_pdu.specs.Run.{written};
 ghost use Rattle.s1ap_pdu.specs.Small.{IsSmall};
 ghost use Rattle.nas_kinds.specs.Written.{nas_written};
-ghost use Rattle.entry_edge.specs.Down.{cause_of, algorithms_of, accept_of, bearer_of, message_of};
+ghost use Rattle.entry_edge.specs.Down.{cause_of, algorithms_of, accept_of, bearer_of, paging_of, message_of};
 
 use device_types::{Accept, CauseCode, Down, NasOut, Octets, Subscriber, TryCopy};
 use echo_base::OutOfMemory;
 use nas_kinds::write_nas;
-use s1ap_ies::{BitRates, Cause, ErabToSetup, SecCaps, UeIds, names};
-use s1ap_messages::{ErabsToSetup, Pdu, small_is_right, write_pdu};
+use s1ap_ies::{BitRates, Cause, ErabToSetup, SecCaps, Stmsi, Tai, UeIds, names};
+use s1ap_messages::{ErabsToSetup, Pdu, Tais, small_is_right, write_pdu};
 use std::alloc::Global;
 
 /// A NAS message to the device.
@@ -124,6 +125,30 @@ fn setup_message(
     }
 }
 
+/// The MME code of this MME, as the identities that it gives have it (3GPP TS 23.003, 2.8).
+const MME_CODE: u8 = 1;
+
+/// The paging of a row's device in a tracking area, for its packet domain. Its index is the IMSI modulo 1024 (3GPP TS 36.304, 7.1).
+#[tactic(auto, unfolding(s1ap_ies::specs::Values::tai_item))]
+fn paging_message(alloc: Global, row: &Subscriber, plmn: u32, tac: u16) -> Result<Pdu, OutOfMemory>
+    requires row { IsSubscriber row.now }
+    requires area { IsArea plmn tac }
+    ensures message { IfOk result (λ p. p ≡ paging_of row.now plmn tac) }
+    ensures small { IfOk result IsSmall }
+{
+    let mut tais = Tais::new(alloc);
+    tais.push(Tai { plmn, tac })?;
+    Ok(Pdu::Paging {
+        index: (row.imsi % 1024) as u16,
+        id: Stmsi {
+            mmec: MME_CODE,
+            tmsi: row.tmsi,
+        },
+        cs: false,
+        tais,
+    })
+}
+
 /// The message of a down.
 #[tactic(auto, unfolding(s1ap_ies::specs::Values::erab_to_setup, s1ap_ies::specs::Values::erab_id, s1ap_ies::specs::Values::qos, s1ap_ies::specs::Values::arp, s1ap_ies::specs::Values::address))]
 fn message_of(alloc: Global, row: &Subscriber, down: &Down) -> Result<Pdu, OutOfMemory>
@@ -136,6 +161,7 @@ fn message_of(alloc: Global, row: &Subscriber, down: &Down) -> Result<Pdu, OutOf
     match down {
         Down::Nas { enb, nas, .. } => nas_message(alloc, mme, *enb, nas),
         Down::Release { enb, cause, .. } => Ok(release_message(mme, *enb, *cause)),
+        Down::Page { plmn, tac } => paging_message(alloc, row, *plmn, *tac),
         Down::Setup {
             enb,
             dl,
@@ -167,9 +193,10 @@ fn message_of(alloc: Global, row: &Subscriber, down: &Down) -> Result<Pdu, OutOf
     }
 }
 
-/// The octets of a message to the device of a row, in aligned PER: DOWNLINK NAS TRANSPORT (TS 36.413, 9.1.7.2), INITIAL
-/// CONTEXT SETUP REQUEST (9.1.4.1) with one bearer, the default one of QCI 9, to the gateway's tunnel, and UE CONTEXT RELEASE COMMAND
-/// (9.1.4.6). The MME UE S1AP ID is the row's number, and the access point name of an ATTACH ACCEPT the row's.
+/// The octets of a message to the device of a row, in aligned PER: DOWNLINK NAS TRANSPORT (TS 36.413, 9.1.7.2), INITIAL CONTEXT
+/// SETUP REQUEST (9.1.4.1) with one bearer, the default one of QCI 9, to the gateway's tunnel, UE CONTEXT RELEASE COMMAND
+/// (9.1.4.6), and PAGING (9.1.6) in one area, with the IMSI modulo 1024 as its index. The MME UE S1AP ID is the row's number, and
+/// the access point name of an ATTACH ACCEPT the row's.
 pub fn down_bytes(alloc: Global, row: &Subscriber, down: &Down) -> Result<Octets, OutOfMemory>
     requires row { IsSubscriber row.now }
     requires down { IsDown down.now }

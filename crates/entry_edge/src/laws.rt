@@ -32,7 +32,8 @@ pub fn line_refused()
 {}
 
 /// An admitted line is the next message of its device. An INITIAL UE MESSAGE frees the pair that the device had, and binds
-/// its own in place of what it was bound to; a UE CONTEXT RELEASE COMPLETE frees its pair; any other leaves all as it was.
+/// its own in place of what it was bound to; a UE CONTEXT RELEASE COMPLETE frees its pair; any other, and a notice, leaves all as it
+/// was.
 pub fn line_admitted()
     ensures refused { (rows : List Subscriber) (H : List Turn) (line : TraceLine) (t : Taken) → taken_at rows H line ≡ Ok t
         → refused_of (turn rows H line) ≡ refused_of H }

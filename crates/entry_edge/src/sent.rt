@@ -4,7 +4,7 @@ ghost use Rattle.std.specs.Prelude.{◌≡◌, ◌==◌, length, find};
 ghost use Rattle.echo_base.specs.Answer.{IsAnswer};
 ghost use Rattle.nas_kinds.specs.Reading.{nas_of};
 ghost use Rattle.s1ap_ies.specs.declared.names.TheConstants as named;
-ghost use Rattle.entry_edge.specs.Sent.{request_of, onward_of, context_of, code_of, sent_of};
+ghost use Rattle.entry_edge.specs.Sent.{request_of, onward_of, context_of, code_of, notice, sent_of};
 
 use device_types::{Body, CauseCode};
 use echo_base::{Bad, Identity, Reason, Refusal, refused};
@@ -20,6 +20,8 @@ pub enum Claim {
     Named(Identity),
     /// Any other message, by the MME UE S1AP ID.
     Numbered(u32),
+    /// A notice of the gateway, by the device's IMSI.
+    Noticed(u64),
 }
 
 /// What a message says.
@@ -148,6 +150,17 @@ fn code_of(cause: Cause) -> CauseCode
         group: cause.group,
         extended: cause.extended,
         index: cause.index,
+    }
+}
+
+/// A notice that data waits for the device with that IMSI. It has no eNB UE S1AP ID, for which 0 stands.
+pub fn notice(imsi: u64) -> Sent
+    ensures { result ≡ notice imsi }
+{
+    Sent {
+        claim: Claim::Noticed(imsi),
+        enb: 0,
+        body: Body::Data,
     }
 }
 

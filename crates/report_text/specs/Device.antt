@@ -25,6 +25,7 @@ abbrev pub station_of : Down → ℕ
 station_of (down.Nas station enb nas) = station
 station_of (down.Setup station enb dl ul sgw teid eea eia key accept) = station
 station_of (down.Release station enb cause) = station
+station_of (down.Page plmn tac) = 0
 
 -- a message to the device of a row
 abbrev pub sent_line : Subscriber → ℕ → Down → List ℕ

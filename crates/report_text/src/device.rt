@@ -112,7 +112,7 @@ fn put_device_line(text: &mut String, line: DeviceLine) -> Result<(), OutOfMemor
     writeln!(text, "{line}")
 }
 
-/// The base station of a message.
+/// The base station of a message; a paging goes to all of an area, for which 0 stands.
 fn station_of(down: &Down) -> u16
     ensures { result ≡ station_of down.now }
 {
@@ -120,6 +120,7 @@ fn station_of(down: &Down) -> u16
         Down::Nas { station, .. } => *station,
         Down::Setup { station, .. } => *station,
         Down::Release { station, .. } => *station,
+        Down::Page { .. } => 0,
     }
 }
 

@@ -4,9 +4,9 @@ ghost use Rattle.std.specs.Prelude.{◌≡◌, ◌++◌, IfOk, OnOk, string_byte
 ghost use Rattle.echo_base.specs.Answer.{IsAnswer};
 ghost use Rattle.s1ap_pdu.specs.Run.{IsRight};
 ghost use Rattle.report_text.specs.Lines.{ended};
-ghost use Rattle.report_text.specs.Show.{pdu_of, message_line, refusal_line, line_text, show_text};
+ghost use Rattle.report_text.specs.Show.{pdu_of, message_line, refusal_line, shown, line_text, show_text};
 
-use case_form::TraceLine;
+use case_form::{TraceKind, TraceLine};
 use device_types::Octets;
 use echo_base::{Bad, OutOfMemory, Refusal};
 use entry_edge::decode;
@@ -44,29 +44,33 @@ fn put_refusal(text: &mut String, line: u32, refusal: Refusal) -> Result<(), Out
     writeln!(text, "line {line} refused {refusal}")
 }
 
-/// Puts the line that tells a line of a trace behind a text: the message's name and the octets with which it is written, or why it is
+/// Puts the line that tells a PDU of a trace behind a text: the message's name and the octets with which it is written, or why it is
 /// refused.
-fn put_line(alloc: Global, text: &mut String, line: &TraceLine) -> Result<(), OutOfMemory>
-    ensures { OnOk result (string_bytes text.new ≡ string_bytes text.old ++ line_text line.now) }
+fn put_pdu(alloc: Global, text: &mut String, line: u32, pdu: &[u8]) -> Result<(), OutOfMemory>
+    ensures { OnOk result (string_bytes text.new ≡ string_bytes text.old ++ shown line (pdu_of pdu.now)) }
 {
-    match read_text(alloc, line.text.octets()) {
+    match read_text(alloc, pdu) {
         Ok(pdu) => {
             let octets = write_pdu(alloc, &pdu)?;
-            put_message(
-                alloc,
-                text,
-                line.line,
-                message_name(pdu.kind()),
-                octets.octets(),
-            )
+            put_message(alloc, text, line, message_name(pdu.kind()), octets.octets())
         }
-        Err(Bad::Refused(refusal)) => put_refusal(text, line.line, refusal),
+        Err(Bad::Refused(refusal)) => put_refusal(text, line, refusal),
         Err(Bad::OutOfMemory) => Err(OutOfMemory),
     }
 }
 
-/// What the lines of a trace are: for each a line `line LINE NAME HEX`, with the message as it is written, or `line LINE refused `
-/// and the refusal, which is BadHex or that of `read_pdu`.
+/// Puts what tells a line of a trace behind a text: a notice is passed over.
+fn put_line(alloc: Global, text: &mut String, line: &TraceLine) -> Result<(), OutOfMemory>
+    ensures { OnOk result (string_bytes text.new ≡ string_bytes text.old ++ line_text line.now) }
+{
+    match &line.kind {
+        TraceKind::Pdu { text: pdu, .. } => put_pdu(alloc, text, line.line, pdu.octets()),
+        TraceKind::Data { .. } => Ok(()),
+    }
+}
+
+/// What the lines of a trace are: for each that is no notice a line `line LINE NAME HEX`, with the message as it is written, or
+/// `line LINE refused ` and the refusal, which is BadHex or that of `read_pdu`.
 pub fn show_text(alloc: Global, trace: &[TraceLine]) -> Result<Octets, OutOfMemory>
     ensures { IfOk result (λ text. text ≡ show_text trace.now) }
 {

@@ -58,6 +58,7 @@ command 0017001000000200630004000100070002400122
 setup 0009005f0000060000000200010008000200070042000800058002540be40000180013000034000e050009200f80c0a8000200000102006b000518000e0000004900200000000000000000000000000000000000000000000000000000000000000000
 reject-behind 000b4017000003000000020001000800020007001a000403074e0a00
 released-in-capitals 2017000F000002000040020001000840020007
+paging 000a4027000004005040020040002b4006001000000001006d400100002e400b00002f40060002f8390001
 three-digits 000
 no-digit 0g
 one-octet 00
@@ -86,6 +87,9 @@ const CASES: &str = "\
 3 service, 3 command, 3 setup = 1.1 3/7 Service; 6: 14 WrongDirection at 1; 7: 14 WrongDirection at 1;
 3 reject, 3 reject-behind, 3 three-digits, 3 no-digit, 3 one-octet = 5: 14 WrongDirection at 1; 6: 13 TrailingBytes at 27; 7: 29 BadHex; 8: 29 BadHex; 9: 1 Truncated at 1;
 3 released-in-capitals = 5: 31 UnknownPair 3 7;
+3 service, data 208930000000001, 3 request = 1.1 3/7 Service; 1.2 0/0 Data; 1.3 3/7 ReleaseAsked { cause: CauseCode { group: 0, extended: false, index: 20 } };
+data 208930000000002, data 208930000000003, data 208930000000001, 3 request = 1.1 0/0 Data; 2.1 0/0 Data; 6: 30 UnknownDevice imsi 208930000000003; 8: 31 UnknownPair 3 7;
+3 service, data 208930000000002, 3 request, 3 paging = 1.1 3/7 Service; 1.2 3/7 ReleaseAsked { cause: CauseCode { group: 0, extended: false, index: 20 } }; 2.1 0/0 Data; 8: 14 WrongDirection at 1;
 ";
 
 /// The hexadecimal text of that name.
@@ -99,13 +103,17 @@ fn named(name: &str) -> Result<&str, Fail> {
     Err(Fail::new("no such message"))
 }
 
-/// The case text of a trace: a line for each of its items, which are a base station and the name of a message.
+/// The case text of a trace: a line for each of its items, which are a base station and the name of a message, or a notice.
 fn case_text(alloc: Global, trace: &str) -> Result<String, Fail> {
     let mut text = format!(in alloc; "[subscribers]\n{ROWS}[trace]\n")?;
     for item in trace.split(", ") {
         let (station, name) = item.split_once(' ').ok_or("no base station")?;
-        let octets = named(name)?;
-        writeln!(text, "{station} {octets}")?;
+        let behind = if station == "data" {
+            name
+        } else {
+            named(name)?
+        };
+        writeln!(text, "{station} {behind}")?;
     }
     Ok(text)
 }

@@ -13,10 +13,11 @@ use subs_table::read_row;
 
 /// The row of the device, which is the second.
 const ROW: &str =
-    r#"{"imsi":"208930000000009","tmsi":23,"rand":"000102030405060708090a0b0c0d0e0f","autn":"101112131415161718191a1b1c1d1e1f","res":"a0a1a2a3","key":"202122232425262728292a2b2c2d2e2f303132333435363738393a3b3c3d3e3f","apn":"m2m","ip":"0a2d0001","sgw":"c0a80001","teid":4,"ambr_dl":6,"ambr_ul":8,"forbidden":[]}"#;
+    r#"{"imsi":"208930000001033","tmsi":23,"rand":"000102030405060708090a0b0c0d0e0f","autn":"101112131415161718191a1b1c1d1e1f","res":"a0a1a2a3","key":"202122232425262728292a2b2c2d2e2f303132333435363738393a3b3c3d3e3f","apn":"m2m","ip":"0a2d0001","sgw":"c0a80001","teid":4,"ambr_dl":6,"ambr_ul":8,"forbidden":[]}"#;
 
-/// What goes down, and its octets: NAS messages; contexts that are set up, with an ATTACH ACCEPT and without one; releases, for a root
-/// of the NAS causes and for causes behind the extension marks of the radio network's and of NAS. Those of the second, third and last
+/// What goes down, and its octets: NAS messages; contexts that are set up, with an ATTACH ACCEPT and without one; releases, for a
+/// root of the NAS causes and for causes behind the extension marks of the radio network's and of NAS; and a paging, of index 9,
+/// the IMSI modulo 1024 (of which 208,930,000,000,000 is a multiple): 0000001001 p(6), 0240. Those of the second, third and seventh
 /// line go to eNB UE S1AP ID 197,637, the others to 7.
 const DOWNS: &str = "\
 AUTHENTICATION REJECT: 000b4016000003000000020002000800020007001a0003020754
@@ -26,6 +27,7 @@ set up: 0009005f0000060000000200020008000200070042000800058002540be4000018001300
 released, root: 0017001000000200630004000200070002400122
 released, extended: 001700110000020063000400020007000240020850
 released, last: 0017001300000200630006000280030405000240022bf0
+paged: 000a4027000004005040020240002b4006001000000017006d400100002e400b00002f40060002f8390003
 ";
 
 /// An eNB UE S1AP ID of one octet.
@@ -165,6 +167,16 @@ fn tell_releases(alloc: Global, text: &mut String, row: &Subscriber) -> Result<(
     tell(alloc, text, row, "released, last", &down)
 }
 
+/// A paging in the device's area.
+fn paged() -> Down
+    ensures { IsDown result }
+{
+    Down::Page {
+        plmn: 0x02_f839,
+        tac: 3,
+    }
+}
+
 #[test]
 fn downs_have_their_octets(rt: HostRuntime) -> Result<(), Fail> {
     let alloc = rt.alloc();
@@ -173,6 +185,7 @@ fn downs_have_their_octets(rt: HostRuntime) -> Result<(), Fail> {
     tell_messages(alloc, &mut text, &row)?;
     tell_setups(alloc, &mut text, &row)?;
     tell_releases(alloc, &mut text, &row)?;
+    tell(alloc, &mut text, &row, "paged", &paged())?;
     assert_eq!(rt; text.as_str(), DOWNS);
     Ok(())
 }

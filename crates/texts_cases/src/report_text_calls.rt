@@ -28,6 +28,7 @@ down 1 3 000b4016000003000000020002000800020007001a0003020754
 down 2 4 000b4017000003000000020002000800020009001a000403074b0c
 down 3 3 0017001000000200630004000200070002400122
 down 4 3 001700110000020063000400020007000240020280
+down 5 0 000a4027000004005040020040002b4006001000000002006d400100002e400b00002f40060002f8390102
 gateway 1 release
 gateway 2 delete
 subscriber 1 purge
@@ -157,6 +158,11 @@ fn released_downs(alloc: Global) -> Result<Downs, Fail>
         index: 20,
     };
     push_down(&mut downs, release(station, enb, cause))?;
+    let page = Down::Page {
+        plmn: 0x02_f839,
+        tac: 258,
+    };
+    push_down(&mut downs, page)?;
     Ok(downs)
 }
 

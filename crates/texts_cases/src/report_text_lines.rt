@@ -2,7 +2,7 @@
 ghost use Rattle.std.specs.Prelude.{◌≡◌, [], length};
 
 use crate::report_text_calls::FIRST;
-use case_form::TraceLine;
+use case_form::{TraceKind, TraceLine};
 use device_types::*;
 use echo_base::Status;
 use report_text::{final_text, show_text, status_line};
@@ -26,9 +26,12 @@ const TRACE: &str = "\
 0017001000000200630004000100070002400122
 2017000f000002000040020001000840020007
 00164016000003000000020001000800020007004a4003020102
+data
+000a4027000004005040020040002b4006001000000001006d400100002e400b00002f40060002f8390001
 ";
 
-/// What they are: a message with an IE that is passed over, two that are refused, and one of each message.
+/// What they are: a message with an IE that is passed over, two that are refused, and one of each message; before the last one a
+/// notice.
 const SHOWN: &str = "\
 line 7 UEContextReleaseComplete 2017000f000002000040020001000840020001
 line 8 refused 13 TrailingBytes at 19
@@ -43,15 +46,20 @@ line 16 UEContextReleaseRequest 001240150000030000000200010008000200070002400208
 line 17 UEContextReleaseCommand 0017001000000200630004000100070002400122
 line 18 UEContextReleaseComplete 2017000f000002000040020001000840020007
 line 19 UECapabilityInfoIndication 00164016000003000000020001000800020007004a4003020102
+line 21 Paging 000a4027000004005040020040002b4006001000000001006d400100002e400b00002f40060002f8390001
 ";
 
-/// The line of a trace with that text.
+/// The line of a trace with that number and text, or a notice for `data`.
 fn line(alloc: Global, line: u32, text: &str) -> Result<TraceLine, Fail> {
-    Ok(TraceLine {
-        line,
-        station: 1,
-        text: Octets::from(Vec::from_slice(alloc, text.as_bytes())?),
-    })
+    let kind = if text == "data" {
+        TraceKind::Data { imsi: 1 }
+    } else {
+        TraceKind::Pdu {
+            station: 1,
+            text: Octets::from(Vec::from_slice(alloc, text.as_bytes())?),
+        }
+    };
+    Ok(TraceLine { line, kind })
 }
 
 /// The lines of the trace.
