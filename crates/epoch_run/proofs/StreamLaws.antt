@@ -10,7 +10,7 @@ use Rattle.device_types.specs.Line.{number_of, IsNumbered}
 use Rattle.epoch_agents.specs.declared.stream.Stream.{Stream}
 use Rattle.epoch_agents.proofs.MergeLaws.{range-more}
 use Rattle.epoch_run.specs.State.{AreDrawable}
-use Rattle.epoch_run.specs.Streams.{begins, and_message, numbered, onward, next_index, stream_from, and_stream, streams_behind, streams_of, IsNew}
+use Rattle.epoch_run.specs.Streams.{begins, and_message, numbered, behind, next_index, stream_from, and_stream, streams_behind, streams_of, IsNew}
 
 -- ---- messages
 
@@ -45,7 +45,7 @@ choose P false x y p q = q
 
 new_stream : (index : ℕ) (message : Message) (messages : List Message) → IsNew (stream_from index message messages)
 new_stream index message messages = record {
-  some = let long = length_behind [] (message ∷ onward messages) in omega (arith, long);
+  some = let long = length_behind [] (message ∷ behind message messages) in omega (arith, long);
   none_acked = refl;
 }
 

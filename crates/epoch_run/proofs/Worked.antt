@@ -32,6 +32,11 @@ headless : streams_of (message 1 1 bodies.Secured ∷ message 2 3 bodies.Service
 unfolding message stream streams_of
 headless = refl
 
+-- a notice is a stream of its own, of the station 0, and ends no other
+notices : streams_of (message 1 0 bodies.Data ∷ message 2 1 bodies.Service ∷ message 3 0 bodies.Data ∷ message 4 1 bodies.Released ∷ []) ≡ stream 0 1 (message 1 0 bodies.Data ∷ []) ∷ stream 1 1 (message 1 1 bodies.Service ∷ message 2 1 bodies.Released ∷ []) ∷ stream 0 2 (message 1 0 bodies.Data ∷ []) ∷ []
+unfolding message stream streams_of
+notices = refl
+
 -- the messages of a merge are numbered in its order
 merged : messages_merged (streams_of line) (record { a = 2; stamp = 1; n = 1 } ∷ record { a = 1; stamp = 2; n = 1 } ∷ record { a = 1; stamp = 2; n = 2 } ∷ []) ≡ message 1 2 (bodies.Attach 1 1 1 1 1) ∷ message 2 1 (bodies.Attach 1 1 1 1 1) ∷ message 3 1 bodies.Secured ∷ []
 unfolding message line streams_of

@@ -1,12 +1,22 @@
 -- The streams of a device: its messages, cut where it comes to a base station.
-use Rattle.std.specs.Prelude.{◌≡◌, ℕ, ◌+◌, ◌==◌, ◌≤◌, Bool, List, [], ◌∷◌, ◌++◌, length, fold, count_by, if◌then◌else◌}
+use Rattle.std.specs.Prelude.{◌≡◌, ℕ, ◌+◌, ◌==◌, ◌≤◌, Bool, true, false, List, [], ◌∷◌, ◌++◌, length, fold, count_by, if◌then◌else◌}
+use Rattle.device_types.specs.declared.message.Body.{Body}
+use Rattle.device_types.specs.declared.message.Body.TheVariants as bodies
 use Rattle.device_types.specs.declared.message.Message.{Message}
 use Rattle.device_types.specs.StepLaws.{comes}
 use Rattle.epoch_agents.specs.declared.stream.Stream.{Stream}
 
--- an INITIAL UE MESSAGE begins a stream: it carries what a device comes with
+-- an INITIAL UE MESSAGE begins a stream: it carries what a device comes with; and so does a notice
 abbrev pub begins : Message → Bool
 begins message = comes message.body
+
+-- a notice of the gateway
+abbrev pub is_data : Body → Bool
+is_data bodies.Data = true
+is_data _ = false
+
+abbrev pub is_notice : Message → Bool
+is_notice message = is_data message.body
 
 -- a message behind others, with the next number
 abbrev pub and_message : List Message → Message → List Message
@@ -16,10 +26,14 @@ and_message messages message = messages ++ record message { number = length mess
 abbrev pub numbered : List Message → List Message
 numbered messages = fold and_message [] messages
 
--- the messages up to the next one that begins a stream
+-- the messages up to the next one that begins a stream, without the notices among them
 abbrev pub onward : List Message → List Message
 onward [] = []
-onward (message ∷ messages) = if begins message then [] else message ∷ onward messages
+onward (message ∷ messages) = if is_notice message then onward messages else if begins message then [] else message ∷ onward messages
+
+-- what belongs to the stream of a message behind it: to a notice nothing
+abbrev pub behind : Message → List Message → List Message
+behind first messages = if is_notice first then [] else onward messages
 
 abbrev pub is_of_station : ℕ → Stream → Bool
 is_of_station station stream = station == stream.station
@@ -33,7 +47,7 @@ abbrev pub stream_from : ℕ → Message → List Message → Stream
 stream_from index message messages = record {
   station = message.station;
   index = index;
-  line = record { messages = numbered (message ∷ onward messages); acked = 0 };
+  line = record { messages = numbered (message ∷ behind message messages); acked = 0 };
 }
 
 -- with the stream that a message begins behind them, where it begins one

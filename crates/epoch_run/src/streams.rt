@@ -5,7 +5,7 @@ ghost use Rattle.std.specs.BTreeMap.{Updates};
 ghost use Rattle.std.specs.Ordering.{nat_cmp};
 ghost use Rattle.epoch_agents.specs.Kept.{value_or};
 ghost use Rattle.epoch_run.specs.State.{AreCounts};
-ghost use Rattle.epoch_run.specs.Streams.{begins, and_message, numbered, onward, stream_from, and_stream, streams_of};
+ghost use Rattle.epoch_run.specs.Streams.{begins, is_notice, and_message, numbered, onward, behind, stream_from, and_stream, streams_of};
 
 use agent_order::Line;
 use device_types::{Body, Message, Messages, TryCopy};
@@ -15,12 +15,12 @@ use std::alloc::Global;
 use std::collections::BTreeMap;
 use std::sync::Arc;
 
-/// Does a message begin a stream? So does what an INITIAL UE MESSAGE carries.
+/// Does a message begin a stream? So does what an INITIAL UE MESSAGE carries, and a notice.
 fn begins(message: &Message) -> bool
     ensures { result ≡ begins message.now }
 {
     match &message.body {
-        Body::Attach { .. } | Body::Service => true,
+        Body::Attach { .. } | Body::Service | Body::Data => true,
         Body::Area { first, .. } | Body::Detach { first, .. } => *first,
         Body::Response { .. }
         | Body::Secured
@@ -34,6 +34,13 @@ fn begins(message: &Message) -> bool
     }
 }
 
+/// Is a message a notice of the gateway? It is a stream of its own, and ends no other.
+fn is_notice(message: &Message) -> bool
+    ensures { result ≡ is_notice message.now }
+{
+    matches!(message.body, Body::Data)
+}
+
 /// Puts a message behind others, with the next number.
 pub(crate) fn put_message(messages: &mut Messages, message: &Message) -> Result<(), OutOfMemory>
     ensures { OnOk result (messages.new ≡ and_message messages.old message.now) }
@@ -44,8 +51,9 @@ pub(crate) fn put_message(messages: &mut Messages, message: &Message) -> Result<
     messages.push(message)
 }
 
-/// The messages of a stream: the first, and those behind it up to the next one that begins a stream.
-fn stream_messages(
+/// The messages of a stream that a message of a base station begins: that one, and those behind it up to the next one that begins
+/// such a stream, without notices.
+fn onward_messages(
     alloc: Global,
     first: &Message,
     others: &[Message],
@@ -55,15 +63,31 @@ fn stream_messages(
     let mut messages = Messages::new(alloc);
     put_message(&mut messages, first)?;
     for message in others {
-        if begins(message) {
-            return Ok(messages);
+        if !is_notice(message) {
+            if begins(message) {
+                return Ok(messages);
+            }
+            put_message(&mut messages, message)?;
         }
-        put_message(&mut messages, message)?;
     }
     Ok(messages)
 }
 
-/// The stream of that index that a message begins, with the messages behind it up to the next one that begins a stream.
+/// The messages of a stream that a message begins: a notice is one alone.
+fn stream_messages(
+    alloc: Global,
+    first: &Message,
+    others: &[Message],
+) -> Result<Messages, OutOfMemory>
+    ensures { IfOk result (λ messages. messages ≡ numbered (first.now ∷ behind first.now others.now)) }
+{
+    if is_notice(first) {
+        return onward_messages(alloc, first, &[]);
+    }
+    onward_messages(alloc, first, others)
+}
+
+/// The stream of that index that a message begins, with the messages behind it that belong to it.
 fn stream_from(
     alloc: Global,
     index: u32,
@@ -114,7 +138,7 @@ fn put_stream(
 }
 
 /// The streams of a device with these messages, in the order of their first ones: an INITIAL UE MESSAGE begins a stream of its base
-/// station, and the messages behind it belong to that stream, up to the next one.
+/// station, and the messages behind it belong to that stream, up to the next one. A notice is a stream of its own, of the station 0.
 #[tactic(auto, unfolding(crate::specs::Streams::streams_of))]
 pub fn streams_of(alloc: Global, messages: &[Message]) -> Result<Vec<Stream>, OutOfMemory>
     requires { length messages.now ≤ 100000 }
