@@ -72,6 +72,7 @@ release-detach-two 0017001000000200630004000100020002400124
 release-other 0017001000000200630004000100010002400126
 release-inactivity 001700110000020063000400010001000240020280
 release-inactivity-two 001700110000020063000400010002000240020280
+paging 000a4027000004005040020040002b4006001000000001006d400100002e400b00002f40060002f8390001
 ";
 
 /// The words of a command, a case text, and what is written, or the status line. A bar stands for the end of a line, and the name of a
@@ -108,6 +109,11 @@ plain = [subscribers]|row-without-gateway = echo: case refused 21 BadColumn line
 show = [subscribers]|{ = echo: case refused 19 BadJson line 2
 show = [subscribers]|row|[schedule]|take 1 2 1 = echo: case refused 26 BadLine line 4
 plain = [schedule]|[trace] = echo: case refused 25 BadSection line 2
+plain = [subscribers]|row|[trace]|1 attach|1 response|1 secured|1 done|1 capability|1 complete|1 request|1 released|data 208930000000001|1 service|1 done = device 208930000000001 messages 11 steps 17|down 1 1 authentication|down 2 1 security|down 3 1 setup|down 4 1 release-inactivity|down 5 0 paging|down 6 1 setup-again|gateway 1 create|gateway 2 modify c0a80002 2|gateway 3 release|gateway 4 modify c0a80002 2|subscriber 1 vectors|subscriber 2 location|session connected link 1/1 area 02f839 1 bearer active radio 2
+plain = [subscribers]|row|[trace]|data 208930000000002 = refused 4 30 UnknownDevice imsi 208930000000002|device 208930000000001 messages 0 steps 0|session detached link off area 000000 0 bearer none radio 0
+plain = [subscribers]|row|second-row|[trace]|data 208930000000002|data 000000000000000|1 request|1 paging|data 208930000000002 = refused 6 30 UnknownDevice imsi 000000000000000|refused 7 31 UnknownPair 1 1|refused 8 14 WrongDirection at 1|device 208930000000001 messages 0 steps 0|session detached link off area 000000 0 bearer none radio 0|device 208930000000002 messages 2 steps 2|session detached link off area 000000 0 bearer none radio 0
+plain = [trace]|data 20893000000001 = echo: case refused 26 BadLine line 2
+show = [trace]|data 208930000000001|1 attach|1 paging|data 208930000000001 = line 3 InitialUEMessage attach|line 4 Paging paging
 epochs --device=1 --number=22830 --events=40 = [subscribers]|row|[trace]|1 attach|1 response|1 secured|2 service|2 request|1 service = event 1: void link|event 2: sent|event 3: sent|event 4: committed 1|event 5: sent|event 6: low 1|event 7: renamed 2|event 8: sent|event 9: sent|event 10: ahead 0|event 11: old|event 12: void link|event 13: void link|event 14: sent|event 15: sent|event 16: committed 2|event 17: committed 3|event 18: repeat 1|event 19: over 1|event 20: sent|event 21: void link|event 22: sent|event 23: repeat 1|event 24: sent|event 25: sent|event 26: void link|event 27: acked 1|event 28: void link|event 29: old|event 30: sent|event 31: void link|event 32: void link|event 33: sent|event 34: over|event 35: void link|event 36: void window|event 37: sent|event 38: void link|event 39: old|event 40: void link|merge 1 2 1 1|merge 2 1 1 1|merge 1 1 2 1|session authenticating link 1/1 area 02f839 1 bearer none radio 0
 epochs --events 14 --number 999 --device 2 = [subscribers]|row|second-row|[trace]|1 service|1 other|2 other|1 service = event 1: void link|event 2: sent|event 3: sent|event 4: sent|event 5: committed 1|event 6: low 1|event 7: sent|event 8: void link|event 9: repeat 1|event 10: void link|event 11: sent|event 12: void link|event 13: void link|event 14: low 1|merge 2 1 1 1|session authenticating link 2/1 area 02f839 1 bearer none radio 0
 crash --after=18 = [subscribers]|row|[trace]|1 attach|1 response|1 secured|1 done|1 capability|1 complete = acknowledged 4 found 4|device 208930000000001 version 4
@@ -116,8 +122,8 @@ crash --after=0 = [subscribers] = acknowledged 0 found 0
 crash --after=0 = [schedule]|[trace] = echo: case refused 25 BadSection line 2
 ";
 
-/// The messages of the first subscriber from base station 1, and what becomes of the device: each row of the step table
-/// (3GPP TS 23.401, 5.3; an answer follows its call at once), and then messages that fit no row.
+/// The messages of the first subscriber from base station 1, and what becomes of the device: each row of the step table (3GPP TS
+/// 23.401, 5.3; an answer follows its call at once); messages that fit no row; and a notice in each stage, of which one pages.
 const TRACES: &str = "\
 attach-away = device 208930000000001 messages 1 steps 1|down 1 1 attach-reject|down 2 1 release-normal|session releasing link 1/1 area 000000 0 bearer none radio 0
 attach = device 208930000000001 messages 1 steps 2|down 1 1 authentication|subscriber 1 vectors|session authenticating link 1/1 area 02f839 1 bearer none radio 0
@@ -160,6 +166,17 @@ service later-area later-detach = device 208930000000001 messages 3 steps 3|down
 service done done-six = device 208930000000001 messages 3 steps 3|down 1 1 reject|session detached link off area 000000 0 bearer none radio 0
 service done-second done-twice failure = device 208930000000001 messages 4 steps 4|down 1 1 reject|session detached link off area 000000 0 bearer none radio 0
 service request capability = device 208930000000001 messages 3 steps 3|down 1 1 reject|session detached link off area 000000 0 bearer none radio 0
+notice = device 208930000000001 messages 1 steps 1|session detached link off area 000000 0 bearer none radio 0
+attach-away notice = device 208930000000001 messages 2 steps 2|down 1 1 attach-reject|down 2 1 release-normal|session releasing link 1/1 area 000000 0 bearer none radio 0
+attach notice = device 208930000000001 messages 2 steps 3|down 1 1 authentication|subscriber 1 vectors|session authenticating link 1/1 area 02f839 1 bearer none radio 0
+attach response notice = device 208930000000001 messages 3 steps 4|down 1 1 authentication|down 2 1 security|subscriber 1 vectors|session securing link 1/1 area 02f839 1 bearer none radio 0
+attach response secured notice = device 208930000000001 messages 4 steps 7|down 1 1 authentication|down 2 1 security|down 3 1 setup|gateway 1 create|subscriber 1 vectors|subscriber 2 location|session accepting link 1/1 area 02f839 1 bearer made radio 0
+attach response secured done notice = device 208930000000001 messages 5 steps 8|down 1 1 authentication|down 2 1 security|down 3 1 setup|gateway 1 create|subscriber 1 vectors|subscriber 2 location|session accepting-context link 1/1 area 02f839 1 bearer made radio 0
+attach response secured complete notice = device 208930000000001 messages 5 steps 8|down 1 1 authentication|down 2 1 security|down 3 1 setup|gateway 1 create|subscriber 1 vectors|subscriber 2 location|session accepting-done link 1/1 area 02f839 1 bearer made radio 0
+attach response secured done complete notice = device 208930000000001 messages 6 steps 10|down 1 1 authentication|down 2 1 security|down 3 1 setup|gateway 1 create|gateway 2 modify c0a80002 2|subscriber 1 vectors|subscriber 2 location|session connected link 1/1 area 02f839 1 bearer active radio 0
+attach response secured done complete request notice = device 208930000000001 messages 7 steps 12|down 1 1 authentication|down 2 1 security|down 3 1 setup|down 4 1 release-inactivity|gateway 1 create|gateway 2 modify c0a80002 2|gateway 3 release|subscriber 1 vectors|subscriber 2 location|session releasing link 1/1 area 02f839 1 bearer made radio 0
+attach response secured done complete request released notice = device 208930000000001 messages 8 steps 13|down 1 1 authentication|down 2 1 security|down 3 1 setup|down 4 1 release-inactivity|down 5 0 paging|gateway 1 create|gateway 2 modify c0a80002 2|gateway 3 release|subscriber 1 vectors|subscriber 2 location|session idle link off area 02f839 1 bearer made radio 0
+attach response secured done complete request released service notice = device 208930000000001 messages 9 steps 14|down 1 1 authentication|down 2 1 security|down 3 1 setup|down 4 1 release-inactivity|down 5 1 setup-again|gateway 1 create|gateway 2 modify c0a80002 2|gateway 3 release|subscriber 1 vectors|subscriber 2 location|session connecting link 1/1 area 02f839 1 bearer made radio 0
 service released released request = refused 6 31 UnknownPair 1 1|refused 7 31 UnknownPair 1 1|device 208930000000001 messages 2 steps 2|down 1 1 reject|session detached link off area 000000 0 bearer none radio 0
 service moved request two = refused 6 31 UnknownPair 1 1|device 208930000000001 messages 3 steps 4|down 1 1 reject|down 2 1 authentication-two|down 3 1 release-inactivity-two|subscriber 1 vectors|session releasing link 1/2 area 02f839 1 bearer none radio 0
 ";
@@ -254,12 +271,16 @@ fn no_text_gives_none(rt: HostRuntime) -> Result<(), Fail> {
     Ok(())
 }
 
-/// The case of the first subscriber with the messages of these names from base station 1.
+/// The case of the first subscriber with the messages of these names from base station 1, and a notice at each word `notice`.
 fn trace_case(alloc: Global, names: &str) -> Result<String, AllocError> {
     let mut text = lines(alloc, "[subscribers]|row|[trace]")?;
     for name in names.split(' ') {
-        let octets = named(name);
-        writeln!(text, "1 {octets}")?;
+        if name == "notice" {
+            text.push_str("data 208930000000001\n")?;
+        } else {
+            let octets = named(name);
+            writeln!(text, "1 {octets}")?;
+        }
     }
     Ok(text)
 }
