@@ -4,7 +4,7 @@ use Rattle.std.specs.List.{range_with_len}
 use Rattle.std.specs.Prelude.{slice_get, All, reverse, IfOk, IfErr, Result, Ok, Err, IsTrue, ◌||◌, ◌==◌, true}
 use Rattle.std.proofs.lemmas.Bool.{cases_eq, cases_lt, or_left}
 use Rattle.std.proofs.lemmas.List.{map-append, length-map, reverse-append, reverse-reverse}
-use Rattle.std.proofs.lemmas.List.Elements.{All-get_or, All-push, All-set}
+use Rattle.std.proofs.lemmas.List.Elements.{All-get_or, All-nil, All-pop, All-push, All-set}
 use Rattle.std.proofs.lemmas.List.Folds.{list_any-append}
 use Rattle.std.proofs.Math.Bool.{or-true}
 use Rattle.std.proofs.lemmas.List.FromFn.{length-map-range_with_len}
@@ -14,13 +14,14 @@ use Rattle.front_lock.specs.declared.held.Held.{Ghosts}
 use Rattle.front_lock.specs.declared.front.Front.{Front}
 use Rattle.front_lock.specs.declared.seat.FrontSeat.{FrontSeat}
 use Rattle.front_lock.specs.declared.view.View.{View}
-use Rattle.front_lock.specs.Front.{view, basis_of, IsSeatOf}
+use Rattle.front_lock.proofs.Seats.{all_reverse}
+use Rattle.front_lock.specs.Front.{view, basis_of, seats_of, IsSeatOf}
 use Rattle.front_lock.specs.View.{fresh_view, KnowsItsTurns}
 use Rattle.front_lock.specs.Numbers.{speaks_for}
 use Rattle.front_lock.specs.Turns.{JoinsViews, MakesTurn, MissesTurn}
 use Rattle.session_store.proofs.Journals.{last_or_before}
 use Rattle.store_shared.specs.declared.front_row.FrontsSeat.{FrontsSeat}
-use Rattle.store_shared.specs.FrontRow.{AreSeatsOf, SpeaksOnAll, AreFreshSeats, AreJoined, Along, IsDealtAt, AreDealt}
+use Rattle.store_shared.specs.FrontRow.{AreSeatsOf, SpeaksOnAll, AreFreshSeats, AreJoined, Along, IsDealtAt, AreDealt, IsSeated, AreSeated, IsFrontMore, AreFronts}
 use Rattle.store_shared.proofs.Items.{get_here, get_set, get_set_else, length_set, some_one, get_at, get_below, of_set, one_off}
 
 nil_of : {X : Type 0} (l : List X) → length l ≡ 0 → l ≡ []
@@ -121,12 +122,6 @@ module _ {T X B : Type 0} {h : Ghosts T X B} where
       numbers k from x old there
 
   -- ---- one more front
-
-  -- a seat of a number, of each front
-  pub record IsSeated (basis : T → B) (seats : ℕ) (fs : List (Front T X B)) (n number : ℕ) (ss : List (FrontSeat T X B h)) : Type 0 where
-    pub number_is : number ≡ n
-    pub of : AreSeatsOf basis fs ss
-    pub views : map (λ (t : FrontSeat T X B h). view t) ss ≡ map (λ (f : Front T X B). fresh_view (basis_of basis f) seats n) fs
 
   pub seated_more : (basis : T → B) (seats : ℕ) (fs fs' : List (Front T X B)) (f : Front T X B) (made made' : List (FrontsSeat T X B h)) (column : List (FrontSeat T X B h)) (b : B) → basis_of basis f ≡ b → length made ≡ seats → fs' ≡ fs ++ f ∷ []
       → ((n : ℕ) (s : FrontsSeat T X B h) → slice_get made n ≡ Some s → IsSeated basis seats fs n s.number s.seats.items)
@@ -331,6 +326,66 @@ pub bases_close : {F S B : Type 0} (f : F → B) (g : S → B) (fs : List F) (vs
 bases_close f g fs vs ws none h =
     let empty : vs ≡ [] = nil_of vs none in
     sym (append-nil (map f fs)) ∙ (ap (λ l. map f fs ++ map g (reverse l)) (sym empty) ∙ h)
+
+-- ---- fronts are made
+
+module _ {T X B : Type 0} {h : Ghosts T X B} where
+  -- one more front, whose seats were dealt out
+  pub front_more : (basis : T → B) (b : B) (seats : ℕ) (fs mid fs' : List (Front T X B)) (f : Front T X B) (made made' : List (FrontsSeat T X B h)) (column : List (FrontSeat T X B h)) → fs' ≡ mid ++ f ∷ [] → mid ≡ fs → basis_of basis f ≡ b → seats_of f ≡ seats → length made ≡ seats → AreSeated basis seats fs made
+      → map (λ (t : FrontSeat T X B h). view t) column ≡ map (fresh_view b seats) (range_with_len 0 seats) → All (λ t. IsSeatOf basis f t) column → AreDealt made column made' → IsFrontMore basis b seats fs fs' made made'
+  front_more basis b seats fs mid fs' f made made' column pushed same basis_is seats_are count seated views are dealt =
+      let more : fs' ≡ fs ++ f ∷ [] = pushed ∙ ap (λ l. l ++ f ∷ []) same in
+      record {
+        front = f;
+        fronts = more;
+        basis_is = basis_is;
+        seats_are = seats_are;
+        count = dealt.count;
+        seated = seated_more basis seats fs fs' f made made' column b basis_is count more seated views are dealt;
+      }
+
+  -- what is known while fronts are made, for the last value first
+  pub record Filling (basis : T → B) (turns : T → List X) (values : List T) (seats : ℕ) (left : List T) (fs : List (Front T X B)) (made : List (FrontsSeat T X B h)) : Type 0 where
+    pub bases : map (λ (f : Front T X B). basis_of basis f) fs ++ map basis (reverse left) ≡ map basis values
+    pub empty : All (λ v. turns v ≡ []) left
+    pub seats_are : All (λ (f : Front T X B). seats_of f ≡ seats) fs
+    pub count : length made ≡ seats
+    pub seated : AreSeated basis seats fs made
+
+  pub fills_from : (basis : T → B) (turns : T → List X) (values : List T) (seats : ℕ) (left : List T) (fs : List (Front T X B)) (made : List (FrontsSeat T X B h)) → fs ≡ [] → left ≡ reverse values → All (λ v. turns v ≡ []) values → length made ≡ seats → ((n : ℕ) (s : FrontsSeat T X B h) → slice_get made n ≡ Some s → (s.number ≡ n) × (s.seats.items ≡ [])) → Filling basis turns values seats left fs made
+  fills_from basis turns values seats left fs made none turned empty count numbers = record {
+    bases = bases_open (λ (f : Front T X B). basis_of basis f) basis fs left values none turned;
+    empty = subst (All (λ v. turns v ≡ [])) (sym turned) (all_reverse (λ v. turns v ≡ []) values empty);
+    seats_are = subst (All (λ (f : Front T X B). seats_of f ≡ seats)) (sym none) (All-nil (λ (f : Front T X B). seats_of f ≡ seats));
+    count = count;
+    seated = λ n s got. seated_none basis seats fs n s.number s.seats.items none (numbers n s got).0 (numbers n s got).1;
+  }
+
+  pub fills_on : (basis : T → B) (turns : T → List X) (values : List T) (seats : ℕ) (left left' : List T) (fs fs' : List (Front T X B)) (made made' : List (FrontsSeat T X B h)) (v : T) → left ≡ left' ++ v ∷ [] → Filling basis turns values seats left fs made → IsFrontMore basis (basis v) seats fs fs' made made' → Filling basis turns values seats left' fs' made'
+  fills_on basis turns values seats left left' fs fs' made made' v off f more = record {
+    bases = bases_on (λ (p : Front T X B). basis_of basis p) basis fs fs' left left' values more.front v more.fronts off more.basis_is f.bases;
+    empty = (All-pop (λ v. turns v ≡ []) left left' (Some v) off f.empty).0;
+    seats_are = subst (All (λ (p : Front T X B). seats_of p ≡ seats)) (sym more.fronts) (All-push (λ (p : Front T X B). seats_of p ≡ seats) fs more.front f.seats_are more.seats_are);
+    count = more.count ∙ f.count;
+    seated = more.seated;
+  }
+
+  pub fills_all : (basis : T → B) (turns : T → List X) (values : List T) (seats : ℕ) (left : List T) (fs : List (Front T X B)) (made : List (FrontsSeat T X B h)) → length left ≡ 0 → Filling basis turns values seats left fs made → AreFronts basis (map basis values) seats fs made
+  fills_all basis turns values seats left fs made none f = record {
+    bases_are = bases_close (λ (p : Front T X B). basis_of basis p) basis fs left values none f.bases;
+    seats_are = f.seats_are;
+    count = f.count;
+    seated = f.seated;
+  }
+
+  pub fresh_seats : (basis : T → B) (bases : List B) (seats : ℕ) (fs : List (Front T X B)) (made : List (FrontsSeat T X B h)) → AreFronts basis bases seats fs made → AreFreshSeats basis bases seats fs made
+  fresh_seats basis bases seats fs made are n s got =
+      let seated = are.seated n s got in
+      record {
+        number_is = seated.number_is;
+        of = seated.of;
+        views = views_of (λ (f : Front T X B). basis_of basis f) (λ (b : B). fresh_view {X = X} b seats n) fs bases (map (λ (t : FrontSeat T X B h). view t) s.seats.items) seated.views are.bases_are;
+      }
 
 -- ---- fronts are closed
 

@@ -1,9 +1,10 @@
 -- What a turn on a front says of a call of the store, and of an offer.
 use Rattle.std.proofs.Common.{◌≡◌, ℕ, ◌+◌, ◌<◌, ◌≤◌, ◌%◌, zero, suc, List, [], ◌∷◌, ◌++◌, length, map, Some, refl, sym, ap, ◌∙◌, arith, subst}
-use Rattle.std.specs.Prelude.{slice_get, Result, IfOk}
+use Rattle.std.specs.Prelude.{slice_get, All, Result, IfOk}
 use Rattle.std.specs.List.{range_with_len}
 use Rattle.std.specs.Option.{option_map_or}
 use Rattle.std.proofs.lemmas.List.{map-append}
+use Rattle.std.proofs.lemmas.List.Elements.{All-push}
 use Rattle.std.proofs.lemmas.List.FromFn.{map-range_with_len_more}
 use mathlib.Core.List.{IsPrefix}
 use Rattle.device_types.specs.declared.effect.Effect.{Effect}
@@ -19,7 +20,7 @@ use Rattle.front_lock.specs.View.{view_at}
 use Rattle.front_lock.specs.Numbers.{with_turn}
 use Rattle.front_lock.specs.Turns.{MakesTurn}
 use Rattle.front_lock.specs.Front.{view, basis_of, IsSeatOf}
-use Rattle.store_shared.specs.FrontRow.{AreSeatsOf, Along, TurnsAt, MissesAt, seen_at}
+use Rattle.store_shared.specs.FrontRow.{AreSeatsOf, Along, TurnsAt, MissesAt, IsValueMore, seen_at}
 use Rattle.store_shared.proofs.Items.{some_one, if_ok}
 use Rattle.store_shared.proofs.Columns.{got_map, placed_from}
 use Rattle.session_row.specs.declared.commit.Commit.{Commit}
@@ -155,6 +156,13 @@ turned_at turns basis by done old new at k a e t = subst (λ (n : ℕ). TurnsAt 
 pub bases_more : {S B : Type 0} (basis : S → B) (at : ℕ → B) (made made' : List S) (x : S) (n : ℕ) → made' ≡ made ++ x ∷ [] → basis x ≡ at n → map basis made ≡ map at (range_with_len 0 n) → map basis made' ≡ map at (range_with_len 0 (n + 1))
 bases_more basis at made made' x n more is h =
     ap (map basis) more ∙ (map-append basis made (x ∷ []) ∙ (ap (λ l. l ++ basis x ∷ []) h ∙ (ap (λ b. map at (range_with_len 0 n) ++ b ∷ []) is ∙ sym (map-range_with_len_more at 0 n n (omega arith)))))
+
+-- a shard more, without turns
+pub shards_on : {T X B : Type 0} (turns : T → List X) (basis : T → B) (at : ℕ → B) (made made' : List T) (n : ℕ) → IsValueMore turns basis (at n) made made' → map basis made ≡ map at (range_with_len 0 n) → map basis made' ≡ map at (range_with_len 0 (n + 1))
+shards_on turns basis at made made' n more are = bases_more basis at made made' more.value n more.items more.basis_is are
+
+pub empty_on : {T X B : Type 0} (turns : T → List X) (basis : T → B) (b : B) (made made' : List T) → IsValueMore turns basis b made made' → All (λ t. turns t ≡ []) made → All (λ t. turns t ≡ []) made'
+empty_on turns basis b made made' more are = subst (All (λ t. turns t ≡ [])) (sym more.items) (All-push (λ t. turns t ≡ []) made more.value are more.empty)
 
 -- the closed values have the bases of their fronts
 pub closed_bases : {F S Y B : Type 0} (P : F → S → Y → Type 0) (of : F → B) (basis : Y → B) → ((f : F) (s : S) (y : Y) → P f s y → basis y ≡ of f) → (fs : List F) (ss : List S) (ys : List Y) → Along P fs ss ys → map basis ys ≡ map of fs

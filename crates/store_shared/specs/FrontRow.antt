@@ -1,5 +1,5 @@
 -- Seats over the fronts of a row.
-use Rattle.std.specs.Prelude.{◌≡◌, ℕ, IsTrue, List, [], ◌∷◌, ◌++◌, length, map, slice_get, Some}
+use Rattle.std.specs.Prelude.{◌≡◌, ℕ, All, IsTrue, List, [], ◌∷◌, ◌++◌, length, map, slice_get, Some}
 use Rattle.std.specs.Option.{option_map_or}
 use Rattle.front_lock.specs.declared.held.Held.{Ghosts}
 use Rattle.front_lock.specs.declared.front.Front.{Front}
@@ -77,3 +77,35 @@ module _ {T X B : Type 0} {h : Ghosts T X B} where
   pub record AreDealt (old : List (FrontsSeat T X B h)) (column : List (FrontSeat T X B h)) (new : List (FrontsSeat T X B h)) : Type 0 where
     pub count : length new ≡ length old
     pub each : (n : ℕ) (s : FrontsSeat T X B h) → slice_get new n ≡ Some s → IsDealtAt old column n s
+
+  -- the n-th of the new seats, as far as fronts were made
+  pub record IsSeated (basis : T → B) (seats : ℕ) (fs : List (Front T X B)) (n number : ℕ) (ss : List (FrontSeat T X B h)) : Type 0 where
+    pub number_is : number ≡ n
+    pub of : AreSeatsOf basis fs ss
+    pub views : map (λ (t : FrontSeat T X B h). view t) ss ≡ map (λ (f : Front T X B). fresh_view (basis_of basis f) seats n) fs
+
+  abbrev pub AreSeated : (T → B) → ℕ → List (Front T X B) → List (FrontsSeat T X B h) → Type 0
+  AreSeated basis seats fs made = (n : ℕ) (s : FrontsSeat T X B h) → slice_get made n ≡ Some s → IsSeated basis seats fs n s.number s.seats.items
+
+  -- a front more, of a value with that basis, and a seat of it for each number
+  pub record IsFrontMore (basis : T → B) (b : B) (seats : ℕ) (fs fs' : List (Front T X B)) (made made' : List (FrontsSeat T X B h)) : Type 0 where
+    pub front : Front T X B
+    pub fronts : fs' ≡ fs ++ front ∷ []
+    pub basis_is : basis_of basis front ≡ b
+    pub seats_are : seats_of front ≡ seats
+    pub count : length made' ≡ length made
+    pub seated : AreSeated basis seats fs' made'
+
+  -- fronts of values with these bases, and their seats
+  pub record AreFronts (basis : T → B) (bases : List B) (seats : ℕ) (fs : List (Front T X B)) (made : List (FrontsSeat T X B h)) : Type 0 where
+    pub bases_are : map (λ (f : Front T X B). basis_of basis f) fs ≡ bases
+    pub seats_are : All (λ (f : Front T X B). seats_of f ≡ seats) fs
+    pub count : length made ≡ seats
+    pub seated : AreSeated basis seats fs made
+
+-- a value more, with that basis and no turns
+pub record IsValueMore {T X B : Type 0} (turns : T → List X) (basis : T → B) (b : B) (old new : List T) : Type 0 where
+  pub value : T
+  pub items : new ≡ old ++ value ∷ []
+  pub basis_is : basis value ≡ b
+  pub empty : turns value ≡ []

@@ -1,7 +1,7 @@
 //! Turns at the fronts of a row. Nothing here knows what the fronts hold.
 ghost use Rattle.std.specs.Prelude.{◌≡◌, ◌≢◌, ◌<◌, ℕ, [], ◌∷◌, ◌++◌, length, map, slice_get, All, Some, IfOk, OnOk, IfErr};
 ghost use Rattle.front_lock.specs.Front.{basis_of, seats_of, view};
-ghost use Rattle.store_shared.specs.FrontRow.{AreSeatsOf, SpeaksOnAll, AreFreshSeats, TurnsAt, MissesAt, AreJoined, AreClosed, AreDealt};
+ghost use Rattle.store_shared.specs.FrontRow.{AreSeatsOf, SpeaksOnAll, AreFreshSeats, TurnsAt, MissesAt, AreJoined, AreClosed, AreDealt, AreSeated, IsFrontMore, AreFronts};
 
 use crate::front_row::{Fronts, FrontsSeat};
 use device_types::NoRoom;
@@ -42,6 +42,49 @@ fn no_seats<T: Held>(alloc: Global, seats: u32) -> Result<Vec<FrontsSeat<T>>, Al
     Ok(made)
 }
 
+/// A front for a value, behind the others, and its seats, each added to the seat of its number. For want of memory the value is
+/// dropped.
+fn add_front<T: Held>(
+    alloc: Global,
+    fronts: &mut Vec<Front<T>>,
+    made: &mut Vec<FrontsSeat<T>>,
+    value: T,
+    seats: u32,
+) -> Result<(), AllocError>
+    requires seats { 0 < seats }
+    requires empty { T.turns value ≡ [] }
+    requires count { length made.old.items ≡ seats }
+    requires seated { AreSeated T.basis seats fronts.old.items made.old.items }
+    ensures { OnOk result (IsFrontMore T.basis (T.basis value) seats fronts.old.items fronts.new.items made.old.items made.new.items) }
+{
+    fronts.reserve(1)?;
+    let (front, column) = Front::new(alloc, value, seats)?;
+    fronts.push_reserved(front);
+    deal_out(made, column)
+}
+
+/// A front for each value, and their seats, where there was no front yet.
+fn add_fronts<T: Held>(
+    alloc: Global,
+    fronts: &mut Vec<Front<T>>,
+    made: &mut Vec<FrontsSeat<T>>,
+    mut values: Vec<T>,
+    seats: u32,
+) -> Result<(), AllocError>
+    requires seats { 0 < seats }
+    requires empty { All (λ v. T.turns v ≡ []) values.items }
+    requires none { fronts.old.items ≡ [] }
+    requires count { length made.old.items ≡ seats }
+    requires numbers { (n : ℕ) (s : _) → slice_get made.old.items n ≡ Some s → (s.number ≡ n) × (s.seats.items ≡ []) }
+    ensures { OnOk result (AreFronts T.basis (map T.basis values.items) seats fronts.new.items made.new.items) }
+{
+    values.reverse();
+    while let Some(value) = values.pop() {
+        add_front(alloc, fronts, made, value, seats)?;
+    }
+    Ok(())
+}
+
 impl<T: Held> FrontsSeat<T> {
     /// Takes in the seat of one front more, which has its number.
     fn add(&mut self, seat: FrontSeat<T>) -> Result<(), AllocError>
@@ -68,7 +111,7 @@ impl<T: Held> Fronts<T> {
     /// are dropped.
     pub(crate) fn new(
         alloc: Global,
-        mut values: Vec<T>,
+        values: Vec<T>,
         seats: u32,
     ) -> Result<(Fronts<T>, Vec<FrontsSeat<T>>), AllocError>
         requires seats { 0 < seats }
@@ -78,16 +121,9 @@ impl<T: Held> Fronts<T> {
         ensures count { IfOk result (λ made. length made.1.items ≡ seats) }
         ensures seats { IfOk result (λ made. AreFreshSeats T.basis (map T.basis values.items) seats made.0.fronts.items made.1.items) }
     {
-        let mut fronts = Vec::new(alloc);
         let mut made = no_seats(alloc, seats)?;
-        values.reverse();
-        while let Some(value) = values.pop() {
-            let (front, column) = Front::new(alloc, value, seats)?;
-            let Ok(()) = fronts.push(front) else {
-                return Err(AllocError);
-            };
-            deal_out(&mut made, column)?;
-        }
+        let mut fronts = Vec::new(alloc);
+        add_fronts(alloc, &mut fronts, &mut made, values, seats)?;
         Ok((Fronts { fronts }, made))
     }
 

@@ -1,10 +1,10 @@
 //! The shared peers.
-ghost use Rattle.std.specs.Prelude.{◌≡◌, ◌≢◌, ◌<◌, ℕ, [], length, map, slice_get, All, IfErr, IfOk, OnErr};
+ghost use Rattle.std.specs.Prelude.{◌≡◌, ◌≢◌, ◌<◌, ℕ, [], length, map, slice_get, All, IfErr, IfOk, OnErr, OnOk};
 ghost use Rattle.std.specs.Arc.{arc_value};
 ghost use Rattle.front_lock.specs.Front.{basis_of, seats_of};
 ghost use Rattle.session_store.specs.Shards.{shard_of};
-ghost use Rattle.store_shared.specs.FrontRow.{AreClosed, AreFreshSeats, AreJoined, AreSeatsOf, MissesAt, SpeaksOnAll};
-ghost use Rattle.store_shared.specs.PeerBases.{peer_bases, peer_basis, peer_turns};
+ghost use Rattle.store_shared.specs.FrontRow.{AreClosed, AreFreshSeats, AreJoined, AreSeatsOf, IsValueMore, MissesAt, SpeaksOnAll};
+ghost use Rattle.store_shared.specs.PeerBases.{peer_bases, peer_basis, peer_basis_at, peer_turns};
 ghost use Rattle.store_shared.specs.PeerShards.{IsOffered};
 ghost use Rattle.store_shared.specs.SharedOffers.{Offered};
 ghost use Rattle.store_shared.specs.StoreBases.{seat_of};
@@ -38,6 +38,21 @@ fn no_memory(_room: NoRoom<OfferJob>) -> AllocError {
     AllocError
 }
 
+/// The shard of that number, without turns, behind the others.
+fn add_shard(
+    alloc: Global,
+    made: &mut Vec<PeerShard>,
+    law: &EchoLaw,
+    number: u32,
+) -> Result<(), AllocError>
+    ensures { OnOk result (IsValueMore peer_turns peer_basis (peer_basis_at (arc_value law.now.charter) number) made.old.items made.new.items) }
+{
+    made.reserve(1)?;
+    let shard = PeerShard::new(alloc, law.copy()?, number)?;
+    made.push_reserved(shard);
+    Ok(())
+}
+
 /// The 16 shards, without turns.
 fn opening_shards(alloc: Global, law: &EchoLaw) -> Result<Vec<PeerShard>, AllocError>
     ensures bases { IfOk result (λ made. map peer_basis made.items ≡ peer_bases (arc_value law.now.charter)) }
@@ -45,10 +60,7 @@ fn opening_shards(alloc: Global, law: &EchoLaw) -> Result<Vec<PeerShard>, AllocE
 {
     let mut made = Vec::new(alloc);
     for number in 0..SHARDS {
-        let shard = PeerShard::new(alloc, law.copy()?, number)?;
-        let Ok(()) = made.push(shard) else {
-            return Err(AllocError);
-        };
+        add_shard(alloc, &mut made, law, number)?;
     }
     Ok(made)
 }

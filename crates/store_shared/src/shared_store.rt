@@ -1,5 +1,5 @@
 //! The shared store.
-ghost use Rattle.std.specs.Prelude.{◌≡◌, ◌≢◌, ◌≤◌, ◌<◌, ℕ, [], length, map, take, slice_get, All, IfErr, IfOk, OnErr};
+ghost use Rattle.std.specs.Prelude.{◌≡◌, ◌≢◌, ◌≤◌, ◌<◌, ℕ, [], length, map, take, slice_get, All, IfErr, IfOk, OnErr, OnOk};
 ghost use Rattle.device_types.specs.Journal.{pushed_count};
 ghost use Rattle.effect_outbox.specs.Outbox.{number_on, settled_by};
 ghost use Rattle.front_lock.specs.Front.{basis_of, seats_of};
@@ -8,7 +8,7 @@ ghost use Rattle.session_store.specs.Seen.{IsAsked, peeked_of, seen_of};
 ghost use Rattle.session_store.specs.Shards.{shard_of};
 ghost use Rattle.store_shared.specs.declared.turn.TurnAnswer.TheVariants as answers;
 ghost use Rattle.store_shared.specs.declared.turn.TurnCall.TheVariants as calls;
-ghost use Rattle.store_shared.specs.FrontRow.{AreClosed, AreFreshSeats, AreJoined, AreSeatsOf, MissesAt, SpeaksOnAll, TurnsAt, seen_at};
+ghost use Rattle.store_shared.specs.FrontRow.{AreClosed, AreFreshSeats, AreJoined, AreSeatsOf, MissesAt, SpeaksOnAll, TurnsAt, IsValueMore, seen_at};
 ghost use Rattle.store_shared.specs.Legal.{IsBehind, TellsCount, commit_of, journal_in, row_in};
 ghost use Rattle.store_shared.specs.SharedCalls.{Called};
 ghost use Rattle.store_shared.specs.StoreBases.{basis_at, seat_of, shard_bases, store_basis, store_turns};
@@ -43,6 +43,22 @@ pub struct SharedStore<L: RowLaw> {
 /// A seat of the shared store: one at the front of each shard, all of the same number.
 pub type StoreSeat<L> = FrontsSeat<StoreShard<L>>;
 
+/// The shard of that number of so many devices, without turns, behind the others.
+fn add_shard<L: RowLaw>(
+    alloc: Global,
+    made: &mut Vec<StoreShard<L>>,
+    law: &L,
+    number: u32,
+    devices: u32,
+) -> Result<(), AllocError>
+    ensures { OnOk result (IsValueMore store_turns store_basis (basis_at devices (L.charter law.now) number) made.old.items made.new.items) }
+{
+    made.reserve(1)?;
+    let shard = StoreShard::new(alloc, law.copy()?, number, devices)?;
+    made.push_reserved(shard);
+    Ok(())
+}
+
 /// The 16 shards of so many devices, without turns.
 fn opening_shards<L: RowLaw>(
     alloc: Global,
@@ -54,10 +70,7 @@ fn opening_shards<L: RowLaw>(
 {
     let mut made = Vec::new(alloc);
     for number in 0..SHARDS {
-        let shard = StoreShard::new(alloc, law.copy()?, number, devices)?;
-        let Ok(()) = made.push(shard) else {
-            return Err(AllocError);
-        };
+        add_shard(alloc, &mut made, law, number, devices)?;
     }
     Ok(made)
 }

@@ -11,9 +11,9 @@ ghost use Rattle.store_shared.specs.Legal.{row_in, journal_in, commit_of, IsTurn
 ghost use Rattle.store_shared.specs.StoreShards.{IsStoreShard, turn_by};
 
 use crate::basis::ShardBasis;
-use crate::kept::commit_copied;
+use crate::kept::{commit_copied, push_twice, with_copy};
 use crate::turn::{Turn, TurnAnswer, TurnCall};
-use device_types::{DeviceId, Effect, Entry, Lane, NoRoom, TryCopy};
+use device_types::{DeviceId, Effect, Entry, Lane, NoRoom};
 use effect_outbox::Settled;
 use front_lock::Held;
 use session_row::Commit;
@@ -94,9 +94,8 @@ impl<L: RowLaw> StoreShard<L> {
         ensures value { IfOk result (λ seen. seen ≡ seen_of (journal_in d.0 self.old.turns.items) asked) }
         ensures err { OnErr result (self.new.turns.items ≡ self.old.turns.items) }
     {
-        self.turns.reserve(1)?;
-        let seen = self.shard.read(d, asked)?;
-        let kept = seen.copy()?;
+        let read = self.shard.read(d, asked)?;
+        let (seen, kept) = with_copy(&mut self.turns, read)?;
         self.turns.push_reserved(Turn {
             seat,
             device: d,
@@ -123,9 +122,8 @@ impl<L: RowLaw> StoreShard<L> {
         ensures value { IfOk result (λ peeked. peeked ≡ peeked_of (journal_in d.0 self.old.turns.items) asked) }
         ensures err { OnErr result (self.new.turns.items ≡ self.old.turns.items) }
     {
-        self.turns.reserve(1)?;
-        let peeked = self.shard.peek(d, asked)?;
-        let kept = peeked.copy()?;
+        let peek = self.shard.peek(d, asked)?;
+        let (peeked, kept) = with_copy(&mut self.turns, peek)?;
         self.turns.push_reserved(Turn {
             seat,
             device: d,
@@ -187,8 +185,7 @@ impl<L: RowLaw> StoreShard<L> {
         ensures err { OnErr result (self.new.turns.items ≡ self.old.turns.items) }
     {
         self.turns.reserve(1)?;
-        let effect = self.shard.push(d, lane, k)?;
-        let kept = self.shard.push(d, lane, k)?;
+        let (effect, kept) = push_twice(&self.shard, d, lane, k)?;
         self.turns.push_reserved(Turn {
             seat,
             device: d,

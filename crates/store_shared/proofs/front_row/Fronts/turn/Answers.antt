@@ -11,30 +11,30 @@ pub turn-requires-clause-seat : goal.turn-requires-clause-seat
 turn-requires-clause-seat g c =
     let s = c.requires.seats in
     let low : c.args.at < length c.args.me.now.seats.items = let e = s.0 in let l = c.requires.at in omega arith in
-    s.1 _ _ _ (get_here _ _ _ c.requires.at c.index.ensures) (get_here _ _ _ low c.index_mut.ensures.value)
+    s.1 c.args.at c.index.result.now c.index_mut.result.now (get_here c.args.self.now.fronts.items c.args.at c.index.result.now c.requires.at c.index.ensures) (get_here c.args.me.now.seats.items c.args.at c.index_mut.result.now low c.index_mut.ensures.value)
 
 pub turn-requires-clause-can : goal.turn-requires-clause-can
 turn-requires-clause-can g c =
     let s = c.requires.seats in
     let low : c.args.at < length c.args.me.now.seats.items = let e = s.0 in let l = c.requires.at in omega arith in
-    c.requires.can _ _ (get_here _ _ _ c.requires.at c.index.ensures) (get_here _ _ _ low c.index_mut.ensures.value)
+    c.requires.can c.index.result.now c.index_mut.result.now (get_here c.args.self.now.fronts.items c.args.at c.index.result.now c.requires.at c.index.ensures) (get_here c.args.me.now.seats.items c.args.at c.index_mut.result.now low c.index_mut.ensures.value)
 
 pub returns-clause-seats : goal.returns-clause-seats
 returns-clause-seats g c =
     let s = c.requires.seats in
     let low : c.args.at < length c.args.me.now.seats.items = let e = s.0 in let l = c.requires.at in omega arith in
-    (length_set c.args.me.now.seats.items c.args.at c.turn.new.seat ∙ s.0, of_set (λ p q. IsSeatOf g.T.Held.basis p q) _ _ _ _ _ low (get_here _ _ _ c.requires.at c.index.ensures) c.turn.ensures.seat s.1)
+    (length_set c.args.me.now.seats.items c.args.at c.turn.new.seat ∙ s.0, of_set (λ p q. IsSeatOf g.T.Held.basis p q) c.args.self.now.fronts.items c.args.me.now.seats.items c.args.at c.index.result.now c.turn.new.seat low (get_here c.args.self.now.fronts.items c.args.at c.index.result.now c.requires.at c.index.ensures) c.turn.ensures.seat s.1)
 
 pub returns-clause-others : goal.returns-clause-others
-returns-clause-others g c = λ k ne. get_set_else _ _ k _ ne
+returns-clause-others g c = λ k ne. get_set_else c.args.me.now.seats.items c.args.at k c.turn.new.seat ne
 
 pub returns-clause-ok : goal.returns-clause-ok
 returns-clause-ok g c =
     let s = c.requires.seats in
     let low : c.args.at < length c.args.me.now.seats.items = let e = s.0 in let l = c.requires.at in omega arith in
-    let was = get_here _ _ _ low c.index_mut.ensures.value in
+    let was = get_here c.args.me.now.seats.items c.args.at c.index_mut.result.now low c.index_mut.ensures.value in
     if_ok (λ a. MakesTurn g.T.Held.turns g.T.Held.basis g.T.Held.by (g.J.Job.done c.args.job) (view c.index_mut.result.now) a (view c.turn.new.seat))
-    (λ a. TurnsAt g.T.Held.turns g.T.Held.basis g.T.Held.by (g.J.Job.done c.args.job) c.args.me.now.seats.items c.args.at a (set c.args.me.now.seats.items c.args.at c.turn.new.seat)) _
+    (λ a. TurnsAt g.T.Held.turns g.T.Held.basis g.T.Held.by (g.J.Job.done c.args.job) c.args.me.now.seats.items c.args.at a (set c.args.me.now.seats.items c.args.at c.turn.new.seat)) c.turn.result
     (λ a h. record { from = c.index_mut.result.now; to = c.turn.new.seat; was = was; now = get_set c.args.me.now.seats.items c.args.at c.turn.new.seat low; makes = h })
     c.turn.ensures.ok
 
@@ -42,9 +42,9 @@ pub returns-clause-err : goal.returns-clause-err
 returns-clause-err g c =
     let s = c.requires.seats in
     let low : c.args.at < length c.args.me.now.seats.items = let e = s.0 in let l = c.requires.at in omega arith in
-    let was = get_here _ _ _ low c.index_mut.ensures.value in
+    let was = get_here c.args.me.now.seats.items c.args.at c.index_mut.result.now low c.index_mut.ensures.value in
     if_err (λ room. MissesTurn g.T.Held.turns g.T.Held.basis (view c.index_mut.result.now) (view c.turn.new.seat))
-    (λ room. MissesAt g.T.Held.turns g.T.Held.basis c.args.me.now.seats.items c.args.at (set c.args.me.now.seats.items c.args.at c.turn.new.seat)) _
+    (λ room. MissesAt g.T.Held.turns g.T.Held.basis c.args.me.now.seats.items c.args.at (set c.args.me.now.seats.items c.args.at c.turn.new.seat)) c.turn.result
     (λ room h. record { from = c.index_mut.result.now; to = c.turn.new.seat; was = was; now = get_set c.args.me.now.seats.items c.args.at c.turn.new.seat low; misses = h })
     c.turn.ensures.err
 

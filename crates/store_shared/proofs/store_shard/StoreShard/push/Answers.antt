@@ -10,4 +10,4 @@ invariant_of-self-2 g c =
     let s = c.args.self.now in
     let x = turn_by c.args.seat c.args.d (calls.Push c.args.lane c.args.k) (answers.Push c.in_ok-effect.effect) in
     let t = pushes s.shard s.turns.items c.args.seat c.args.d c.args.lane c.args.k c.in_ok-effect.effect s.kept c.requires.here c.in_ok-effect.ensures.value in
-    record { kept = kept_with s.shard s.shard s.turns.items _ _ x _ t c.push_reserved.ensures.items c.reserve.ensures.items (ap (λ a. turn_by c.args.seat c.args.d (calls.Push c.args.lane c.args.k) (answers.Push a)) (c.in_ok-kept.ensures.value ∙ sym c.in_ok-effect.ensures.value)) }
+    record { kept = kept_with s.shard s.shard s.turns.items _ _ x _ t c.push_reserved.ensures.items c.reserve.ensures.items (ap (λ a. turn_by c.args.seat c.args.d (calls.Push c.args.lane c.args.k) (answers.Push a)) c.in_ok-effect.ensures.copy) }
