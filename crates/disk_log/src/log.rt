@@ -12,7 +12,7 @@ use std::alloc::{AllocError, Global};
 use store_disk::{Disk, DiskFault, append, write_through};
 
 /// Why a log was not opened.
-#[derive(Clone, Copy, Debug, PartialEq, Eq)]
+#[derive(Clone, Copy)]
 pub enum LogFault {
     /// A call of the disk failed.
     DiskFault,

@@ -15,7 +15,7 @@ pub const MOST_SESSION: usize = 241;
 const MOST_PIECE: usize = 256;
 
 /// A step of a device: the version of its row behind the step, and the octets of its session.
-#[derive(Debug, Drop)]
+#[derive(Drop)]
 pub struct Record<'a> {
     device: u32,
     version: u64,

@@ -16,6 +16,11 @@ pub behind_gate : (gate : ℕ) (bytes : Option (List ℕ)) → IfSome bytes (λ 
 behind_gate gate None shut = tt
 behind_gate gate (Some octets) shut = omega (arith, (gate_place gate octets shut).1)
 
+-- a file of so many octets has as many as fewer
+pub at_least : (m n : ℕ) (bytes : Option (List ℕ)) → n ≤ m → IfSome bytes (λ octets. m ≤ length octets) → IfSome bytes (λ octets. n ≤ length octets)
+at_least m n None fewer long = tt
+at_least m n (Some octets) fewer long = omega (arith, fewer, long)
+
 pub at_gate : (gate : ℕ) (piece : List ℕ) (bytes now : Option (List ℕ)) → IfSome bytes (λ octets. IsShut (take gate octets) octets) → now ≡ option_map (written_at (gate + 1) piece) bytes → IfSome now (λ octets. gate ≤ length octets)
 at_gate gate piece None now shut is = subst (λ (b : Option (List ℕ)). IfSome b (λ octets. gate ≤ length octets)) (sym is) tt
 at_gate gate piece (Some octets) now shut is =

@@ -2,11 +2,10 @@
 ghost use Rattle.std.specs.Prelude.{◌≡◌, ◌++◌, ◌∷◌, []};
 
 use http_server::Log;
-use std::fmt;
 use std::marker::Model;
 
 /// A call that changes what a crash may leave.
-#[derive(Clone, Copy, Debug)]
+#[derive(Clone, Copy)]
 pub enum Call {
     /// So many octets were written from a place on, or some of them.
     Write {
@@ -33,13 +32,6 @@ impl Model for CallLog {
     ghost Value = { List (Call × List ℕ) };
 
     ghost view = { λ log. map (λ x. (x.0, x.1.items)) log.calls.items };
-}
-
-/// Nothing of it is there to be told.
-impl fmt::Debug for CallLog {
-    fn fmt<W: fmt::Write>(&self, f: &mut fmt::Formatter<W>) -> fmt::Result {
-        f.write_str("CallLog")
-    }
 }
 
 impl CallLog {

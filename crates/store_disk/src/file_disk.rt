@@ -9,7 +9,7 @@ use std::marker::Model;
 use std::os::unix::fs::FileExt;
 
 /// A disk over an open file. It tells nothing of its octets: no contract says what a real file does.
-#[derive(Debug, Drop)]
+#[derive(Drop)]
 pub struct FileDisk {
     file: File,
     faults: u64,

@@ -19,7 +19,7 @@ use std::marker::Model;
 /// assert!(rt; disk.write_at(2, b"cdef").is_err());
 /// assert_eq!(rt; disk.image().as_slice(), b"abcd".as_slice());
 /// ```
-#[derive(Debug, Drop)]
+#[derive(Drop)]
 pub struct FuseDisk {
     octets: Vec<u8>,
     fuse: Option<u64>,
