@@ -1,14 +1,11 @@
-//! Laws of the pieces and of the types of ASN.1, as clauses of functions that do nothing.
+//! Laws of the pieces, as clauses of functions that do nothing.
 
 ghost use Rattle.std.specs.Prelude.{◌≡◌, ◌⊎◌, ◌↔◌, ℕ, Bool, List, [], length, ◌+◌, ◌-◌, ◌*◌, ◌/◌, ◌^◌, ◌<◌, ◌≤◌};
 ghost use Rattle.aper_fields.specs.declared.enumerated.EnumValue.{EnumValue};
 ghost use Rattle.aper_fields.specs.Reading.{width, number_at, length_at, fixed_octets_at, octet_string_at, fixed_bits_at, enumerated_at, contained_at, nothing_at};
 ghost use Rattle.aper_fields.specs.Run.{octet_count, number_run, length_run, fixed_octets_run, octet_string_run, fixed_bits_run, enumerated_run, content_of, open_run};
 ghost use Rattle.aper_fields.specs.Spelling.{IsOctets, IsEnumValue};
-ghost use Rattle.aper_fields.specs.Format.{HasOneReading, IsReadBack, IsOpenReadBack, IsSpelledBy, number_in, length_in, fixed_octets_in, octet_string_in, fixed_bits_in, enumerated_in, open_in};
-ghost use Rattle.aper_fields.specs.Asn1.{format, run, Fits, IsSound};
-
-use crate::value::OwnedValue;
+ghost use Rattle.aper_fields.specs.Format.{HasOneReading, IsReadBack, IsOpenReadBack, number_in, length_in, fixed_octets_in, octet_string_in, fixed_bits_in, enumerated_in, open_in};
 
 /// What two readings of one piece give at one place is the same: the value, the refusal and the place behind it. So
 /// no bits spell two values, and no spelling of a piece begins another.
@@ -48,14 +45,4 @@ pub fn least_sizes()
     // Of several octets the first is not 0.
     ensures first { (n : ℕ) → n < 2 ^ 64
         → (octet_count n ≡ 1) ⊎ (0 < n / 2 ^ (8 * (octet_count n - 1))) }
-{}
-
-/// What a value in its range is written with spells it: so it is read back as that value, wherever it stands.
-pub fn written_is_spelled<T: OwnedValue>()
-    ensures { IsSound T.asn1 → (v : T) → Fits IsOctets T.asn1 v → IsSpelledBy (format T.asn1) v (run T.asn1 v) }
-{}
-
-/// What is spelled is in its range, and its strings are octets: so what was read can be written.
-pub fn spelled_is_right<T: OwnedValue>()
-    ensures { IsSound T.asn1 → (v : T) (at : ℕ) (bits : List Bool) → (format T.asn1).Spells at v bits → Fits IsOctets T.asn1 v }
 {}

@@ -10,7 +10,6 @@ mod ranged;
 mod reader;
 mod reading;
 mod sequence;
-mod value;
 mod whole;
 mod width;
 mod writer;
@@ -19,15 +18,14 @@ mod writing;
 pub use choice::{read_choice, write_choice};
 pub use enumerated::EnumValue;
 pub use extension::{read_criticality, read_zero_bit, skip_extensions};
-pub use laws::{least_sizes, one_reading, spelled_is_right, written_is_read, written_is_spelled};
+pub use laws::{least_sizes, one_reading, written_is_read};
 pub use ranged::Ranged;
 pub use reader::BitReader;
 pub use reading::{
     close, end, read_bits_fixed, read_enum, read_len, read_octet_string, read_octets_fixed,
     read_open,
 };
-pub use sequence::{read_present, write_preamble, write_present};
-pub use value::{OwnedValue, PlainValue};
+pub use sequence::{read_present, write_present};
 pub use whole::all_or_nothing;
 pub use writer::{BitWriter, Mark};
 pub use writing::{

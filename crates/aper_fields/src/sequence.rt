@@ -2,7 +2,7 @@
 
 ghost use Rattle.std.specs.Prelude.{◌≡◌, OnOk, OnErr};
 ghost use Rattle.echo_base.specs.Reading.{Gives};
-ghost use Rattle.aper_fields.specs.Run.{then_written, ◌▸◌, fixed_bits_run};
+ghost use Rattle.aper_fields.specs.Run.{then_written};
 ghost use Rattle.aper_fields.specs.Asn1.{present_run};
 ghost use Rattle.aper_fields.specs.SequenceReading.{present_at};
 
@@ -32,12 +32,4 @@ pub fn write_present(w: &mut BitWriter, present: bool) -> Result<(), OutOfMemory
     } else {
         write_bits_fixed(w, 0, 1)
     }
-}
-
-/// Writes the bits before the fields of a SEQUENCE without optional parts: no extension, no iE-Extensions (ITU-T X.691, Encoding the sequence type). Where memory runs out, nothing is written.
-pub fn write_preamble(w: &mut BitWriter) -> Result<(), OutOfMemory>
-    ensures ok { OnOk result (w.new ≡ then_written w.old (fixed_bits_run 1 0 ▸ fixed_bits_run 1 0)) }
-    ensures err { OnErr result (w.new ≡ w.old) }
-{
-    write_bits_fixed(w, 0, 2)
 }

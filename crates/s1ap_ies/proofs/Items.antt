@@ -13,11 +13,11 @@ use Rattle.aper_fields.proofs.Sizes.{takes}
 -- ---- one item
 
 pub done_fits : (S : List ℕ → Type 0) (v : ErabDone) → IsErabDone v → Fits S erab_done v
-unfolding erab_done erab_id address
+unfolding erab_done
 done_fits S v right = (omega (arith, right.0), ((tt, right.1), right.2))
 
 pub done_right : (S : List ℕ → Type 0) (v : ErabDone) → Fits S erab_done v → IsErabDone v
-unfolding erab_done erab_id address
+unfolding erab_done
 done_right S v fits = (omega (arith, fits.0), fits.1.0.1, fits.1.1)
 
 both_of : (S : List ℕ → Type 0) (nas : Option (List ℕ)) → IfSome nas IsNas → IfSome nas S → IfSome nas (λ octets. (length octets ≤ 2048) × S octets)
@@ -29,11 +29,11 @@ few_of S None both = tt
 few_of S (Some nas) both = both.0
 
 pub setup_fits : (S : List ℕ → Type 0) (v : ErabToSetup) → IsErabToSetup v → IfSome v.nas S → Fits S erab_to_setup v
-unfolding erab_to_setup erab_id address qos arp
+unfolding erab_to_setup
 setup_fits S v right strings = (omega (arith, right.0), ((omega (arith, right.1), (right.2, tt)), ((tt, right.3), (right.4, both_of S v.nas right.5 strings))))
 
 pub setup_right : (S : List ℕ → Type 0) (v : ErabToSetup) → Fits S erab_to_setup v → IsErabToSetup v
-unfolding erab_to_setup erab_id address qos arp
+unfolding erab_to_setup
 setup_right S v fits =
     let quality = fits.1.0 in
     let endpoint = fits.1.1.0 in

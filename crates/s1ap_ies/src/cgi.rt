@@ -1,10 +1,8 @@
 //! Cell global identities.
 
-ghost use Rattle.std.specs.Prelude.{◌≡◌, OnOk, OnErr};
+ghost use Rattle.std.specs.Prelude.{◌≡◌, ◌≤◌, ◌<◌};
 
-use crate::bit_strings::{read_two, write_two};
-use aper_fields::{BitReader, BitWriter, PlainValue};
-use echo_base::{OutOfMemory, Refusal};
+use aper_types::{BitString, Named, Needed, Sequence};
 
 /// An E-UTRAN cell global identity (TS 36.413, 9.2.1.38).
 #[derive(Clone, Copy, Debug)]
@@ -15,25 +13,29 @@ pub struct Cgi {
     pub cell: u32,
 }
 
-impl PlainValue for Cgi {
-    ghost use Rattle.s1ap_ies.specs.Values.{cgi};
+impl Named for Cgi {
+    ghost use Rattle.s1ap_ies.specs.Values.{cgi, cgi_same};
+    ghost use Rattle.aper_types.specs.Made.{made_of};
+    ghost use Rattle.std.proofs.Common.{rules};
+
+    type Type = Sequence<(Needed<BitString<24>>, Needed<BitString<28>>)>;
 
     ghost asn1 = { cgi };
 
-    /// It is refused for the first piece that is wrong: Truncated, NonZeroPadding, SequenceExtension
-    /// where its extension bit is 1; in its iE-Extensions OutOfRange at their count, LongLength, TooLong,
-    /// BadCriticality too.
-    #[tactic(auto, unfolding(aper_fields::specs::Asn1::reading))]
-    fn read_pieces(r: &mut BitReader) -> Result<Cgi, Refusal> {
-        let (plmn, cell) = read_two(r, 24, 28)?;
-        Ok(Cgi {
+    ghost same = { cgi_same };
+
+    fn make((plmn, cell): (u64, u64)) -> Cgi {
+        Cgi {
             plmn: plmn as u32,
             cell: cell as u32,
-        })
+        }
     }
 
-    #[tactic(auto, unfolding(aper_fields::specs::Asn1::run))]
-    fn write_pieces(self, w: &mut BitWriter) -> Result<(), OutOfMemory> {
-        write_two(w, (u64::from(self.plmn), 24), (u64::from(self.cell), 28))
+    fn parts(self) -> (u64, u64) {
+        (u64::from(self.plmn), u64::from(self.cell))
     }
+
+    ghost made = { made_of _ cgi_same };
+
+    ghost right = { Prim.search rules };
 }

@@ -1,14 +1,12 @@
 //! E-RABs that were set up.
 
-ghost use Rattle.std.specs.Prelude.{◌≡◌, OnOk, OnErr};
+ghost use Rattle.std.specs.Prelude.{◌≡◌, ◌≤◌, ◌<◌, OnOk};
 
-use crate::bearer::{read_address, read_erab_id, write_address, write_erab_id};
+use crate::bearer::{Address, ErabId};
 use crate::list::Item;
-use aper_fields::{
-    BitReader, BitWriter, PlainValue, read_bits_fixed, read_present, read_zero_bit,
-    skip_extensions, write_bits_fixed, write_preamble,
-};
-use echo_base::{Bad, OutOfMemory, Reason, Refusal};
+use aper_fields::{BitReader, BitWriter};
+use aper_types::{BitString, Named, Needed, PlainValue, Sequence};
+use echo_base::{Bad, OutOfMemory, Refusal};
 use std::alloc::Global;
 
 /// An E-RAB that was set up: the E-RAB Setup Item of a response (TS 36.413, 9.1.4.3).
@@ -22,39 +20,34 @@ pub struct ErabDone {
     pub teid: u32,
 }
 
-impl PlainValue for ErabDone {
-    ghost use Rattle.s1ap_ies.specs.Values.{erab_done};
+impl Named for ErabDone {
+    ghost use Rattle.s1ap_ies.specs.Values.{erab_done, erab_done_same, done_made};
+    ghost use Rattle.std.proofs.Common.{rules};
+
+    type Type = Sequence<(Needed<ErabId>, (Needed<Address>, Needed<BitString<32>>))>;
 
     ghost asn1 = { erab_done };
 
-    /// It is refused for the first piece that is wrong: Truncated, NonZeroPadding, SequenceExtension
-    /// where its extension bit is 1, OutOfRange where that of the E-RAB ID or of the address is 1 or the address has
-    /// not 32 bits; in its iE-Extensions OutOfRange at their count, LongLength, TooLong,
-    /// BadCriticality too.
-    #[tactic(auto, unfolding(aper_fields::specs::Asn1::reading, aper_fields::specs::Asn1::flags_at, aper_fields::specs::Asn1::fields_at, crate::specs::Values::erab_done))]
-    fn read_pieces(r: &mut BitReader) -> Result<ErabDone, Refusal> {
-        let mut ahead = r.ahead();
-        read_zero_bit(&mut ahead, Reason::SequenceExtension)?;
-        let more = read_present(&mut ahead)?;
-        let id = read_erab_id(&mut ahead)?;
-        let address = read_address(&mut ahead)?;
-        let teid = read_bits_fixed(&mut ahead, 32)?;
-        skip_extensions(&mut ahead, more)?;
-        *r = ahead;
-        Ok(ErabDone {
+    ghost same = { erab_done_same };
+
+    fn make((id, (address, teid)): (u64, (u64, u64))) -> ErabDone {
+        ErabDone {
             id: id as u8,
             address: address as u32,
             teid: teid as u32,
-        })
+        }
     }
 
-    #[tactic(auto, unfolding(aper_fields::specs::Asn1::run, aper_fields::specs::Asn1::flags_run, aper_fields::specs::Asn1::fields_run, crate::specs::Values::erab_done, crate::specs::Values::erab_id))]
-    fn write_pieces(self, w: &mut BitWriter) -> Result<(), OutOfMemory> {
-        write_preamble(w)?;
-        write_erab_id(w, self.id)?;
-        write_address(w, self.address)?;
-        write_bits_fixed(w, u64::from(self.teid), 32)
+    fn parts(self) -> (u64, (u64, u64)) {
+        (
+            u64::from(self.id),
+            (u64::from(self.address), u64::from(self.teid)),
+        )
     }
+
+    ghost made = { done_made };
+
+    ghost right = { Prim.search rules };
 }
 
 impl Item for ErabDone {

@@ -8,15 +8,14 @@ ghost use Rattle.aper_fields.specs.Asn1.{reading, run, fields_at, fields_run, Fi
 ghost use Rattle.s1ap_ies.specs.Values.{erab_to_setup, qos, address, nas_pdu};
 ghost use Rattle.s1ap_ies.specs.Lent.{item_of};
 
-use crate::bearer::{
-    Qos, read_address, read_erab_id, read_qos, write_address, write_erab_id, write_qos,
-};
+use crate::bearer::{Address, ErabId, Qos};
 use crate::list::Item;
 use crate::names::MOST_OCTETS_OF_NAS;
 use aper_fields::{
-    BitReader, BitWriter, OwnedValue, read_bits_fixed, read_octet_string, read_present,
-    read_zero_bit, skip_extensions, write_bits_fixed, write_octet_string, write_present,
+    BitReader, BitWriter, read_bits_fixed, read_octet_string, read_present, read_zero_bit,
+    skip_extensions, write_bits_fixed, write_octet_string, write_present,
 };
+use aper_types::{Coding, Made, OwnedValue};
 use device_types::Octets;
 use echo_base::{Bad, OutOfMemory, Reason, Refusal};
 use std::alloc::{AllocError, Global};
@@ -71,9 +70,9 @@ fn read_parts<'a>(r: &mut BitReader<'a>) -> Result<Parts<'a>, Refusal>
     read_zero_bit(&mut ahead, Reason::SequenceExtension)?;
     let with_nas = read_present(&mut ahead)?;
     let more = read_present(&mut ahead)?;
-    let id = read_erab_id(&mut ahead)?;
-    let qos = read_qos(&mut ahead)?;
-    let address = read_address(&mut ahead)?;
+    let id = ErabId::read(&mut ahead)?;
+    let qos = Made::<Qos>::read(&mut ahead)?;
+    let address = Address::read(&mut ahead)?;
     let teid = read_bits_fixed(&mut ahead, 32)?;
     let nas = read_nas(&mut ahead, with_nas)?;
     skip_extensions(&mut ahead, more)?;
@@ -112,7 +111,7 @@ fn write_nas(w: &mut BitWriter, nas: &Option<Octets>) -> Result<(), OutOfMemory>
 
 /// Writes what stands behind the E-RAB ID (TS 36.413, 9.1.4.1): QoS parameters, transport layer address, TEID and, where
 /// there is one, the NAS-PDU. Where memory runs out, what was written before still stands in front.
-#[tactic(auto, unfolding(crate::specs::Values::erab_to_setup, crate::specs::Values::qos, crate::specs::Values::arp))]
+#[tactic(auto, unfolding(crate::specs::Values::erab_to_setup))]
 fn write_bearer(w: &mut BitWriter, erab: &ErabToSetup) -> Result<(), OutOfMemory>
     requires { CanBeWritten erab_to_setup erab.now }
     ensures ok { OnOk result (w.new ≡ then_written w.old (run qos (record { qci = erab.now.qci; arp = erab.now.arp }) ▸ run address erab.now.address ▸ fixed_bits_run 32 erab.now.teid ▸ fields_run (optional nas_pdu) erab.now.nas)) }
@@ -122,8 +121,8 @@ fn write_bearer(w: &mut BitWriter, erab: &ErabToSetup) -> Result<(), OutOfMemory
         qci: erab.qci,
         arp: erab.arp,
     };
-    write_qos(w, qos)?;
-    write_address(w, erab.address)?;
+    Made::<Qos>::write(w, qos)?;
+    Address::write(w, u64::from(erab.address))?;
     write_bits_fixed(w, u64::from(erab.teid), 32)?;
     write_nas(w, &erab.nas)
 }
@@ -158,12 +157,12 @@ impl OwnedValue for ErabToSetup {
         Ok(())
     }
 
-    #[tactic(auto, unfolding(aper_fields::specs::Asn1::run, aper_fields::specs::Asn1::flags_run, aper_fields::specs::Asn1::fields_run, crate::specs::Values::erab_to_setup, crate::specs::Values::erab_id))]
+    #[tactic(auto, unfolding(aper_fields::specs::Asn1::run, aper_fields::specs::Asn1::flags_run, aper_fields::specs::Asn1::fields_run, crate::specs::Values::erab_to_setup))]
     fn write_pieces(&self, w: &mut BitWriter) -> Result<(), OutOfMemory> {
         write_bits_fixed(w, 0, 1)?;
         write_present(w, self.nas.is_some())?;
         write_bits_fixed(w, 0, 1)?;
-        write_erab_id(w, self.id)?;
+        ErabId::write(w, u64::from(self.id))?;
         write_bearer(w, self)
     }
 }

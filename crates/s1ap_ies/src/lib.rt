@@ -3,7 +3,6 @@
 
 mod bearer;
 mod bit_rates;
-mod bit_strings;
 mod cause;
 mod cgi;
 mod criticality;
@@ -18,7 +17,7 @@ mod stmsi;
 mod tai;
 mod ue_ids;
 
-pub use aper_fields::{OwnedValue, PlainValue, spelled_is_right, written_is_spelled};
+pub use aper_types::{OwnedValue, PlainValue, spelled_is_right, written_is_spelled};
 pub use bit_rates::BitRates;
 pub use cause::{Cause, cause_roots};
 pub use cgi::Cgi;

@@ -1,18 +1,16 @@
 //! The values of a paging.
 
-ghost use Rattle.std.specs.Prelude.{◌≡◌, OnOk};
+ghost use Rattle.std.specs.Prelude.{◌≡◌, ◌≤◌, ◌<◌, OnOk};
 ghost use Rattle.echo_base.specs.Reading.{Gives, GivesIn, skipping};
 ghost use Rattle.aper_fields.specs.Run.{then_written};
 ghost use Rattle.aper_fields.specs.Asn1.{AsnType, reading, run, CanBeWritten};
-ghost use Rattle.s1ap_ies.specs.Values.{paging_id, tai_item};
+ghost use Rattle.s1ap_ies.specs.Values.{paging_id};
 
 use crate::list::Item;
 use crate::stmsi::Stmsi;
 use crate::tai::Tai;
-use aper_fields::{
-    BitReader, BitWriter, PlainValue, Ranged, read_present, read_zero_bit, skip_extensions,
-    write_bits_fixed, write_preamble,
-};
+use aper_fields::{BitReader, BitWriter, Ranged, read_zero_bit, write_bits_fixed};
+use aper_types::{Coding, Made, Needed, Sequence};
 use echo_base::{Bad, OutOfMemory, Reason, Refusal};
 use std::alloc::Global;
 
@@ -27,7 +25,7 @@ pub fn read_paging_id(r: &mut BitReader) -> Result<Stmsi, Refusal>
     if Ranged::<0, 1>::read(&mut ahead)? != 0 {
         return Err(place.refusal(Reason::BadChoice));
     }
-    let stmsi = <Stmsi as PlainValue>::read(&mut ahead)?;
+    let stmsi = Made::<Stmsi>::read(&mut ahead)?;
     *r = ahead;
     Ok(stmsi)
 }
@@ -40,41 +38,31 @@ pub fn write_paging_id(w: &mut BitWriter, stmsi: Stmsi) -> Result<(), OutOfMemor
 {
     write_bits_fixed(w, 0, 1)?;
     Ranged::<0, 1>::write(w, 0)?;
-    PlainValue::write(stmsi, w)
+    Made::<Stmsi>::write(w, stmsi)
 }
 
-/// Reads a TAI List Item (TS 36.413, 9.1.6).
-#[tactic(auto, unfolding(aper_fields::specs::Asn1::reading, aper_fields::specs::Asn1::flags_at, aper_fields::specs::Asn1::fields_at, crate::specs::Values::tai_item))]
-fn read_tai(r: &mut BitReader) -> Result<Tai, Refusal>
-    ensures { Gives result r.old r.new (reading tai_item r.old) }
-{
-    let mut ahead = r.ahead();
-    read_zero_bit(&mut ahead, Reason::SequenceExtension)?;
-    let more = read_present(&mut ahead)?;
-    let tai = <Tai as PlainValue>::read(&mut ahead)?;
-    skip_extensions(&mut ahead, more)?;
-    *r = ahead;
-    Ok(tai)
-}
+/// A TAI List Item (TS 36.413, 9.1.6).
+type TaiItem = Sequence<Needed<Made<Tai>>>;
 
 impl Item for Tai {
     ghost use Rattle.s1ap_ies.specs.Values.{tai_item, tai_item_sound};
 
     ghost asn1 = { tai_item };
 
+    #[tactic(auto, unfolding(crate::specs::Values::tai_item))]
     fn skip_item(r: &mut BitReader) -> Result<(), Refusal> {
-        read_tai(r)?;
+        TaiItem::read(r)?;
         Ok(())
     }
 
+    #[tactic(auto, unfolding(crate::specs::Values::tai_item))]
     fn read_item(_alloc: Global, r: &mut BitReader) -> Result<Tai, Bad> {
-        Ok(read_tai(r)?)
+        Ok(TaiItem::read(r)?)
     }
 
-    #[tactic(auto, unfolding(aper_fields::specs::Asn1::run, aper_fields::specs::Asn1::flags_run, aper_fields::specs::Asn1::fields_run, crate::specs::Values::tai_item))]
+    #[tactic(auto, unfolding(crate::specs::Values::tai_item))]
     fn write_item(&self, w: &mut BitWriter) -> Result<(), OutOfMemory> {
-        write_preamble(w)?;
-        PlainValue::write(*self, w)
+        TaiItem::write(w, *self)
     }
 
     ghost sound = { tai_item_sound };

@@ -1,10 +1,8 @@
 //! S-TMSIs.
 
-ghost use Rattle.std.specs.Prelude.{◌≡◌, OnOk, OnErr};
+ghost use Rattle.std.specs.Prelude.{◌≡◌, ◌≤◌, ◌<◌};
 
-use crate::bit_strings::{read_two, write_two};
-use aper_fields::{BitReader, BitWriter, PlainValue};
-use echo_base::{OutOfMemory, Refusal};
+use aper_types::{BitString, Named, Needed, Sequence};
 
 /// An S-TMSI (TS 36.413, 9.2.3.6).
 #[derive(Clone, Copy, Debug)]
@@ -15,25 +13,29 @@ pub struct Stmsi {
     pub tmsi: u32,
 }
 
-impl PlainValue for Stmsi {
-    ghost use Rattle.s1ap_ies.specs.Values.{stmsi};
+impl Named for Stmsi {
+    ghost use Rattle.s1ap_ies.specs.Values.{stmsi, stmsi_same};
+    ghost use Rattle.aper_types.specs.Made.{made_of};
+    ghost use Rattle.std.proofs.Common.{rules};
+
+    type Type = Sequence<(Needed<BitString<8>>, Needed<BitString<32>>)>;
 
     ghost asn1 = { stmsi };
 
-    /// It is refused for the first piece that is wrong: Truncated, NonZeroPadding, SequenceExtension
-    /// where its extension bit is 1; in its iE-Extensions OutOfRange at their count, LongLength, TooLong,
-    /// BadCriticality too.
-    #[tactic(auto, unfolding(aper_fields::specs::Asn1::reading))]
-    fn read_pieces(r: &mut BitReader) -> Result<Stmsi, Refusal> {
-        let (mmec, tmsi) = read_two(r, 8, 32)?;
-        Ok(Stmsi {
+    ghost same = { stmsi_same };
+
+    fn make((mmec, tmsi): (u64, u64)) -> Stmsi {
+        Stmsi {
             mmec: mmec as u8,
             tmsi: tmsi as u32,
-        })
+        }
     }
 
-    #[tactic(auto, unfolding(aper_fields::specs::Asn1::run))]
-    fn write_pieces(self, w: &mut BitWriter) -> Result<(), OutOfMemory> {
-        write_two(w, (u64::from(self.mmec), 8), (u64::from(self.tmsi), 32))
+    fn parts(self) -> (u64, u64) {
+        (u64::from(self.mmec), u64::from(self.tmsi))
     }
+
+    ghost made = { made_of _ stmsi_same };
+
+    ghost right = { Prim.search rules };
 }

@@ -1,10 +1,8 @@
 //! Tracking area identities.
 
-ghost use Rattle.std.specs.Prelude.{◌≡◌, OnOk, OnErr};
+ghost use Rattle.std.specs.Prelude.{◌≡◌, ◌≤◌, ◌<◌};
 
-use crate::bit_strings::{read_two, write_two};
-use aper_fields::{BitReader, BitWriter, PlainValue};
-use echo_base::{OutOfMemory, Refusal};
+use aper_types::{BitString, Named, Needed, Sequence};
 
 /// A tracking area identity (TS 36.413, 9.2.3.16).
 #[derive(Clone, Copy, Debug)]
@@ -15,25 +13,29 @@ pub struct Tai {
     pub tac: u16,
 }
 
-impl PlainValue for Tai {
-    ghost use Rattle.s1ap_ies.specs.Values.{tai};
+impl Named for Tai {
+    ghost use Rattle.s1ap_ies.specs.Values.{tai, tai_same};
+    ghost use Rattle.aper_types.specs.Made.{made_of};
+    ghost use Rattle.std.proofs.Common.{rules};
+
+    type Type = Sequence<(Needed<BitString<24>>, Needed<BitString<16>>)>;
 
     ghost asn1 = { tai };
 
-    /// It is refused for the first piece that is wrong: Truncated, NonZeroPadding, SequenceExtension
-    /// where its extension bit is 1; in its iE-Extensions OutOfRange at their count, LongLength, TooLong,
-    /// BadCriticality too.
-    #[tactic(auto, unfolding(aper_fields::specs::Asn1::reading))]
-    fn read_pieces(r: &mut BitReader) -> Result<Tai, Refusal> {
-        let (plmn, tac) = read_two(r, 24, 16)?;
-        Ok(Tai {
+    ghost same = { tai_same };
+
+    fn make((plmn, tac): (u64, u64)) -> Tai {
+        Tai {
             plmn: plmn as u32,
             tac: tac as u16,
-        })
+        }
     }
 
-    #[tactic(auto, unfolding(aper_fields::specs::Asn1::run))]
-    fn write_pieces(self, w: &mut BitWriter) -> Result<(), OutOfMemory> {
-        write_two(w, (u64::from(self.plmn), 24), (u64::from(self.tac), 16))
+    fn parts(self) -> (u64, u64) {
+        (u64::from(self.plmn), u64::from(self.tac))
     }
+
+    ghost made = { made_of _ tai_same };
+
+    ghost right = { Prim.search rules };
 }
