@@ -21,6 +21,7 @@ use Rattle.case_form.specs.declared.section.Section.{Section}
 use Rattle.case_form.specs.declared.section.Section.TheVariants.{Subscribers, Trace, Schedule}
 use Rattle.case_form.specs.Case.{most_octets, row_reason, form_reason}
 use Rattle.device_types.specs.Event.{IsInForm}
+use Rattle.device_types.specs.Numbers.{IsWithin}
 use Rattle.case_form.specs.Event.{event_of}
 use Rattle.case_form.specs.Said.{most_lines, HasStation}
 use Rattle.case_form.specs.Section.{is_passed_over, is_heading, heading_of}

@@ -1,10 +1,9 @@
 -- A line is read as one of a trace exactly where its words are a base station and a text, or `data` and 15 digits.
 use Rattle.std.proofs.Common.{◌≡◌, ℕ, ◌<◌, false, eqb, List, [], ◌∷◌, length, Option, Some, None, refl, sym, ap, ◌∙◌, subst, arith}
-use Rattle.std.specs.Prelude.{codes, option_map, if◌then◌else◌}
+use Rattle.std.specs.Prelude.{codes, if◌then◌else◌}
 use Rattle.std.specs.Fmt.{decimal}
 use Rattle.std.proofs.lemmas.Bool.Decides.{nat_tests}
 use Rattle.std.specs.Str.{bytes_eq}
-use Rattle.std.proofs.lemmas.Bool.{cases_Bool}
 use Rattle.std.proofs.lemmas.Option.{cond_some, same_Some}
 use Rattle.std.proofs.lemmas.Slice.Eq.{bytes_eq-Decides}
 use Rattle.device_types.specs.Numbers.{IsWithin}
@@ -13,7 +12,7 @@ use Rattle.case_form.specs.declared.case.TraceKind.{TraceKind}
 use Rattle.case_form.specs.declared.case.TraceKind.TheVariants.{Pdu, Data}
 use Rattle.case_form.specs.Number.{number_of}
 use Rattle.case_form.specs.Trace.{text_at, sent_at, sent_of, data_at, imsi_at, notice_at, notice_of, kind_from, kind_of, IsSent, IsNotice}
-use Rattle.case_form.specs.Words.{number_at, words_of}
+use Rattle.case_form.specs.Words.{number_at}
 use Rattle.case_form.proofs.ExactLaws.{IsExact, Next, Ends, next_exact, done_exact, value_exact, known_exact, number_exact, whole_found, whole_only}
 
 abbrev Words : Type 0
@@ -105,8 +104,14 @@ no_sent : (line : List ℕ) (imsi : ℕ) → IsNotice imsi line → sent_of line
 unfolding sent_of sent_at number_at number_of
 no_sent line imsi is = rw is.2 refl
 
+-- what a base station sent, of the two kinds of lines
+pdu_of : TraceKind → Option (ℕ × List ℕ)
+pdu_of (Pdu station text) = Some (station, text)
+pdu_of (Data imsi) = None
+
 as_sent : (sent : Option (ℕ × List ℕ)) (notice : Option ℕ) (station : ℕ) (text : List ℕ) → kind_from sent notice ≡ Some (Pdu station text) → sent ≡ Some (station, text)
-as_sent (Some sent) notice station text e = cc
+unfolding pdu_of
+as_sent (Some sent) notice station text e = ap pdu_of (same_Some (Pdu sent.0 sent.1) (Pdu station text) e)
 as_sent None None station text e = absurd cc
 as_sent None (Some imsi) station text e = absurd cc
 
