@@ -217,10 +217,16 @@ fn tell_full(alloc: Global, text: &mut String, front: &str, line: &str) -> Resul
 fn counts_the_lines_of_a_section(rt: HostRuntime) -> Result<(), Fail> {
     let mut text = String::new(rt.alloc());
     tell_full(rt.alloc(), &mut text, "[trace]\n#\n", "1 00\n")?;
+    tell_full(
+        rt.alloc(),
+        &mut text,
+        "[trace]\n#\n",
+        "data 208930000000001\n",
+    )?;
     tell_full(rt.alloc(), &mut text, "\n[schedule]\n", "read 1\n")?;
     assert_eq!(rt;
         text.as_str(),
-        "good, TooManyLines 100004\ngood, TooManyLines 100004\n"
+        "good, TooManyLines 100004\ngood, TooManyLines 100004\ngood, TooManyLines 100004\n"
     );
     Ok(())
 }

@@ -74,9 +74,10 @@ Connecting 1/3 Made registered | 1/3 ContextDone | stage=AwaitModify side=(41, 4
 Connecting 1/3 Active registered | 1/3 ContextDone | stage=AwaitModify side=(41, 42) | gateway Modify(41, 42);
 AwaitModify 1/3 Made registered | answer Modified | stage=Connected bearer=Active |
 Connecting 1/3 Made registered | 1/3 ContextFailed | stage=Releasing cause=2/3 | release 1/3 2/3;
-Idle none Made registered | 0/0 Data | | page 11 12;
 Connecting 1/3 Active registered | 1/3 ContextFailed | stage=AwaitRelease cause=2/3 | gateway Release;
 Connecting 1/3 None registered | 1/3 ContextFailed | stage=Releasing cause=2/3 | release 1/3 2/3;
+Idle none Made registered | 0/0 Data | | page 11 12;
+Idle 1/3 Active registered | 0/0 Data | | page 11 12;
 Connecting 1/3 None registered | 1/3 ReleaseAsked | stage=Releasing cause=0/20+ | release 1/3 0/20+;
 Connecting 1/3 Made registered | 1/3 ReleaseAsked | stage=Releasing cause=0/20+ | release 1/3 0/20+;
 Connecting 1/3 Active registered | 1/3 ReleaseAsked | stage=AwaitRelease cause=0/20+ | gateway Release;
