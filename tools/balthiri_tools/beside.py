@@ -6,11 +6,11 @@ import json
 from dataclasses import dataclass
 from typing import Dict, List, Optional
 
-from .case_text import CaseText
+from .case_text import NO_STATION, CaseText
 from .command import counted
 from .compare import EQUAL, FIELDS, Answer, Exchange, Sent, compare
 from .learnt import Learnt
-from .messages import name_of
+from .messages import DATA_WAITS, name_of
 from .network import Heard
 from .printed import Printed
 from .rows import Row
@@ -47,32 +47,50 @@ class Report:
     def summary(self) -> str:
         answers = self.answers()
         equal, differ = sum(it.is_equal for it in answers), sum(it.differs for it in answers)
-        messages = sum(len(it.exchanges) for it in self.devices)
-        told = f"{counted(len(self.devices), 'device')}, {counted(messages, 'message')} of base stations, {counted(len(answers), 'answer')}: {equal} equal, "
+        notices = sum(one.is_notice for it in self.devices for one in it.exchanges)
+        messages = sum(len(it.exchanges) for it in self.devices) - notices
+        of_gateway = f", {counted(notices, 'notice')} of the gateway" if notices else ""
+        told = f"{counted(len(self.devices), 'device')}, {counted(messages, 'message')} of base stations{of_gateway}, {counted(len(answers), 'answer')}: {equal} equal, "
         return f"{told}{len(answers) - equal - differ} otherwise as the profile or the capture explains, {counted(differ, 'difference')}"
 
 
+def _sent_by_machine(turn: Optional[Turn]) -> List[Sent]:
+    return [Sent(down.station, name_of(down.octets), down.octets) for down in turn.downs] if turn else []
+
+
+def _sent_by_mme(it: Heard, station: int) -> Sent:
+    return Sent(station, it.name, it.captured.message, it.captured.frame, it.captured.time)
+
+
 def _exchange(it: Heard, out: str, turn: Optional[Turn]) -> Exchange:
-    made = [Sent(down.station, name_of(down.octets), down.octets) for down in turn.downs] if turn else []
-    return Exchange(it.captured.frame, it.captured.time, it.station, it.name, out, machine=made)
+    return Exchange(it.captured.frame, it.captured.time, it.station, it.name, out, machine=_sent_by_machine(turn))
+
+
+def _exchange_of_notice(it: Heard, turn: Optional[Turn]) -> Exchange:
+    """A notice of the gateway, which the PAGING tells that begins a round; those behind it are the same message to other base stations."""
+    made, mme = _sent_by_machine(turn), [_sent_by_mme(it, NO_STATION)]
+    return Exchange(it.captured.frame, it.captured.time, NO_STATION, DATA_WAITS, mme=mme, machine=made, is_notice=True)
 
 
 def report_of(learnt: Learnt, case: CaseText, printed: Printed, turns: List[Turn]) -> Report:
-    """Each message of a device, with what the MME sent before the device's next one, and what the machine sends."""
+    """Each message of a device, and each notice for it, with what the MME sent before the device's next one, and what the machine sends."""
     lines = {id(it): line.line for it, line in zip(learnt.lines, case.trace)}
     by_line = {it.message.line.line: it for it in turns}
     exchanges: Dict[int, List[Exchange]] = {}
     strangers = 0
     for it in learnt.heard:
-        row = learnt.table.of(it.device) if it.device else None
+        device, line = it.device or it.paged, lines.get(id(it), 0)
+        row = learnt.table.of(device.whole()) if device else None
         if row is None:
             strangers += not it.is_up
+        elif it.paged:
+            if line:
+                exchanges.setdefault(row.number, []).append(_exchange_of_notice(it, by_line.get(line)))
         elif it.is_up:
-            line = lines.get(id(it), 0)
             out = it.why or (f"that is refused: {printed.refused[line]}" if line in printed.refused else "")
             exchanges.setdefault(row.number, []).append(_exchange(it, out, by_line.get(line)))
         else:
-            exchanges[row.number][-1].mme.append(Sent(it.station, it.name, it.captured.message, it.captured.frame, it.captured.time))
+            exchanges[row.number][-1].mme.append(_sent_by_mme(it, it.station))
     devices = [DeviceBeside(it, exchanges[it.number]) for it in learnt.table.rows if it.number in exchanges]
     for device in devices:
         compare(device.exchanges, device.row.is_learnt)

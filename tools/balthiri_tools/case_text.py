@@ -13,6 +13,8 @@ from typing import Dict, List, Optional
 from .command import BadInput
 
 SUBSCRIBERS, TRACE, SCHEDULE = "[subscribers]", "[trace]", "[schedule]"
+NOTICE = "data"  # what stands in a notice where a PDU has its base station
+NO_STATION = 0  # what a notice comes from, and what a message to all base stations of an area goes to
 MOST_OCTETS_OF_A_LINE = 8192
 MOST_EVENTS = 100000
 LANES = ("down", "gateway", "subscriber")
@@ -43,15 +45,23 @@ class Subscriber:
 
 @dataclass(frozen=True)
 class TraceLine:
-    """A PDU as its line gives it."""
+    """A line of a trace: a PDU as its line gives it, or the gateway's notice for the device of an IMSI, which comes from no base station."""
 
     line: int
     station: int
     text: str
 
+    @property
+    def is_notice(self) -> bool:
+        return self.station == NO_STATION
+
+    def words(self) -> str:
+        """The line as it stands in a case text."""
+        return f"{NOTICE if self.is_notice else self.station} {self.text}"
+
     def octets(self) -> Optional[bytes]:
         """The octets of the PDU, where the text is hexadecimal."""
-        is_hexadecimal = re.fullmatch(r"([0-9a-fA-F]{2})*", self.text)
+        is_hexadecimal = not self.is_notice and re.fullmatch(r"([0-9a-fA-F]{2})*", self.text)
         return bytes.fromhex(self.text) if is_hexadecimal else None
 
 
@@ -82,7 +92,7 @@ class CaseText:
     def with_trace(self, lines: List[TraceLine]) -> bytes:
         """The case text of the same subscribers and these lines of the trace, without a schedule."""
         written = [SUBSCRIBERS.encode(), *self.subscriber_lines, TRACE.encode()]
-        written += [f"{it.station} {it.text}".encode("latin-1") for it in lines]
+        written += [it.words().encode("latin-1") for it in lines]
         return b"\n".join(written) + b"\n"
 
 
@@ -108,10 +118,12 @@ def _read_subscriber(device: int, line: int, octets: bytes) -> Subscriber:
 
 
 def _read_trace_line(line: int, text: str) -> TraceLine:
-    station, space, pdu = text.partition(" ")
-    if not (station.isdecimal() and space and pdu):
+    station, _, behind = text.partition(" ")
+    if station == NOTICE and re.fullmatch(r"[0-9]{15}", behind):
+        return TraceLine(line, NO_STATION, behind)
+    if not re.fullmatch(r"[1-9][0-9]{0,4}", station) or not behind:
         raise BadInput(f"line {line}: no line of a trace")
-    return TraceLine(line, int(station), pdu)
+    return TraceLine(line, int(station), behind)
 
 
 def read_case(octets: bytes) -> CaseText:

@@ -8,7 +8,7 @@ from typing import Dict, Iterator, List, Optional, Tuple
 
 from .fields import explanation, fields_of
 from .learnt import NOT_IN_PROFILE
-from .messages import elements_of
+from .messages import PAGING, elements_of
 from .per import Broken
 from .values import ids_of
 
@@ -21,7 +21,7 @@ NEAR = 8  # so many messages of a device apart an answer is looked for, where it
 
 # The messages to devices that the profile has, by their names.
 OF_THE_PROFILE = ("Authentication request", "Authentication reject", "Security mode command", "Attach accept", "Attach reject", "Service reject")
-OF_THE_PROFILE += ("Detach accept", "Tracking area update accept", "Tracking area update reject", "InitialContextSetupRequest", "UEContextReleaseCommand")
+OF_THE_PROFILE += ("Detach accept", "Tracking area update accept", "Tracking area update reject", "InitialContextSetupRequest", "UEContextReleaseCommand", PAGING)
 
 
 @dataclass(frozen=True)
@@ -79,7 +79,8 @@ class Answer:
 
 @dataclass
 class Exchange:
-    """A message of a base station, with what both sent in answer; why it is none of the machine's; why the machine may be in another state than the MME."""
+    """A message of a base station, or a notice of the gateway, with what both sent in answer; why it is none of the machine's; why the machine may be in another
+    state than the MME."""
 
     frame: str
     time: str
@@ -90,6 +91,7 @@ class Exchange:
     mme: List[Sent] = field(default_factory=list)
     machine: List[Sent] = field(default_factory=list)
     answers: List[Answer] = field(default_factory=list)
+    is_notice: bool = False
 
     @property
     def is_of_another_profile(self) -> bool:

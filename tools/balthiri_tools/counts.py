@@ -13,7 +13,7 @@ from typing import Dict, Iterator, List, NamedTuple, Optional, Set, Tuple
 
 from .case_text import MOST_EVENTS, CaseText, TraceLine
 from .command import Progress
-from .messages import kind_of, name_of
+from .messages import kind_of, name_of, name_of_line
 from .printed import Final
 from .program import Program
 
@@ -129,9 +129,8 @@ class Seen:
 
 
 def _names(message: Message) -> str:
-    octets = message.line.octets() or b""
-    kind = kind_of(octets)
-    return f"{kind.name if kind else ''} {name_of(octets)}"
+    kind = kind_of(message.line.octets() or b"")
+    return f"{kind.name if kind else ''} {name_of_line(message.line)}"
 
 
 @dataclass

@@ -94,6 +94,13 @@ class Devices:
             self._by_guti[guti] = self.by_imsi(imsi, frame) if imsi else self._new("tmsi", guti[1], frame)
         return self._by_guti[guti].whole()
 
+    def found(self, name: "Union[None, str, Guti]") -> Optional[Device]:
+        """The device that has this IMSI or this GUTI, if it has come."""
+        if isinstance(name, tuple) and name not in self._by_guti:
+            name = self.known.get(name[1])
+        device = self._by_guti.get(name) if isinstance(name, tuple) else self._by_imsi.get(name or "")
+        return device.whole() if device else None
+
     def _new(self, column: str, value: Union[str, int], frame: str) -> Device:
         device = Device()
         device.learn(column, value, frame)

@@ -11,10 +11,11 @@ from . import nas as types
 from .messages import elements_of, kind_of, name_of, nas_pdu_of
 from .nas import Nas, accepted, bearer_asked, nas_read
 from .per import Broken
-from .values import BEARERS, BIT_RATES, CAPABILITIES, CAUSE, ENB_ID, KEY, MME_ID, NAS_PDU, UE_IDS, Bearer, bearers_of, bit_rates, cause_of
+from .values import AREAS, BEARERS, BIT_RATES, CAPABILITIES, CAUSE, DOMAIN, ENB_ID, INDEX, KEY, MME_ID, NAS_PDU, PAGING_ID, UE_IDS
+from .values import Bearer, areas_of, bearers_of, bit_rates, cause_of, paged_of
 
 Fields = Dict[str, str]
-NAMED = (MME_ID, ENB_ID, NAS_PDU, UE_IDS, CAUSE, BIT_RATES, BEARERS, CAPABILITIES, KEY)
+NAMED = (MME_ID, ENB_ID, NAS_PDU, UE_IDS, CAUSE, BIT_RATES, BEARERS, CAPABILITIES, KEY, PAGING_ID, AREAS, INDEX, DOMAIN)
 
 # What the profile has in place of what a network may send: by the names of fields.
 OF_THE_PROFILE: Dict[str, str] = {
@@ -31,6 +32,8 @@ OF_THE_PROFILE: Dict[str, str] = {
     "access point labels": "an access point name of one label",
     "options": "mandatory fields alone",
     "other IEs": "the IEs of its tables alone",
+    "paged by": "paging by S-TMSI alone",
+    "areas": "one area in a paging",
     "more capabilities": "EEA and EIA alone",
 }
 # What a peer gave: a row has one value of each.
@@ -108,6 +111,17 @@ def _fields_of_bearers(bearers: "list[Bearer]") -> Iterator[Tuple[str, str]]:
     yield "TEID", str(first.teid)
 
 
+def _fields_of_paging(elements: Dict[int, bytes]) -> Iterator[Tuple[str, str]]:
+    if PAGING_ID in elements:
+        yield "paged by", "IMSI" if isinstance(paged_of(elements[PAGING_ID]), str) else "S-TMSI"
+    if INDEX in elements:
+        yield "index", str(int.from_bytes(elements[INDEX], "big") >> 6)
+    if DOMAIN in elements:
+        yield "domain", "cs" if elements[DOMAIN][:1] >= b"\x80" else "ps"
+    if AREAS in elements:
+        yield "areas", " ".join(f"{plmn.hex()} {code}" for plmn, code in areas_of(elements[AREAS]))
+
+
 def _fields_of_s1ap(elements: Dict[int, bytes]) -> Iterator[Tuple[str, str]]:
     if CAUSE in elements:
         yield "cause", cause_of(elements[CAUSE])
@@ -122,6 +136,7 @@ def _fields_of_s1ap(elements: Dict[int, bytes]) -> Iterator[Tuple[str, str]]:
         yield "algorithms", elements[CAPABILITIES].hex()
     if KEY in elements:
         yield "key", elements[KEY].hex()
+    yield from _fields_of_paging(elements)
     yield "other IEs", " ".join(str(it) for it in sorted(set(elements) - set(NAMED)))
 
 

@@ -5,10 +5,11 @@ from __future__ import annotations
 from dataclasses import dataclass, field
 from typing import Dict, List, Set, Tuple
 
+from .areas import Areas
 from .case_text import CaseText, Event, TraceLine
 from .messages import kind_of
 from .packets import Frame
-from .printed import Printed
+from .printed import Down, Printed
 from .turns import Turn
 
 
@@ -20,10 +21,11 @@ def is_from_station(line: TraceLine) -> bool:
 
 @dataclass
 class Exchange:
-    """The trace, of which some lines went up, and the downs of each device, of which some went down."""
+    """The trace, of which some lines went up, and the downs of each device, of which some went down, each to the base stations that it is for."""
 
     case: CaseText
     turns: List[Turn]
+    areas: Areas
     lines_gone: int = 0
     downs_gone: Set[Tuple[int, int]] = field(default_factory=set)
     frames: List[Frame] = field(default_factory=list)
@@ -39,12 +41,12 @@ class Exchange:
     def go_down(self, turn: Turn) -> None:
         """The downs of a message, as far as they have not gone down."""
         for down in turn.downs:
-            self.go_down_once(turn.message.device, down.number, Frame(False, down.station, down.octets))
+            self.go_down_once(turn.message.device, down)
 
-    def go_down_once(self, device: int, number: int, frame: Frame) -> None:
-        if (device, number) not in self.downs_gone:
-            self.downs_gone.add((device, number))
-            self.frames.append(frame)
+    def go_down_once(self, device: int, down: Down) -> None:
+        if (device, down.number) not in self.downs_gone:
+            self.downs_gone.add((device, down.number))
+            self.frames += [Frame(False, it, down.octets) for it in self.areas.stations_of(down)]
 
     def rest(self) -> None:
         """What is left, each message with its downs behind it."""
@@ -65,13 +67,12 @@ def frames_of(case: CaseText, printed: Printed, turns: List[Turn]) -> List[Frame
 
     What no event sent or accepted comes at the end, in the order of the trace.
     """
-    exchange = Exchange(case, turns)
+    exchange = Exchange(case, turns, Areas(it.message.line for it in turns))
     lines = {(it.message.device, it.message.number): it.message.line.line for it in turns}
     downs = {(turn.message.device, it.number): it for turn in turns for it in turn.downs}
     for event, answer in zip(case.schedule, printed.answers):
         exchange.go_up(_line_sent(event, answer, lines))
         if event.word == "effect" and event.lane == "down" and answer.startswith("accepted "):
-            down = downs[event.device, event.call]
-            exchange.go_down_once(event.device, event.call, Frame(False, down.station, down.octets))
+            exchange.go_down_once(event.device, downs[event.device, event.call])
     exchange.rest()
     return exchange.frames

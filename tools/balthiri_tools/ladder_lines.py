@@ -5,9 +5,10 @@ from __future__ import annotations
 from dataclasses import dataclass, field, replace
 from typing import Dict, List, Optional, Set, Tuple
 
-from .case_text import CaseText, Event
-from .chart import AGENTS, MME, STORE, Form, Legend, Line, Mark, replica_column, station_column
-from .messages import name_of
+from .areas import Areas
+from .case_text import CaseText, Event, TraceLine
+from .chart import AGENTS, GATEWAY, MME, STORE, Form, Legend, Line, Mark, replica_column, station_column
+from .messages import name_of, name_of_line
 from .printed import Final, Printed
 from .turns import Message, Turn
 
@@ -50,24 +51,31 @@ class Hand:
     message: int = 0
 
 
+def column_of(line: TraceLine) -> str:
+    """Where a line of a trace comes from."""
+    return GATEWAY if line.is_notice else station_column(line.station)
+
+
 @dataclass
 class Names:
-    """How messages, calls and downs are called in labels. Where there are more devices, a name says whose it is."""
+    """How messages, calls and downs are called in labels, and whence and where they go. Where there are more devices, a name says whose it is."""
 
     messages: Dict[Tuple[int, int], Message]
     finals: Dict[int, Final]
+    areas: Areas
 
     @staticmethod
     def of(case: CaseText, printed: Printed, messages: List[Message]) -> "Names":
         finals = printed.by_imsi()
-        return Names({(it.device, it.number): it for it in messages}, {it.device: finals[it.imsi] for it in case.subscribers})
+        by_number, by_device = {(it.device, it.number): it for it in messages}, {it.device: finals[it.imsi] for it in case.subscribers}
+        return Names(by_number, by_device, Areas(it.line for it in messages))
 
     def _whose(self, name: str, device: int) -> str:
         return f"{name} of device {device}" if len(self.finals) > 1 else name
 
     def message(self, device: int, number: int) -> str:
         message = self.messages.get((device, number))
-        name = "message" if message is None else name_of(message.line.octets() or b"")
+        name = "message" if message is None else name_of_line(message.line)
         return self._whose(f"{name} {number}", device)
 
     def effect(self, device: int, lane: str, number: int) -> str:
@@ -75,11 +83,11 @@ class Names:
         names = [name_of(it.octets) for it in final.downs] if lane == "down" else [it.split(" ")[0] for it in final.calls(lane)]
         return self._whose(f"{names[number - 1] if number <= len(names) else lane} {number}", device)
 
-    def station_of_message(self, device: int, number: int) -> str:
-        return station_column(self.messages[device, number].line.station)
+    def column_of_message(self, device: int, number: int) -> str:
+        return column_of(self.messages[device, number].line)
 
-    def station_of_down(self, device: int, number: int) -> str:
-        return station_column(self.finals[device].downs[number - 1].station)
+    def columns_of_down(self, device: int, number: int) -> List[str]:
+        return [station_column(it) for it in self.areas.stations_of(self.finals[device].downs[number - 1])]
 
 
 @dataclass
@@ -97,8 +105,15 @@ class Replay:
         hand = self.hands.get(event.replica)
         return event.device or (hand.device if hand else 0)
 
+    def lines(self, event: Event, answer: str) -> List[Line]:
+        """The lines of an event that came to this answer: one, but of a message that is handed on to several base stations one to each."""
+        line = self.line(event, answer)
+        is_handed_on = event.word == "effect" and event.lane == "down" and answer.startswith("accepted ")
+        targets = self.names.columns_of_down(event.device, event.call) if is_handed_on else []
+        return [replace(line, source=AGENTS, target=it) for it in targets] or [line]
+
     def line(self, event: Event, answer: str) -> Line:
-        """The line of an event that came to this answer."""
+        """The line of an event that came to this answer, as far as what receives it first."""
         label = f"{event.number} {answer}"
         if answer.startswith("void "):
             return self._void(event, label, answer)
@@ -140,8 +155,6 @@ class Replay:
         if event.word == "settle":
             return Line(label, name, Form.ON_ITS_WAY, receiver, STORE, Mark.REPEAT if answer.startswith("old ") else Mark.NONE)
         if answer.startswith("accepted "):
-            if event.lane == "down":  # the agent, to which the store pushed it, hands it on
-                return Line(label, name, Form.ARRIVES, AGENTS, self.names.station_of_down(event.device, event.call))
             return Line(label, name, Form.ARRIVES, STORE, receiver)
         return Line(label, name, Form.ARRIVES, STORE, receiver, Mark.REPEAT)
 
@@ -163,30 +176,31 @@ class Replay:
         self.sent.add(key)
         if is_again:
             return Line(label, name, Form.ARRIVES, AGENTS, AGENTS, Mark.REPEAT)
-        return Line(label, name, Form.ARRIVES, self.names.station_of_message(*key), AGENTS)
+        return Line(label, name, Form.ARRIVES, self.names.column_of_message(*key), AGENTS)
 
 
 def lines_of_replay(case: CaseText, printed: Printed, messages: List[Message], choice: Choice) -> List[Line]:
-    """A line for each event that is chosen, in order."""
+    """The lines of each event that is chosen, in order."""
     replay = Replay(Names.of(case, printed, messages))
-    lines = []
+    lines: List[Line] = []
     for event, answer in zip(case.schedule, printed.answers):
-        line = replace(replay.line(event, answer), caption=case.comments.get(event.number, ""))
+        first, *others = replay.lines(event, answer)
         if choice.has(event.number, replay.device_of(event)):
-            lines.append(line)
+            lines += [replace(first, caption=case.comments.get(event.number, "")), *others]
     return lines
 
 
 def _lines_of_turn(turn: Turn, names: Names) -> List[Line]:
     message = turn.message
-    lines = [Line(f"line {message.line.line}", names.message(message.device, message.number), Form.ARRIVES, station_column(message.line.station), MME)]
+    lines = [Line(f"line {message.line.line}", names.message(message.device, message.number), Form.ARRIVES, column_of(message.line), MME)]
     for call in turn.calls:
         name = names.effect(message.device, call.lane, call.number)
         lines.append(Line(name, "", Form.ARRIVES, MME, call.lane))
         if call.is_awaited:
             lines.append(Line(f"answer to {name}", "", Form.ON_ITS_WAY, call.lane, MME))
     for down in turn.downs:
-        lines.append(Line(names.effect(message.device, "down", down.number), "", Form.ARRIVES, MME, station_column(down.station)))
+        name = names.effect(message.device, "down", down.number)
+        lines += [Line(name, "", Form.ARRIVES, MME, it) for it in names.columns_of_down(message.device, down.number)]
     return lines
 
 
@@ -199,5 +213,5 @@ def lines_of_plain(case: CaseText, printed: Printed, turns: List[Turn], choice: 
         turn = by_line.get(it.line)
         if choice.has(it.line, turn.message.device if turn else 0):
             refusal = f"refused {printed.refused.get(it.line, '')}"
-            lines += _lines_of_turn(turn, names) if turn else [Line(f"line {it.line}", refusal, Form.FAILS, station_column(it.station), MME, Mark.VOID)]
+            lines += _lines_of_turn(turn, names) if turn else [Line(f"line {it.line}", refusal, Form.FAILS, column_of(it), MME, Mark.VOID)]
     return lines

@@ -13,6 +13,7 @@ from .devices import Device
 from .messages import SERVICE_REQUEST, SESSION_MANAGEMENT
 from .nas import guti_in, response_in, with_guti, with_response
 from .network import BEGIN_MISSING, BEHIND_THE_END, OTHER_ID, RELEASED, UNNAMED, Heard, network_of
+from .notices import Rounds
 from .per import Broken, length_octets, number_octets
 from .rows import MOST_ROWS, Row, Table, rows_given
 from .trace import OF_THE_MME, OTHER, Trace
@@ -32,7 +33,7 @@ TAKEN = (0x41, 0x43, 0x45, 0x48, 0x53, 0x5E, 0x5F, SERVICE_REQUEST)
 
 @dataclass
 class Learnt:
-    """The table and the trace, what was heard in the order of the capture, and the messages that are lines, in their order."""
+    """The table and the trace, what was heard in the order of the capture, and the messages that are lines, and PAGINGs that tell a notice, in their order."""
 
     table: Table
     trace: Trace
@@ -75,19 +76,30 @@ class _Lines:
         self.trace = Trace(left_out=Counter({OF_THE_MME: 0, OTHER: 0}))
         self.trace.left_out.update(left_out)
         self.taken: List[Heard] = []
+        self._rounds = Rounds()
         self._bound: Dict[Tuple[int, int], Device] = {}
         self._pairs: Dict[int, Tuple[int, int]] = {}
 
     def take(self, it: Heard) -> None:
+        row = self.table.of(it.device) if it.device and it.is_up else None
+        self._rounds.ends(row.imsi if row else None)
         why = self._why_not(it)
         if why:
             it.why = why
             self.trace.left_out[why] += 1
+            self._take_notice(it)
             return
         octets, changes = self._rewritten(it)
         if self.trace.add(it.captured, it.station, octets, changes):
             self.taken.append(it)
             self._bind(it)
+
+    def _take_notice(self, it: Heard) -> None:
+        """Takes the PAGING that begins a round as a notice."""
+        row = self.table.of(it.paged.whole()) if it.paged else None
+        if row and self._rounds.begins(row.imsi, it.captured.association):
+            self.trace.add_notice(it.captured, row.imsi)
+            self.taken.append(it)
 
     def _why_not(self, it: Heard) -> str:
         """Why a message is no line; no text where it is one."""

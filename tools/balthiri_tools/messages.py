@@ -8,9 +8,12 @@ from __future__ import annotations
 from dataclasses import dataclass
 from typing import Dict, Optional, Tuple
 
+from .case_text import TraceLine
 from .per import Broken
 from .values import BEARERS, NAS_PDU, S_TMSI, bearers_of, ids_of
 
+PAGING = "Paging"
+DATA_WAITS = "Downlink data notification"  # how a notice of the gateway is called (TS 29.274, 7.2.11)
 SERVICE_REQUEST = 0xC7
 SESSION_MANAGEMENT = 2  # the protocol discriminator of ESM
 PROTECTED = (0x17, 0x27, 0x37, 0x47)  # the first octets of NAS messages behind a code of authentication and a number
@@ -19,7 +22,7 @@ PROTECTION = 6  # octets of the header that protects
 
 @dataclass(frozen=True)
 class Kind:
-    """One of the ten messages, and whether a base station sends it."""
+    """One of the eleven messages, and whether a base station sends it."""
 
     name: str
     is_up: bool
@@ -37,6 +40,7 @@ KINDS: Dict[Tuple[int, int], Kind] = {
     (0x00, 23): Kind("UEContextReleaseCommand", False),
     (0x20, 23): Kind("UEContextReleaseComplete", True),
     (0x00, 22): Kind("UECapabilityInfoIndication", True),
+    (0x00, 10): Kind(PAGING, False),
 }
 
 NAS_NAMES: Dict[int, str] = {
@@ -81,7 +85,7 @@ class Identity:
 
 
 def kind_of(message: bytes) -> Optional[Kind]:
-    """Which of the ten messages the first two octets begin, if any."""
+    """Which of the eleven messages the first two octets begin, if any."""
     return KINDS.get((message[0], message[1])) if len(message) >= 2 else None
 
 
@@ -182,3 +186,8 @@ def name_of(message: bytes) -> str:
     if nas[:1] and nas[0] & 15 == SESSION_MANAGEMENT:
         return "ESM message"
     return NAS_NAMES.get(nas[1], kind.name) if len(nas) >= 2 else kind.name
+
+
+def name_of_line(line: TraceLine) -> str:
+    """The message that a line of a trace is."""
+    return DATA_WAITS if line.is_notice else name_of(line.octets() or b"")

@@ -13,6 +13,7 @@ from .command import Progress
 from .devices import Device, Devices, Guti, Vector
 from .messages import SERVICE_REQUEST, Kind, elements_of, kind_of, name_of, nas_pdu_of
 from .nas import Nas, accepted, bearer_asked, guti_in, imsi_in, nas_read, response_in
+from .notices import paged_by
 from .per import Broken
 from .sctp import Captured, Key
 from .stations import stations_by_way, stations_of
@@ -42,7 +43,10 @@ class Connection:
 
 @dataclass
 class Heard:
-    """A message of the capture: what it is, who sent it, its connection, or why it has none, the NAS message in it, and which authentication that answers."""
+    """A message of the capture: what it is, who sent it, its connection, or why it has none, the NAS message in it, and which authentication that answers.
+
+    A PAGING has no connection, but the device that it is for, where that has come before.
+    """
 
     captured: Captured
     kind: Optional[Kind]
@@ -52,6 +56,7 @@ class Heard:
     why: str = ""
     nas: Nas = Nas(b"", b"")
     vector: Optional[Vector] = None
+    paged: Optional[Device] = None
 
     @property
     def device(self) -> Optional[Device]:
@@ -87,6 +92,7 @@ class Network:
         except Broken:
             return
         if mme_id is None and enb_id is None:
+            it.paged = self.devices.found(paged_by(it.captured.message))
             return
         if it.is_first and enb_id is not None:
             self._begin(it, enb_id, elements)

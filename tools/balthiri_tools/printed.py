@@ -12,7 +12,7 @@ from .command import BadInput
 
 @dataclass(frozen=True)
 class Down:
-    """A message to a device: its number on the lane, its base station, its octets."""
+    """A message to a device: its number on the lane, its base station, or none where it goes to all of an area, its octets."""
 
     number: int
     station: int
@@ -52,7 +52,7 @@ ANSWER = re.compile(
 )
 REFUSED_LINE = re.compile(r"refused ([1-9][0-9]*) ([0-9]+ [A-Za-z]+.*)")
 DEVICE = re.compile(r"device ([0-9]{15}) messages ([0-9]+) steps [0-9]+")
-DOWN = re.compile(r"down ([1-9][0-9]*) ([1-9][0-9]*) ((?:[0-9a-f]{2})+)")
+DOWN = re.compile(r"down ([1-9][0-9]*) (0|[1-9][0-9]*) ((?:[0-9a-f]{2})+)")
 CALL = re.compile(r"(gateway|subscriber) ([1-9][0-9]*) ([a-z]+(?: [0-9a-f]{8} [0-9]+)?)")
 
 

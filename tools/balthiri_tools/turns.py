@@ -11,7 +11,7 @@ from typing import Dict, List
 from .case_text import CaseText, TraceLine
 from .command import BadInput, Progress
 from .counts import Asked, Counts, Message, counts_of
-from .messages import identity_of
+from .messages import Identity, identity_of
 from .printed import Down, Final, Printed
 from .program import Program
 
@@ -54,7 +54,7 @@ def messages_of(case: CaseText, printed: Printed) -> List[Message]:
     for line in case.trace:
         if line.line in printed.refused:
             continue
-        named = identity_of(line.octets() or b"")
+        named = Identity(imsi=line.text) if line.is_notice else identity_of(line.octets() or b"")
         device = named.mme_id or by_imsi.get(named.imsi or "") or by_tmsi.get(-1 if named.tmsi is None else named.tmsi)
         if device is None:
             raise BadInput(f"line {line.line}: it cannot be told whose message it is")

@@ -3,12 +3,13 @@
 from __future__ import annotations
 
 from dataclasses import dataclass
-from typing import Dict, List, Optional, Tuple
+from typing import Dict, List, Optional, Tuple, Union
 
 from .per import Broken, Reader, length_octets
 
 MME_ID, CAUSE, ENB_ID, NAS_PDU, BIT_RATES, TAI, S_TMSI = 0, 2, 8, 26, 66, 67, 96
 BEARERS, KEY, UE_IDS, CAPABILITIES = 24, 73, 99, 107
+PAGING_ID, AREAS, INDEX, DOMAIN = 43, 46, 80, 109
 MOST_BIT_RATE = 10000000000
 MOST_MME_ID, MOST_ENB_ID = 2**32 - 1, 2**24 - 1
 HEADER = 3  # outcome, procedure, criticality
@@ -134,18 +135,48 @@ def cause_of(value: bytes) -> str:
     return f"{name} extension {read.bits(7)}" if read.bits(1) else f"{name} {read.bits(bits)}"
 
 
-def area_of(value: bytes) -> Tuple[bytes, int]:
-    """A tracking area (9.2.3.16): its PLMN and its code."""
-    read = Reader(value)
+Area = Tuple[bytes, int]
+
+
+def _area(read: Reader) -> Area:
     read.bits(2)
     return read.octets(3), int.from_bytes(read.octets(2), "big")
 
 
-def s_tmsi_of(value: bytes) -> Tuple[int, int]:
-    """An S-TMSI (9.2.3.6): the code of its MME and its M-TMSI."""
-    read = Reader(value)
+def area_of(value: bytes) -> Area:
+    """A tracking area (9.2.3.16): its PLMN and its code."""
+    return _area(Reader(value))
+
+
+def areas_of(value: bytes) -> List[Area]:
+    """The tracking areas of a list's value (9.1.6)."""
+    read, areas = Reader(value), []
+    for _ in range(read.octets(1)[0] + 1):
+        read.octets(3)
+        item = Reader(read.octets(read.length()))
+        item.bits(2)
+        areas.append(_area(item))
+    return areas
+
+
+def _s_tmsi(read: Reader) -> Tuple[int, int]:
     read.bits(2)
     return read.bits(8), int.from_bytes(read.octets(4), "big")
+
+
+def s_tmsi_of(value: bytes) -> Tuple[int, int]:
+    """An S-TMSI (9.2.3.6): the code of its MME and its M-TMSI."""
+    return _s_tmsi(Reader(value))
+
+
+def paged_of(value: bytes) -> Union[str, Tuple[int, int]]:
+    """Whom a paging is for (9.2.3.13): an S-TMSI, or the digits of an IMSI."""
+    read = Reader(value)
+    read.root()
+    if not read.bits(1):
+        return _s_tmsi(read)
+    octets = read.octets(read.bits(3) + 3)
+    return "".join(f"{it & 15:x}{it >> 4:x}" for it in octets).rstrip("f")
 
 
 def with_tmsi(value: bytes, tmsi: int) -> bytes:

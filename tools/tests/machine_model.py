@@ -163,7 +163,7 @@ class Machine:
         self.messages += 1
         self.steps += 1
         rule = getattr(self, f"take_{it.kind}")
-        if it.is_first or self.link == it.pair:
+        if it.is_first or it.kind == "data" or self.link == it.pair:
             rule(it)
         while self.stage.startswith("await"):
             self.steps += 1
@@ -268,6 +268,14 @@ class Machine:
     def take_capability(self, it: Input) -> None:
         self.radio = it.octets
 
+    def take_data(self, _: Input) -> None:
+        if self.stage == "idle":
+            plmn, code = self.area
+            index = (int(self.row["imsi"]) % 1024 << 6).to_bytes(2, "big")
+            paged = bytes.fromhex("0010") + self.row["tmsi"].to_bytes(4, "big")
+            areas = bytes.fromhex("00002f400600") + plmn + code.to_bytes(2, "big")
+            self.downs.append((0, written("000a40", (80, "i", index), (43, "i", paged), (109, "i", b"\0"), (46, "i", areas))))
+
     def is_held(self) -> bool:
         return self.stage in ("idle", "connecting", "connected") or self.stage == "releasing" and self.registered
 
@@ -327,6 +335,11 @@ class Admission:
             self.by_identity[it.row["imsi"]] = self.by_identity[it.row["tmsi"]] = at
         self.bound: Dict[Tuple[int, int], int] = {}
 
+    def notice(self, imsi: str) -> None:
+        if imsi not in self.by_identity:
+            raise Refused(f"30 UnknownDevice imsi {imsi}")
+        self.machines[self.by_identity[imsi]].take(Input("data", (0, 0)))
+
     def take(self, station: int, pdu: bytes) -> None:
         kind, found = UP.get((pdu[0], pdu[1])), elements(pdu)
         if kind is None:
@@ -381,7 +394,7 @@ class Admission:
             self.bound.pop(said.pair)
 
 
-def case_read(text: str) -> Tuple[List[Dict], List[Tuple[int, int, bytes]]]:
+def case_read(text: str) -> Tuple[List[Dict], List[Tuple[int, str, str]]]:
     section, rows, trace = "", [], []
     for at, line in enumerate(text.splitlines(), 1):
         if line.startswith("["):
@@ -389,8 +402,7 @@ def case_read(text: str) -> Tuple[List[Dict], List[Tuple[int, int, bytes]]]:
         elif line and not line.startswith("#") and section == "[subscribers]":
             rows.append(json.loads(line))
         elif line and not line.startswith("#") and section == "[trace]":
-            station, octets = line.split(" ")
-            trace.append((at, int(station), bytes.fromhex(octets)))
+            trace.append((at, *line.split(" ")))
     return rows, trace
 
 
@@ -406,9 +418,12 @@ def plain(text: str) -> str:
     rows, trace = case_read(text)
     machines = [Machine(row, at) for at, row in enumerate(rows, 1)]
     admission, lines = Admission(machines), []
-    for at, station, pdu in trace:
+    for at, station, behind in trace:
         try:
-            admission.take(station, pdu)
+            if station == "data":
+                admission.notice(behind)
+            else:
+                admission.take(int(station), bytes.fromhex(behind))
         except Refused as refusal:
             lines.append(f"refused {at} {refusal}")
     for it in sorted(machines, key=lambda machine: machine.row["imsi"]):
