@@ -9,7 +9,7 @@ from typing import Dict, List, Optional
 
 from .case_text import CaseText
 from .command import BadInput
-from .messages import name_of
+from .messages import name_of, name_of_line
 from .packets import Frame
 from .printed import Printed, belongs, read_printed
 from .program import Program
@@ -77,12 +77,12 @@ def _devices(run: Run) -> List[Json]:
 
 
 def _trace(run: Run) -> List[List[object]]:
-    """Of each line of the trace: line, base station, text, device and number of the message, its name, and why it is refused."""
+    """Of each line of the trace: line, base station (a notice has none, 0), text, device and number of the message, its name, and why it is refused."""
     messages, lines = run.messages(), []
     for it in run.case.trace:
         message, octets = messages.get(it.line), it.octets()
         whose = [message.device, message.number] if message else [0, 0]
-        name = name_of(octets) if octets else "no octets"
+        name = name_of_line(it) if octets or it.is_notice else "no octets"
         lines.append([it.line, it.station, it.text.lower() if octets else it.text, *whose, name, run.printed.refused.get(it.line, "")])
     return lines
 

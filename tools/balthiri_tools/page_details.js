@@ -3,7 +3,11 @@
 const OCTETS_A_LINE = 16;
 const MOST_BUTTONS = 60;
 
-const toStation = (message) => `${message.isUp ? "from" : "to"} base station ${message.station}`;
+// A notice comes from no base station, and a message to all of an area goes to none of its own: 0 stands for either.
+function toStation(message) {
+  if (message.station) return `${message.isUp ? "from" : "to"} base station ${message.station}`;
+  return message.isUp ? "from the gateway" : "to each base station of its area";
+}
 
 class Details {
   constructor(run, page) {

@@ -16,6 +16,7 @@ function columnsOf(run) {
   for (const event of run.events) {
     if (event.answer !== "void replica") replicas = Math.max(replicas, event.replica);
     if (event.lane && event.lane !== "down") used.add(event.lane);
+    if (event.word === "send") used.add(run.sourceOf(event));
   }
   const peers = ["gateway", "subscriber"].filter((it) => used.has(it));
   return ["base station", "agents", ...Array.from({ length: replicas }, (_, at) => replicaColumn(at + 1)), "store", ...peers];
@@ -31,7 +32,7 @@ function drawingOf(run, event) {
   switch (event.word) {
     case "send":
       if (event.isAgain) return { form: "again", from: "agents", label: `${label} again`, mark: "" };
-      return { form: "arrives", from: "base station", to: "agents", label, mark: "" };
+      return { form: "arrives", from: run.sourceOf(event), to: "agents", label, mark: "" };
     case "take": return { form: "arrives", from: "agents", to: replica, label, mark: "" };
     case "answer": return { form: "arrives", from: event.lane, to: replica, label: `answer to ${label}`, mark: "" };
     case "read": return { form: "arrives", from: "store", to: replica, label, mark: event.kind === "ready" ? "" : "repeat" };
@@ -52,8 +53,8 @@ function drawingOfEffect(event, label) {
 
 function drawingOfPlain(run, event, label) {
   switch (event.kind) {
-    case "refused": return { form: "fails", from: "base station", to: "MME", label: run.messages[event.about].name, mark: "stale" };
-    case "message": return { form: "arrives", from: "base station", to: "MME", label, mark: "" };
+    case "refused": return { form: "fails", from: run.sourceOf(event), to: "MME", label: run.messages[event.about].name, mark: "stale" };
+    case "message": return { form: "arrives", from: run.sourceOf(event), to: "MME", label, mark: "" };
     case "call": return { form: "arrives", from: "MME", to: event.lane, label, mark: "" };
     case "answer": return { form: "onItsWay", from: event.lane, to: "MME", label: `answer to ${label}`, mark: "" };
     default: return { form: "arrives", from: "MME", to: "base station", label, mark: "" };

@@ -106,6 +106,11 @@ class Run {
     return subject.lane === "down" ? this.downs.get(`${subject.device} ${subject.call}`) ?? null : null;
   }
 
+  // Where a message of a device comes from: a notice from the gateway, any other from a base station.
+  sourceOf(event) {
+    return this.messageOf(event)?.station === 0 ? "gateway" : "base station";
+  }
+
   // How a subject is called: the message's name, or the first word of the call.
   nameOf(subject) {
     if (subject === null) return "";

@@ -20,7 +20,7 @@ from support import DATA, EXAMPLES, PLAIN, REPLAYS, TOOLS, InFolder, has_replay,
 
 Json = Dict[str, object]
 FILES = [(DATA / f"{it}.txt", DATA / f"{it}_text.txt") for it in PLAIN + REPLAYS]
-FILES += [(EXAMPLES / f"{it}.txt", EXAMPLES / f"{it}_text.txt") for it in ("attach", "race", "stop", "replay")]
+FILES += [(EXAMPLES / f"{it}.txt", EXAMPLES / f"{it}_text.txt") for it in ("attach", "paging", "race", "stop", "replay")]
 
 
 def run_of(case_file: Path, text_file: Path) -> Run:
@@ -61,7 +61,7 @@ class Contents(unittest.TestCase):
         for case_file, text_file in FILES:
             data, lines = data_of(run_of(case_file, text_file)), text_file.read_text().splitlines()
             trace = cast(List[List[object]], data["trace"])
-            self.assertEqual([f"{it[1]} {it[2]}".lower() for it in trace], [it.lower() for it in trace_of(case_file.read_bytes())])
+            self.assertEqual([f"{it[1] or 'data'} {it[2]}".lower() for it in trace], [it.lower() for it in trace_of(case_file.read_bytes())])
             self.assertEqual([f"refused {it[0]} {it[6]}" for it in trace if it[6]], [it for it in lines if it.startswith("refused ")])
             downs = cast(List[List[object]], data["downs"])
             self.assertEqual(sorted(f"down {it[1]} {it[2]} {it[3]}" for it in downs), sorted(it for it in lines if it.startswith("down ")))

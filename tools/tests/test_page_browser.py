@@ -284,6 +284,14 @@ class Ladder(InBrowser):
         self.assertEqual((drawn[6][0], drawn[6][1], drawn[6][3]), ("replica 2", "fails stale", "Attach request 1"))
         self.assertEqual(drawn[14], ("store", "arrives repeat", "replica 1", "vectors 1"))
 
+    def test_a_notice_comes_from_the_gateway_and_a_paging_goes_to_base_stations(self) -> None:
+        case, text = ((EXAMPLES / it).read_bytes() for it in ("paging.txt", "paging_text.txt"))
+        (self.folder / "paged.txt").write_bytes(case + b"[schedule]\nsend 1 9\neffect 1 down 5\n")
+        (self.folder / "paged_text.txt").write_bytes(b"event 1: sent\nevent 2: accepted 5\n" + text)
+        self.open(self.folder / "paged.txt", self.folder / "paged_text.txt")
+        expected = [("gateway", "arrives", "agents", "Downlink data notification 9"), ("agents", "arrives", "base station", "Paging 5")]
+        self.assertEqual(self.drawn(), expected)
+
     def test_a_replica_that_holds_something_is_thick(self) -> None:
         self.open_example("race")
         busy = "[...document.querySelectorAll('#events [data-at]:not([hidden])')].sort((one, other) => one.dataset.at - other.dataset.at)"
