@@ -50,8 +50,8 @@ class Report:
         notices = sum(one.is_notice for it in self.devices for one in it.exchanges)
         messages = sum(len(it.exchanges) for it in self.devices) - notices
         of_gateway = f", {counted(notices, 'notice')} of the gateway" if notices else ""
-        told = f"{counted(len(self.devices), 'device')}, {counted(messages, 'message')} of base stations{of_gateway}, {counted(len(answers), 'answer')}: {equal} equal, "
-        return f"{told}{len(answers) - equal - differ} otherwise as the profile or the capture explains, {counted(differ, 'difference')}"
+        told = f"{counted(len(self.devices), 'device')}, {counted(messages, 'message')} of base stations{of_gateway}, {counted(len(answers), 'answer')}: "
+        return f"{told}{equal} equal, {len(answers) - equal - differ} otherwise as the profile or the capture explains, {counted(differ, 'difference')}"
 
 
 def _sent_by_machine(turn: Optional[Turn]) -> List[Sent]:

@@ -19,7 +19,7 @@ from .program import Program
 
 SHORT = 24  # of so many messages what each makes is asked for
 MESSAGES_A_REPLY = 4  # a device may have so many messages that no reply has acknowledged
-NOTICE = "purge"  # the one call whose answer no step awaits
+PURGE = "purge"  # the one call whose answer no step awaits
 
 
 class Counts(NamedTuple):
@@ -165,7 +165,7 @@ class Probe:
         for lane, call in self._calls(before, after):
             self.add(number, f"push {at} {lane} {call}", "pushed")
             self.add(number, f"effect {at} {lane} {call}", f"accepted {call}")
-            if self.device.effects[lane][call - 1] != NOTICE:
+            if self.device.effects[lane][call - 1] != PURGE:
                 self.worked(number, f"answer 1 {at} {lane} {call}")
         if after.down > before.down:
             self.add(number, f"push {at} down {after.down}", "pushed")
@@ -174,10 +174,10 @@ class Probe:
                 self.add(number, f"push {at} {lane} {count + 1}", "void outbox")
 
     def _calls(self, before: Counts, after: Counts) -> Iterator[Tuple[str, int]]:
-        """The calls of a message as they follow one another: those of the subscriber server first, but a notice last."""
+        """The calls of a message as they follow one another: those of the subscriber server first, but a purge last."""
         calls = [("subscriber", it) for it in range(before.subscriber + 1, after.subscriber + 1)]
         calls += [("gateway", it) for it in range(before.gateway + 1, after.gateway + 1)]
-        return iter(sorted(calls, key=lambda it: self.device.effects[it[0]][it[1] - 1] == NOTICE))
+        return iter(sorted(calls, key=lambda it: self.device.effects[it[0]][it[1] - 1] == PURGE))
 
 
 def _probe_of(asked: Asked, device: Device) -> Tuple[Probe, int]:

@@ -108,7 +108,7 @@ class Details {
     const sent = (title, message) => (message ? [element("h3", {}, title, element("span", { class: "dim" }, `  ${message.name}`)), dumpOf(octetsOf(message.octets), -1)] : []);
     this.show(it.frame ? `Frame ${it.frame}` : "The machine alone", [
       element("p", { class: "what" }, it.name || it.told),
-      this.facts([["device", this.deviceButton(it.device)], ["base station", String(it.station)], ["in words", it.name ? it.told : ""], ...values]),
+      this.facts([["device", this.deviceButton(it.device)], ["base station", it.station ? String(it.station) : ""], ["in words", it.name ? it.told : ""], ...values]),
       ...sent("The capture's MME", it.mme),
       ...sent("The proved machine", it.machine),
     ]);

@@ -17,7 +17,7 @@ from .program import Program
 
 # Of the calls that one message makes, a call of an earlier name comes first.
 ORDER_OF_CALLS = ("vectors", "location", "create", "modify", "release", "delete", "purge")
-NOTICE = "purge"  # the one call whose answer no step awaits
+PURGE = "purge"  # the one call whose answer no step awaits
 
 
 @dataclass(frozen=True)
@@ -30,7 +30,7 @@ class Call:
 
     @property
     def is_awaited(self) -> bool:
-        return self.words != NOTICE
+        return self.words != PURGE
 
 
 @dataclass
