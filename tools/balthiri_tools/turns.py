@@ -8,7 +8,7 @@ from __future__ import annotations
 from dataclasses import dataclass, field
 from typing import Dict, List
 
-from .case_text import CaseText, TraceLine
+from .case_text import CaseText
 from .command import BadInput, Progress
 from .counts import Asked, Counts, Message, counts_of
 from .messages import Identity, identity_of
