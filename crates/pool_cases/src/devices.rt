@@ -1,7 +1,7 @@
 //! Four devices: one attaches, one answers the challenge wrongly, one attaches where it may not be, and one says nothing.
 ghost use Rattle.std.specs.Prelude.{◌≡◌, ◌⊎◌, ◌+◌, [], length, All, IfOk, OnOk};
 ghost use Rattle.device_types.specs.Line.{IsLine};
-ghost use Rattle.device_types.specs.Message.{IsBody, IsMessage};
+ghost use Rattle.device_types.specs.Message.{IsBody, IsFrom, IsMessage};
 ghost use Rattle.device_types.specs.Subscriber.{IsSubscriber};
 ghost use Rattle.session_store.specs.Charter.{IsShort};
 
@@ -53,9 +53,10 @@ pub(crate) fn table(alloc: Global) -> Result<SubsTable, Fail> {
     Ok(table)
 }
 
-/// A message of the one connection of a device.
+/// A message of the one connection of a device, on which no notice comes.
 pub(crate) fn message(number: u64, body: Body) -> Message
-    requires { IsBody body }
+    requires from { IsFrom body 1 7 }
+    requires body { IsBody body }
     ensures number { result.number ≡ number }
     ensures message { IsMessage result }
 {
@@ -70,7 +71,8 @@ pub(crate) fn message(number: u64, body: Body) -> Message
 /// A request to attach in a tracking area.
 fn attach(tac: u16) -> Body
     requires { tac ≡ 1 ⊎ tac ≡ 9 }
-    ensures { IsBody result }
+    ensures from { IsFrom result 1 7 }
+    ensures body { IsBody result }
 {
     Body::Attach {
         plmn: 31,
@@ -83,7 +85,8 @@ fn attach(tac: u16) -> Body
 
 /// A response of four octets to the challenge.
 fn response(alloc: Global, last: u8) -> Result<Body, AllocError>
-    ensures { IfOk result IsBody }
+    ensures from { IfOk result (λ body. IsFrom body 1 7) }
+    ensures body { IfOk result IsBody }
 {
     let res = [0xa0, 0xa1, 0xa2, last];
     Ok(Body::Response {
