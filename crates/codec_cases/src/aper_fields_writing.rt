@@ -1,8 +1,8 @@
 //! What is written, against octets worked out by hand from ITU-T X.691.
 
-ghost use Rattle.std.specs.Prelude.{◌≡◌, ◌<◌, ◌^◌, false};
+ghost use Rattle.std.specs.Prelude.{◌≡◌, ◌<◌, ◌≤◌, ◌^◌, false};
 
-use crate::tables::digits_of;
+use crate::tables::told;
 use aper_fields::{
     BitWriter, EnumValue, Ranged, write_bits_fixed, write_enum, write_len, write_octet_string,
     write_octets_fixed, write_open,
@@ -12,7 +12,10 @@ use std::alloc::Global;
 use std::test::Fail;
 
 /// A line each: the octets in hexadecimal, the piece, and the value that is written. Numbers from the one to the other, lengths,
-/// enumerations of so many roots without and with an extension mark, and their values beyond the roots.
+/// enumerations of so many roots without and with an extension mark, and their values beyond the roots; and several pieces behind one
+/// another: a number twice, each time in four octets, behind two bits, so 00 011 p(3) and 011 p(5); strings of 16 and 28 bits behind
+/// a bit, and behind p(3) three octets; an octet string, and open types round no bits and round a bit; and three bits, with one behind
+/// them in the place of 16 that were taken back.
 const PIECES: &str = "
  5..5 5
 9f 1..160 160
@@ -35,6 +38,10 @@ bfff length 16383
 82 5 roots .. beyond 2
 00 1 root .. 0
  1 root 0
+183b9aca00603b9aca00 numbers 1000000000
+ffff800abcdef0010203 strings 11259375
+04c700000001000180 contents 1
+b0 behind a mark 1
 ";
 
 /// A value of an enumeration that is one of its roots.
@@ -95,10 +102,63 @@ fn write_piece(w: &mut BitWriter, piece: &str, value: u64) -> Result<(), Fail> {
     }
 }
 
+/// Writes the number twice, each time in as many octets as it has, behind two bits.
+fn write_numbers(w: &mut BitWriter, value: u64) -> Result<(), OutOfMemory>
+    requires { value ≤ 10000000000 }
+{
+    write_bits_fixed(w, 0, 2)?;
+    Ranged::<0, 10000000000>::write(w, value)?;
+    Ranged::<0, 10000000000>::write(w, value)
+}
+
+/// Writes strings of bits, the last of the value, and of octets behind a bit.
+fn write_strings(w: &mut BitWriter, value: u64) -> Result<(), OutOfMemory>
+    requires { value < 2 ^ 28 }
+{
+    write_bits_fixed(w, 1, 1)?;
+    write_bits_fixed(w, 0xffff, 16)?;
+    write_bits_fixed(w, value, 28)?;
+    write_octets_fixed(w, b"\x01\x02\x03")
+}
+
+/// Writes an octet string, and open types round a value of no bits and of the bit.
+#[tactic(auto, unfolding(aper_fields::specs::Bits::bits, aper_fields::specs::Run::fixed_bits_run))]
+fn write_contents(alloc: Global, w: &mut BitWriter, bit: u64) -> Result<(), OutOfMemory>
+    requires { bit < 2 }
+{
+    let mut body = BitWriter::new(alloc);
+    write_octet_string(w, b"\xc7\x00\x00\x00")?;
+    write_open(w, &body)?;
+    write_bits_fixed(&mut body, bit, 1)?;
+    write_open(w, &body)
+}
+
+/// Writes three bits, and the bit behind them in the place of others that are taken back.
+fn write_again(w: &mut BitWriter, bit: u64) -> Result<(), OutOfMemory>
+    requires { bit < 2 }
+{
+    write_bits_fixed(w, 0b101, 3)?;
+    let mark = w.mark();
+    write_bits_fixed(w, 0xffff, 16)?;
+    w.back_to(mark);
+    write_bits_fixed(w, bit, 1)
+}
+
+/// Writes several pieces that the table names, the last of the value.
+fn write_pieces(alloc: Global, w: &mut BitWriter, pieces: &str, value: u64) -> Result<(), Fail> {
+    match pieces {
+        "numbers" if value <= 10_000_000_000 => Ok(write_numbers(w, value)?),
+        "strings" if value < 0x1000_0000 => Ok(write_strings(w, value)?),
+        "contents" if value < 2 => Ok(write_contents(alloc, w, value)?),
+        "behind a mark" if value < 2 => Ok(write_again(w, value)?),
+        _ => write_piece(w, pieces, value),
+    }
+}
+
 /// Writes the octets of a piece and a value that the table names.
 fn tell_piece(alloc: Global, text: &mut String, piece: &str, value: u64) -> Result<(), Fail> {
     let mut w = BitWriter::new(alloc);
-    write_piece(&mut w, piece, value)?;
+    write_pieces(alloc, &mut w, piece, value)?;
     Ok(text.push_str(&hex::encode(alloc, w.bytes())?)?)
 }
 
@@ -113,88 +173,6 @@ fn tell_case(alloc: Global, text: &mut String, line: &str) -> Result<(), Fail> {
 
 #[test]
 fn pieces(rt: HostRuntime) -> Result<(), Fail> {
-    let mut text = String::new(rt.alloc());
-    for line in PIECES.lines() {
-        if digits_of(line).is_some() {
-            tell_case(rt.alloc(), &mut text, line)?;
-        }
-        text.push('\n')?;
-    }
-    assert_eq!(rt; text.as_str(), PIECES);
-    Ok(())
-}
-
-/// Two numbers, each in as many octets as it has, behind two bits.
-fn write_numbers(w: &mut BitWriter) -> Result<(), OutOfMemory> {
-    write_bits_fixed(w, 0, 2)?;
-    Ranged::<0, 10000000000>::write(w, 1000000000)?;
-    Ranged::<0, 10000000000>::write(w, 1000000000)
-}
-
-#[test]
-fn numbers_behind_bits(rt: HostRuntime) -> Result<(), Fail> {
-    let mut w = BitWriter::new(rt.alloc());
-    write_numbers(&mut w)?;
-    assert_eq!(rt;
-        w.bytes(),
-        b"\x18\x3b\x9a\xca\x00\x60\x3b\x9a\xca\x00".as_slice()
-    );
-    Ok(())
-}
-
-/// Strings of bits and of octets behind a bit.
-fn write_strings(w: &mut BitWriter) -> Result<(), OutOfMemory> {
-    write_bits_fixed(w, 1, 1)?;
-    write_bits_fixed(w, 0xffff, 16)?;
-    write_bits_fixed(w, 0xabcdef, 28)?;
-    write_octets_fixed(w, b"\x01\x02\x03")
-}
-
-#[test]
-fn strings_behind_bits(rt: HostRuntime) -> Result<(), Fail> {
-    let mut w = BitWriter::new(rt.alloc());
-    write_strings(&mut w)?;
-    assert_eq!(rt;
-        w.bytes(),
-        b"\xff\xff\x80\x0a\xbc\xde\xf0\x01\x02\x03".as_slice()
-    );
-    Ok(())
-}
-
-/// An octet string, and open types round a value of no bits and of one.
-#[tactic(auto, unfolding(aper_fields::specs::Bits::bits, aper_fields::specs::Run::fixed_bits_run))]
-fn write_contents(alloc: Global, w: &mut BitWriter) -> Result<(), OutOfMemory> {
-    let mut body = BitWriter::new(alloc);
-    write_octet_string(w, b"\xc7\x00\x00\x00")?;
-    write_open(w, &body)?;
-    write_bits_fixed(&mut body, 1, 1)?;
-    write_open(w, &body)
-}
-
-#[test]
-fn contents(rt: HostRuntime) -> Result<(), Fail> {
-    let mut w = BitWriter::new(rt.alloc());
-    write_contents(rt.alloc(), &mut w)?;
-    assert_eq!(rt;
-        w.bytes(),
-        b"\x04\xc7\x00\x00\x00\x01\x00\x01\x80".as_slice()
-    );
-    Ok(())
-}
-
-/// Three bits, and one behind them in the place of others that were taken back.
-fn write_again(w: &mut BitWriter) -> Result<(), OutOfMemory> {
-    write_bits_fixed(w, 0b101, 3)?;
-    let mark = w.mark();
-    write_bits_fixed(w, 0xffff, 16)?;
-    w.back_to(mark);
-    write_bits_fixed(w, 1, 1)
-}
-
-#[test]
-fn taken_back(rt: HostRuntime) -> Result<(), Fail> {
-    let mut w = BitWriter::new(rt.alloc());
-    write_again(&mut w)?;
-    assert_eq!(rt; w.bytes(), b"\xb0".as_slice());
+    assert_eq!(rt; told(rt.alloc(), PIECES, tell_case)?.as_str(), PIECES);
     Ok(())
 }

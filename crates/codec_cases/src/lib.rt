@@ -6,13 +6,9 @@ mod aper_fields_reading;
 #[cfg(test)]
 mod aper_fields_writing;
 #[cfg(test)]
-mod codec_bench_lines;
-#[cfg(test)]
 mod s1ap_ies_tables;
 #[cfg(test)]
 mod s1ap_ies_values;
-#[cfg(test)]
-mod s1ap_ies_written;
 #[cfg(test)]
 mod s1ap_messages_long;
 #[cfg(test)]
@@ -21,8 +17,6 @@ mod s1ap_messages_orders;
 mod s1ap_messages_paging;
 #[cfg(test)]
 mod s1ap_messages_refused;
-#[cfg(test)]
-mod s1ap_messages_refused_ies;
 #[cfg(test)]
 mod s1ap_messages_uplink;
 #[cfg(test)]

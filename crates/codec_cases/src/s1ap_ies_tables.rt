@@ -232,11 +232,3 @@ pub(crate) const ERABS_TO_SETUP: &str = "
 # of all three, and behind them 402a
 2520097d000000074001aa000000074001bb0f80c0a8000100000001000000074001cc402a ErabToSetup { id: 5, qci: 9, arp: 61, address: 3232235521, teid: 1, nas: None } as 0500093d0f80c0a8000100000001, then Ok(Mme(42))
 ";
-
-// the id 52, a criticality and p(6), and the length
-pub(crate) const ITEMS: &str = "
-0034000e0500093d0f80c0a8000100000001 ErabToSetup { id: 5, qci: 9, arp: 61, address: 3232235521, teid: 1, nas: None } (Ok(()), Ok(()))
-0032000100 11 MissingIe 52 at 0
-0034c00100 10 BadCriticality at 2
-0034400200 1 Truncated at 3
-";

@@ -1,15 +1,16 @@
-//! The values of the tables, read and written; and items of a list.
+//! The values of the tables, read and written.
+
+ghost use Rattle.std.specs.Prelude.{IfOk};
+ghost use Rattle.aper_fields.specs.Asn1.{IsSound, CanBeWritten};
 
 use crate::s1ap_ies_tables::{
-    BIT_RATES, CAUSES, CGIS, ERABS_DONE, ERABS_TO_SETUP, ITEMS, SEC_CAPS, STMSIS, TAIS, UE_IDS,
+    BIT_RATES, CAUSES, CGIS, ERABS_DONE, ERABS_TO_SETUP, SEC_CAPS, STMSIS, TAIS, UE_IDS,
 };
-use crate::s1ap_ies_written::Written;
-use crate::tables::told;
+use crate::tables::{is_case, octets_of};
 use aper_fields::{BitReader, BitWriter, end};
 use echo_base::{Bad, OutOfMemory};
 use s1ap_ies::{
-    BitRates, Cause, Cgi, ErabDone, ErabToSetup, OwnedValue, PlainValue, SecCaps, Stmsi, Tai,
-    UeIds, read_item,
+    BitRates, Cause, Cgi, ErabDone, ErabToSetup, OwnedValue, PlainValue, SecCaps, Stmsi, Tai, UeIds,
 };
 use std::alloc::Global;
 use std::fmt::Debug;
@@ -30,16 +31,16 @@ fn tell_written(
 }
 
 /// Writes what the value is written as, where that is not the octets.
-fn tell_octets<T: Written>(
+fn tell_octets<T: OwnedValue>(
     alloc: Global,
     text: &mut String,
     value: &T,
     octets: &[u8],
-) -> Result<(), OutOfMemory> {
+) -> Result<(), OutOfMemory>
+    requires { CanBeWritten T.asn1 value.now }
+{
     let mut w = BitWriter::new(alloc);
-    if !value.put(&mut w)? {
-        return text.push_str(" out of range");
-    }
+    value.write(&mut w)?;
     tell_written(alloc, text, w.bytes(), octets)
 }
 
@@ -53,42 +54,73 @@ fn tell_rest(text: &mut String, r: &mut BitReader) -> Result<(), OutOfMemory> {
 }
 
 /// Writes a value that was read of the octets, how it is written, and what stands behind it.
-fn tell_value<T: Written + Debug>(
+fn tell_value<T: OwnedValue + Debug>(
     alloc: Global,
     text: &mut String,
     value: &T,
     octets: &[u8],
     r: &mut BitReader,
-) -> Result<(), OutOfMemory> {
+) -> Result<(), OutOfMemory>
+    requires { CanBeWritten T.asn1 value.now }
+{
     write!(text, "{value:?}")?;
     tell_octets(alloc, text, value, octets)?;
     tell_rest(text, r)
 }
 
+/// Reads a value, which can be written then.
+fn read_value<T: OwnedValue>(alloc: Global, r: &mut BitReader) -> Result<T, Bad>
+    requires { IsSound T.asn1 }
+    ensures { IfOk result (λ value. CanBeWritten T.asn1 value) }
+{
+    <T as OwnedValue>::read(alloc, r)
+}
+
 /// Writes what the octets are read as: the value, how it is written, and what stands behind it; or the refusal.
-fn tell<T: Written + Debug>(
+fn tell<T: OwnedValue + Debug>(
     alloc: Global,
     text: &mut String,
     octets: &[u8],
-) -> Result<(), OutOfMemory> {
+) -> Result<(), OutOfMemory>
+    requires { IsSound T.asn1 }
+{
     let mut r = BitReader::new(octets, 0);
-    match <T as OwnedValue>::read(alloc, &mut r) {
+    match read_value::<T>(alloc, &mut r) {
         Ok(value) => tell_value(alloc, text, &value, octets, &mut r),
         Err(Bad::Refused(refusal)) => write!(text, "{refusal}"),
         Err(Bad::OutOfMemory) => Err(OutOfMemory),
     }
 }
 
+/// Writes a case again, with what its octets are read as.
+fn tell_case<T: OwnedValue + Debug>(
+    alloc: Global,
+    text: &mut String,
+    case: &str,
+) -> Result<(), Fail>
+    requires { IsSound T.asn1 }
+{
+    let octets = octets_of(alloc, text, case)?;
+    Ok(tell::<T>(alloc, text, &octets)?)
+}
+
 /// Writes a table again, with what the octets of each case are read as.
-fn tell_each<T: Written + Debug>(
+fn tell_each<T: OwnedValue + Debug>(
     alloc: Global,
     text: &mut String,
     table: &str,
-) -> Result<(), Fail> {
-    let told = told(alloc, table, |alloc, text, octets| {
-        Ok(tell::<T>(alloc, text, octets)?)
-    })?;
-    Ok(text.push_str(&told)?)
+) -> Result<(), Fail>
+    requires { IsSound T.asn1 }
+{
+    for line in table.lines() {
+        if is_case(line) {
+            tell_case::<T>(alloc, text, line)?;
+        } else {
+            text.push_str(line)?;
+        }
+        text.push('\n')?;
+    }
+    Ok(())
 }
 
 /// All tables of values, one behind another.
@@ -128,86 +160,5 @@ fn values(rt: HostRuntime) -> Result<(), Fail> {
     let mut text = String::new(rt.alloc());
     tell_all(rt.alloc(), &mut text)?;
     assert_eq!(rt; text.as_str(), wanted(rt.alloc())?.as_str());
-    Ok(())
-}
-
-/// Writes what an item of a request is read as, with its id 52 and criticality.
-fn tell_item(alloc: Global, text: &mut String, octets: &[u8]) -> Result<(), OutOfMemory> {
-    let mut r = BitReader::new(octets, 0);
-    let mut content = match read_item(&mut r, 52) {
-        Ok(content) => content,
-        Err(refusal) => return write!(text, "{refusal}"),
-    };
-    match <ErabToSetup as OwnedValue>::read(alloc, &mut content) {
-        Ok(item) => {
-            let ends = (end(&content), end(&r));
-            write!(text, "{item:?} {ends:?}")
-        }
-        Err(Bad::Refused(refusal)) => write!(text, "{refusal}"),
-        Err(Bad::OutOfMemory) => Err(OutOfMemory),
-    }
-}
-
-#[test]
-fn items(rt: HostRuntime) -> Result<(), Fail> {
-    let text = told(rt.alloc(), ITEMS, |alloc, text, octets| {
-        tell_item(alloc, text, octets)?;
-        Ok(())
-    })?;
-    assert_eq!(rt; text.as_str(), ITEMS);
-    Ok(())
-}
-
-/// Puts an item with a NAS-PDU of so many zeros, whose length is 10 and 14 bits, behind the octets.
-fn push_item(octets: &mut Vec<u8>, length: [u8; 2], count: usize) -> Result<(), OutOfMemory> {
-    octets.extend_from_slice(b"\x45\x00\x09\x3d\x0f\x80\xc0\xa8\x00\x01\x00\x00\x00\x01")?;
-    octets.extend_from_slice(&length)?;
-    for _ in 0..count {
-        octets.push(0)?;
-    }
-    Ok(())
-}
-
-/// How many octets the NAS-PDU of an item has.
-fn nas_len(item: &ErabToSetup) -> usize {
-    match &item.nas {
-        Some(nas) => nas.items().len(),
-        None => 0,
-    }
-}
-
-/// Writes how many octets the NAS-PDU has of the item that the octets are, and what stands behind it; or the refusal.
-fn tell_nas(alloc: Global, text: &mut String, octets: &[u8]) -> Result<(), OutOfMemory> {
-    let mut r = BitReader::new(octets, 0);
-    match <ErabToSetup as OwnedValue>::read(alloc, &mut r) {
-        Ok(item) => {
-            let count = nas_len(&item);
-            let ends = end(&r);
-            write!(text, "{count} {ends:?}\n")
-        }
-        Err(Bad::Refused(refusal)) => write!(text, "{refusal}\n"),
-        Err(Bad::OutOfMemory) => Err(OutOfMemory),
-    }
-}
-
-/// Writes what is told of an item with a NAS-PDU of so many zeros.
-fn tell_zeros(
-    alloc: Global,
-    text: &mut String,
-    length: [u8; 2],
-    count: usize,
-) -> Result<(), OutOfMemory> {
-    let mut octets = Vec::new(alloc);
-    push_item(&mut octets, length, count)?;
-    tell_nas(alloc, text, &octets)
-}
-
-#[test]
-fn longest_nas_pdu(rt: HostRuntime) -> Result<(), Fail> {
-    let mut text = String::new(rt.alloc());
-    // 2,048 is 0800, behind 10; one more is refused at the length
-    tell_zeros(rt.alloc(), &mut text, [0x88, 0x00], 2048)?;
-    tell_zeros(rt.alloc(), &mut text, [0x88, 0x01], 2049)?;
-    assert_eq!(rt; text.as_str(), "2048 Ok(())\n6 TooLong at 14\n");
     Ok(())
 }

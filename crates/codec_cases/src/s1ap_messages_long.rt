@@ -1,9 +1,9 @@
-//! Long fields: NAS-PDUs and radio capabilities. Of each line: octets, how many octets ab stand behind them, and those behind these;
-//! and how many are written for what they are read as, or why they are refused.
+//! Long fields and lists: NAS-PDUs, radio capabilities, tracking areas. Of each line: octets, how many times other octets stand behind
+//! them, these, and those behind all; and how many are written for what they are read as, or why they are refused.
 
 ghost use Rattle.s1ap_pdu.specs.Run.{IsRight};
 
-use crate::tables::digits_of;
+use crate::tables::told;
 use echo_base::{Bad, OutOfMemory};
 use s1ap_messages::{Pdu, read_pdu, write_pdu};
 use std::alloc::Global;
@@ -11,29 +11,26 @@ use std::test::Fail;
 
 const MESSAGES: &str = "
 # a NAS-PDU of 2,048 octets: 8800; with their length 2,050: 8802; all IEs with the octets before them 2,070: 8816
-000b408816000003000000020001000800020001001a0088028800 2048 : 2075 alike
+000b408816000003000000020001000800020001001a0088028800 2048 ab : 2075 alike
 # one of 2,049, whose length stands in octet 25; and of as many none, whose length stands in octet 23
-000b408817000003000000020001000800020001001a0088038801 2049 : 6 TooLong at 25
-000b4015000003000000020001000800020001001a00028801 0 : 6 TooLong at 23
+000b408817000003000000020001000800020001001a0088038801 2049 ab : 6 TooLong at 25
+000b4015000003000000020001000800020001001a00028801 0 ab : 6 TooLong at 23
 # a radio capability of 2,049 octets, 8801; with their length 2,051: 8803; all IEs with the octets before them 2,071: 8817
-0016408817000003000000020001000800020001004a4088038801 2049 : 2076 alike, capability 1 1 of 2049
+0016408817000003000000020001000800020001004a4088038801 2049 ab : 2076 alike, capability 1 1 of 2049
 # one of 16,354 octets, bfe2; 16,356: bfe4; 16,376: bff8
-001640bff8000003000000020001000800020001004a40bfe4bfe2 16354 : 16381 alike, capability 1 1 of 16354
+001640bff8000003000000020001000800020001004a40bfe4bfe2 16354 ab : 16381 alike, capability 1 1 of 16354
 # one of 16,000, the longest that goes the short way, be80; 16,002: be82; 16,022: be96; and of 16,001, which goes piece by piece
-001640be96000003000000020001000800020001004a40be82be80 16000 : 16027 alike, capability 1 1 of 16000
-001640be97000003000000020001000800020001004a40be83be81 16001 : 16028 alike, capability 1 1 of 16001
+001640be96000003000000020001000800020001004a40be82be80 16000 ab : 16027 alike, capability 1 1 of 16000
+001640be97000003000000020001000800020001004a40be83be81 16001 ab : 16028 alike, capability 1 1 of 16001
 # the NAS-PDU of an E-RAB that is to be set up, 2,048 octets, 8800; the item's 14 octets before it make 2,064: 8810; the list of one item,
 # with the count and the item's id, criticality and length, 2,070: 8816; all IEs 2,149: 8865
-00090088650000060000000200010008000200010042000a183b9aca00603b9aca000018008816000034008810450009200f80c0a80001000000018800 2048 006b000518000c0000004900201111111111111111111111111111111111111111111111111111111111111111: 2154 alike
+00090088650000060000000200010008000200010042000a183b9aca00603b9aca000018008816000034008810450009200f80c0a80001000000018800 2048 ab 006b000518000c0000004900201111111111111111111111111111111111111111111111111111111111111111: 2154 alike
+# a paging to 256 tracking areas, each an item of ten octets, so ff: with the count 2,561, 8a01; with what is before the list 2,566, and
+# all IEs with that 2,590, 8a1e
+000a408a1e000004005040020040002b4006001000000001006d400100002e408a01ff 256 002f40060002f8390001 : 2595 alike
+# to 255 as if they were 256: 2,551, 89f7; 2,580, 8a14. The item that is lacking would stand behind all 2,585 octets
+000a408a14000004005040020040002b4006001000000001006d400100002e4089f7ff 255 002f40060002f8390001 : 1 Truncated at 2585
 ";
-
-/// Puts so many octets ab behind the octets.
-fn push_many(octets: &mut Vec<u8>, number: usize) -> Result<(), OutOfMemory> {
-    for _ in 0..number {
-        octets.push(0xab)?;
-    }
-    Ok(())
-}
 
 /// Puts the octets of the digits behind the octets.
 fn push_digits(alloc: Global, octets: &mut Vec<u8>, digits: &str) -> Result<(), Fail> {
@@ -43,9 +40,12 @@ fn push_digits(alloc: Global, octets: &mut Vec<u8>, digits: &str) -> Result<(), 
 /// Puts the octets of a case behind the octets.
 fn push_case(alloc: Global, octets: &mut Vec<u8>, case: &str) -> Result<(), Fail> {
     let (digits, rest) = case.split_once(' ').ok_or("no number")?;
-    let (number, behind) = rest.split_once(' ').ok_or("no digits")?;
+    let (number, rest) = rest.split_once(' ').ok_or("nothing more")?;
+    let (each, behind) = rest.split_once(' ').ok_or("nothing behind")?;
     push_digits(alloc, octets, digits)?;
-    push_many(octets, number.parse()?)?;
+    for _ in 0..number.parse::<usize>()? {
+        push_digits(alloc, octets, each)?;
+    }
     push_digits(alloc, octets, behind)
 }
 
@@ -93,7 +93,7 @@ fn tell_message(
 }
 
 /// Writes what is told of the octets.
-pub(crate) fn tell(alloc: Global, text: &mut String, octets: &[u8]) -> Result<(), OutOfMemory> {
+fn tell(alloc: Global, text: &mut String, octets: &[u8]) -> Result<(), OutOfMemory> {
     match read_pdu(alloc, octets) {
         Ok(pdu) => tell_message(alloc, text, octets, &pdu),
         Err(Bad::Refused(refusal)) => write!(text, "{refusal}"),
@@ -115,22 +115,8 @@ fn tell_case(alloc: Global, text: &mut String, line: &str) -> Result<(), Fail> {
     Ok(tell(alloc, text, &octets_of(alloc, case)?)?)
 }
 
-/// Writes a line again, with what is told of it where it is a case.
-fn tell_line(alloc: Global, text: &mut String, line: &str) -> Result<(), Fail> {
-    if digits_of(line).is_some() {
-        tell_case(alloc, text, line)?;
-    } else {
-        text.push_str(line)?;
-    }
-    Ok(text.push('\n')?)
-}
-
 #[test]
 fn long_fields(rt: HostRuntime) -> Result<(), Fail> {
-    let mut text = String::new(rt.alloc());
-    for line in MESSAGES.lines() {
-        tell_line(rt.alloc(), &mut text, line)?;
-    }
-    assert_eq!(rt; text.as_str(), MESSAGES);
+    assert_eq!(rt; told(rt.alloc(), MESSAGES, tell_case)?.as_str(), MESSAGES);
     Ok(())
 }

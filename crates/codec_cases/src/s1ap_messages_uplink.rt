@@ -1,6 +1,6 @@
 //! Which messages an MME receives.
 
-use crate::tables::told;
+use crate::tables::{octets_of, told};
 use echo_base::{Bad, OutOfMemory};
 use s1ap_messages::{Pdu, read_uplink};
 use std::alloc::Global;
@@ -21,14 +21,15 @@ fn tell_received(alloc: Global, text: &mut String, octets: &[u8]) -> Result<(), 
     }
 }
 
-/// Writes what is told of the octets.
-fn tell(alloc: Global, text: &mut String, octets: &[u8]) -> Result<(), Fail> {
-    Ok(tell_received(alloc, text, octets)?)
+/// Writes a case again, with what an MME receives.
+fn tell_case(alloc: Global, text: &mut String, case: &str) -> Result<(), Fail> {
+    let octets = octets_of(alloc, text, case)?;
+    Ok(tell_received(alloc, text, &octets)?)
 }
 
 #[test]
 fn received(rt: HostRuntime) -> Result<(), Fail> {
-    assert_eq!(rt; told(rt.alloc(), MESSAGES, tell)?.as_str(), MESSAGES);
+    assert_eq!(rt; told(rt.alloc(), MESSAGES, tell_case)?.as_str(), MESSAGES);
     Ok(())
 }
 

@@ -2,7 +2,7 @@
 
 ghost use Rattle.s1ap_pdu.specs.Run.{IsRight};
 
-use crate::tables::digits_of;
+use crate::tables::{octets_of, told};
 use s1ap_messages::{Pdu, read_pdu, read_pieces, read_usual, write_pieces, write_usual};
 use std::alloc::Global;
 use std::test::Fail;
@@ -51,13 +51,13 @@ fn tell_message(alloc: Global, text: &mut String, octets: &[u8], pdu: &Pdu) -> R
     requires { IsRight pdu.now }
 {
     if is_read_usually(alloc, octets, pdu)? {
-        text.push_str(" read")?;
+        text.push_str("read ")?;
     }
     if is_written_usually(alloc, octets, pdu)? {
-        text.push_str(" written")?;
+        text.push_str("written ")?;
     }
     if is_read_in_pieces(alloc, octets, pdu)? && is_written_in_pieces(alloc, octets, pdu)? {
-        text.push_str(" alike")?;
+        text.push_str("alike")?;
     }
     Ok(())
 }
@@ -68,22 +68,15 @@ fn tell(alloc: Global, text: &mut String, octets: &[u8]) -> Result<(), Fail> {
     tell_message(alloc, text, octets, &pdu)
 }
 
-/// Writes a line again: the digits, and what is told of their octets.
-fn tell_line(alloc: Global, text: &mut String, line: &str) -> Result<(), Fail> {
-    if let Some(digits) = digits_of(line) {
-        text.push_str(digits)?;
-        tell(alloc, text, &hex::decode(alloc, digits)?)?;
-    }
-    Ok(text.push('\n')?)
+/// Writes a case again, with what is told of its octets.
+fn tell_case(alloc: Global, text: &mut String, case: &str) -> Result<(), Fail> {
+    let octets = octets_of(alloc, text, case)?;
+    tell(alloc, text, &octets)
 }
 
 #[test]
 fn each_kind(rt: HostRuntime) -> Result<(), Fail> {
-    let mut text = String::new(rt.alloc());
-    for line in KINDS.lines() {
-        tell_line(rt.alloc(), &mut text, line)?;
-    }
-    assert_eq!(rt; text.as_str(), KINDS);
+    assert_eq!(rt; told(rt.alloc(), KINDS, tell_case)?.as_str(), KINDS);
     Ok(())
 }
 

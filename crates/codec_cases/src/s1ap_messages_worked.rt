@@ -4,7 +4,7 @@
 
 ghost use Rattle.s1ap_pdu.specs.Run.{IsRight};
 
-use crate::tables::told;
+use crate::tables::{octets_of, told};
 use s1ap_ies::Criticality;
 use s1ap_messages::{MessageKind, Pdu, ies_of, message_name, read_pdu, write_pdu};
 use std::alloc::Global;
@@ -46,9 +46,15 @@ pub(crate) fn tell(alloc: Global, text: &mut String, octets: &[u8]) -> Result<()
     tell_message(alloc, text, octets, &pdu)
 }
 
+/// Writes a case again, with what is told of its octets.
+fn tell_case(alloc: Global, text: &mut String, case: &str) -> Result<(), Fail> {
+    let octets = octets_of(alloc, text, case)?;
+    tell(alloc, text, &octets)
+}
+
 #[test]
 fn worked_messages(rt: HostRuntime) -> Result<(), Fail> {
-    assert_eq!(rt; told(rt.alloc(), MESSAGES, tell)?.as_str(), MESSAGES);
+    assert_eq!(rt; told(rt.alloc(), MESSAGES, tell_case)?.as_str(), MESSAGES);
     Ok(())
 }
 
@@ -65,8 +71,17 @@ fn write_table(text: &mut String, kind: MessageKind) -> Result<(), Fail> {
     Ok(text.push('\n')?)
 }
 
-/// Writes the table of each kind.
+/// Writes the number of each criticality.
+fn write_criticalities(text: &mut String) -> Result<(), Fail> {
+    let reject = Criticality::Reject.number();
+    let ignore = Criticality::Ignore.number();
+    let notify = Criticality::Notify.number();
+    Ok(write!(text, "reject {reject}, ignore {ignore}, notify {notify}\n")?)
+}
+
+/// Writes the number of each criticality, and the table of each kind.
 fn write_tables(text: &mut String) -> Result<(), Fail> {
+    write_criticalities(text)?;
     for kind in KINDS {
         write_table(text, kind)?;
     }
@@ -79,16 +94,6 @@ fn has_the_elements_of_the_standard(rt: HostRuntime) -> Result<(), Fail> {
     write_tables(&mut text)?;
     assert_eq!(rt; text.as_str(), LINES);
     Ok(())
-}
-
-#[test]
-fn criticalities_have_their_numbers(rt: HostRuntime) {
-    let numbers = (
-        Criticality::Reject.number(),
-        Criticality::Ignore.number(),
-        Criticality::Notify.number(),
-    );
-    assert_eq!(rt; numbers, (0, 1, 2));
 }
 
 const KINDS: [MessageKind; 11] = [
@@ -106,6 +111,7 @@ const KINDS: [MessageKind; 11] = [
 ];
 
 const LINES: &str = "\
+reject 0, ignore 1, notify 2
 InitialUeMessage InitialUEMessage 8:0 26:0 67:0 100:1 134:1 96:0?
 UplinkNasTransport UplinkNASTransport 0:0 8:0 26:0 100:1 67:1
 DownlinkNasTransport DownlinkNASTransport 0:0 8:0 26:0
@@ -232,4 +238,25 @@ const MESSAGES: &str = "
 000900680000060000000200010008000200010042000a183b9aca00603b9aca000018001a0000340015250009200f80c0a8000100000001000000074001aa006b000518000c0000004900201111111111111111111111111111111111111111111111111111111111111111 000900610000060000000200010008000200010042000a183b9aca00603b9aca0000180013000034000e050009200f80c0a8000100000001006b000518000c0000004900201111111111111111111111111111111111111111111111111111111111111111 InitialContextSetupRequest { mme: 1, enb: 1, rates: BitRates { dl: 1000000000, ul: 1000000000 }, bearers: ListOf { items: [ErabToSetup { id: 5, qci: 9, arp: 32, address: 3232235521, teid: 1, nas: None }] }, caps: SecCaps { eea: 49152, eia: 49152 }, key: ListOf { items: [17, 17, 17, 17, 17, 17, 17, 17, 17, 17, 17, 17, 17, 17, 17, 17, 17, 17, 17, 17, 17, 17, 17, 17, 17, 17, 17, 17, 17, 17, 17, 17] } }
 # in all three
 000900770000060000000200010008000200010042000a183b9aca00603b9aca0000180029000034002425200960000000074001aa000000080001bb0f80c0a8000100000001000000098002ccdd006b000518000c0000004900201111111111111111111111111111111111111111111111111111111111111111 000900610000060000000200010008000200010042000a183b9aca00603b9aca0000180013000034000e050009200f80c0a8000100000001006b000518000c0000004900201111111111111111111111111111111111111111111111111111111111111111 InitialContextSetupRequest { mme: 1, enb: 1, rates: BitRates { dl: 1000000000, ul: 1000000000 }, bearers: ListOf { items: [ErabToSetup { id: 5, qci: 9, arp: 32, address: 3232235521, teid: 1, nas: None }] }, caps: SecCaps { eea: 49152, eia: 49152 }, key: ListOf { items: [17, 17, 17, 17, 17, 17, 17, 17, 17, 17, 17, 17, 17, 17, 17, 17, 17, 17, 17, 17, 17, 17, 17, 17, 17, 17, 17, 17, 17, 17, 17, 17] } }
+
+# ---- pagings: 000a40 the header, 27 the length, 00 0004 the extension bit and the count of IEs; from octet 7 on the IE 80, ten bits of
+# index; from 13 on 43, a choice of the S-TMSI; from 23 on 109, a bit; and from 28 on 46, a list of one item with a TAI
+# index 0000000001 p(6) is 0040; the S-TMSI: choice e 0, e o 00000001 p(4) is 0010; ps is 0; a list of one, so 00; its item e o, and e o of the TAI
+000a4027000004005040020040002b4006001000000001006d400100002e400b00002f40060002f8390001 = Paging { index: 1, id: Stmsi { mmec: 1, tmsi: 1 }, cs: false, tais: ListOf { items: [Tai { plmn: 194617, tac: 1 }] } }
+# index 1023 is ffc0; the MME code 2, 00 00 00000010 p(4), is 0020; cs is 1; a list of two, so 01
+000a403100000400504002ffc0002b4006002000000009006d400180002e401501002f40060002f8390001002f40060000f1100102 = Paging { index: 1023, id: Stmsi { mmec: 2, tmsi: 9 }, cs: true, tais: ListOf { items: [Tai { plmn: 194617, tac: 1 }, Tai { plmn: 61712, tac: 258 }] } }
+# the IEs the other way round
+000a4027000004002e400b00002f40060002f8390001006d400100002b4006001000000001005040020040 000a4027000004005040020040002b4006001000000001006d400100002e400b00002f40060002f8390001 Paging { index: 1, id: Stmsi { mmec: 1, tmsi: 1 }, cs: false, tais: ListOf { items: [Tai { plmn: 194617, tac: 1 }] } }
+# with iE-Extensions in its item, 01 00, and in its TAI, 00 01: one entry with the id 7, to be ignored, of one octet
+000a402e000004005040020040002b4006001000000001006d400100002e401200002f400d4002f8390001000000074001aa 000a4027000004005040020040002b4006001000000001006d400100002e400b00002f40060002f8390001 Paging { index: 1, id: Stmsi { mmec: 1, tmsi: 1 }, cs: false, tais: ListOf { items: [Tai { plmn: 194617, tac: 1 }] } }
+000a402e000004005040020040002b4006001000000001006d400100002e401200002f400d1002f8390001000000074001aa 000a4027000004005040020040002b4006001000000001006d400100002e400b00002f40060002f8390001 Paging { index: 1, id: Stmsi { mmec: 1, tmsi: 1 }, cs: false, tais: ListOf { items: [Tai { plmn: 194617, tac: 1 }] } }
+# with iE-Extensions in its S-TMSI, e o 00000001 with o = 1, so 0001 0000 0001 0000
+000a402e000004005040020040002b400d101000000001000000074001aa006d400100002e400b00002f40060002f8390001 000a4027000004005040020040002b4006001000000001006d400100002e400b00002f40060002f8390001 Paging { index: 1, id: Stmsi { mmec: 1, tmsi: 1 }, cs: false, tais: ListOf { items: [Tai { plmn: 194617, tac: 1 }] } }
+# with other criticalities: its own, those of the IEs 80, 43, 109 and 46, and that of the item
+000a0027000004005040020040002b4006001000000001006d400100002e400b00002f40060002f8390001 000a4027000004005040020040002b4006001000000001006d400100002e400b00002f40060002f8390001 Paging { index: 1, id: Stmsi { mmec: 1, tmsi: 1 }, cs: false, tais: ListOf { items: [Tai { plmn: 194617, tac: 1 }] } }
+000a4027000004005000020040002b8006001000000001006d000100002e800b00002f40060002f8390001 000a4027000004005040020040002b4006001000000001006d400100002e400b00002f40060002f8390001 Paging { index: 1, id: Stmsi { mmec: 1, tmsi: 1 }, cs: false, tais: ListOf { items: [Tai { plmn: 194617, tac: 1 }] } }
+000a4027000004005040020040002b4006001000000001006d400100002e400b00002f00060002f8390001 000a4027000004005040020040002b4006001000000001006d400100002e400b00002f40060002f8390001 Paging { index: 1, id: Stmsi { mmec: 1, tmsi: 1 }, cs: false, tais: ListOf { items: [Tai { plmn: 194617, tac: 1 }] } }
+000a4027000004005040020040002b4006001000000001006d400100002e400b00002f80060002f8390001 000a4027000004005040020040002b4006001000000001006d400100002e400b00002f40060002f8390001 Paging { index: 1, id: Stmsi { mmec: 1, tmsi: 1 }, cs: false, tais: ListOf { items: [Tai { plmn: 194617, tac: 1 }] } }
+# with the IE 75, which is passed over
+000a402f000005005040020040002b4006001000000001004b000400000000006d400100002e400b00002f40060002f8390001 000a4027000004005040020040002b4006001000000001006d400100002e400b00002f40060002f8390001 Paging { index: 1, id: Stmsi { mmec: 1, tmsi: 1 }, cs: false, tais: ListOf { items: [Tai { plmn: 194617, tac: 1 }] } }
 ";

@@ -4,29 +4,13 @@
 use std::alloc::Global;
 use std::test::Fail;
 
-/// The digits of a case, unless the line is a comment.
-pub(crate) fn digits_of(line: &str) -> Option<&str> {
-    if line.is_empty() || line.starts_with('#') {
-        return None;
-    }
-    line.split(' ').next()
+/// Is the line a case, and no comment?
+pub(crate) fn is_case(line: &str) -> bool {
+    !line.is_empty() && !line.starts_with('#')
 }
 
-/// Writes the digits of a case, and what `tell` writes of their octets. It fails where they are no octets.
-fn tell_digits<F: Fn(Global, &mut String, &[u8]) -> Result<(), Fail>>(
-    alloc: Global,
-    text: &mut String,
-    digits: &str,
-    tell: &F,
-) -> Result<(), Fail>
-    requires { F.IsAlwaysCallable tell.now }
-{
-    write!(text, "{digits} ")?;
-    tell(alloc, text, &hex::decode(alloc, digits)?)
-}
-
-/// Writes a line of a table again, with what `tell` writes of its octets. It fails where a case has none in hexadecimal digits.
-fn tell_line<F: Fn(Global, &mut String, &[u8]) -> Result<(), Fail>>(
+/// Writes a line of a table again: a comment as it is, and of a case what `tell` writes.
+fn tell_line<F: Fn(Global, &mut String, &str) -> Result<(), Fail>>(
     alloc: Global,
     text: &mut String,
     line: &str,
@@ -34,15 +18,16 @@ fn tell_line<F: Fn(Global, &mut String, &[u8]) -> Result<(), Fail>>(
 ) -> Result<(), Fail>
     requires { F.IsAlwaysCallable tell.now }
 {
-    match digits_of(line) {
-        Some(digits) => tell_digits(alloc, text, digits, tell)?,
-        None => text.push_str(line)?,
+    if is_case(line) {
+        tell(alloc, text, line)?;
+    } else {
+        text.push_str(line)?;
     }
     Ok(text.push('\n')?)
 }
 
-/// The table again, with what `tell` writes of the octets of each case.
-pub(crate) fn told<F: Fn(Global, &mut String, &[u8]) -> Result<(), Fail>>(
+/// The table again, with what `tell` writes of each case.
+pub(crate) fn told<F: Fn(Global, &mut String, &str) -> Result<(), Fail>>(
     alloc: Global,
     table: &str,
     tell: F,
@@ -54,4 +39,11 @@ pub(crate) fn told<F: Fn(Global, &mut String, &[u8]) -> Result<(), Fail>>(
         tell_line(alloc, &mut text, line, &tell)?;
     }
     Ok(text)
+}
+
+/// Writes the digits of a case again, and gives their octets. It fails where they are no octets.
+pub(crate) fn octets_of(alloc: Global, text: &mut String, case: &str) -> Result<Vec<u8>, Fail> {
+    let (digits, _) = case.split_once(' ').ok_or("nothing told")?;
+    write!(text, "{digits} ")?;
+    Ok(hex::decode(alloc, digits)?)
 }
