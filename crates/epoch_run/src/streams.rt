@@ -63,12 +63,13 @@ fn onward_messages(
     let mut messages = Messages::new(alloc);
     put_message(&mut messages, first)?;
     for message in others {
-        if !is_notice(message) {
-            if begins(message) {
-                return Ok(messages);
-            }
-            put_message(&mut messages, message)?;
+        if is_notice(message) {
+            continue;
         }
+        if begins(message) {
+            return Ok(messages);
+        }
+        put_message(&mut messages, message)?;
     }
     Ok(messages)
 }
