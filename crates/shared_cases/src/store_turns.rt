@@ -5,9 +5,9 @@ ghost use Rattle.store_shared.specs.FrontRow.{AreSeatsOf};
 ghost use Rattle.store_shared.specs.StoreBases.{store_basis};
 
 use crate::any_law::{AnyLaw, any_law, first_entry};
-use device_types::{DeviceId, Lane};
+use device_types::{DeviceId, Effect, Lane};
 use session_row::Commit;
-use session_store::Asked;
+use session_store::{Asked, Peeked, Seen};
 use std::alloc::{AllocError, Global};
 use std::sync::Wait;
 use std::test::Fail;
@@ -42,13 +42,44 @@ shard 2: seat 0 on 18 Old(0)
 /// made.
 const THREADS: &str = "8 2;8 2;8 2;8 2;8 2;8 2;8 2;8 2;8 2;8 2;8 2;8 2;8 2;8 2;8 2;8 2;";
 
-/// Makes a call of the seat on a device, and tells what comes: of an input its message 1, of an effect its first down.
-fn call<R: Wait>(
+/// Tells what was seen of a row, which is let go.
+fn tell_seen(seat: u32, d: DeviceId, seen: Seen, told: &mut String) -> Result<(), AllocError> {
+    writeln!(
+        told,
+        "seat {seat} read {}: {} {:?}",
+        d.0, seen.version, seen.look
+    )
+}
+
+/// The same without the session.
+fn tell_peeked(
+    seat: u32,
+    d: DeviceId,
+    peeked: Peeked,
+    told: &mut String,
+) -> Result<(), AllocError> {
+    writeln!(
+        told,
+        "seat {seat} peek {}: {} {:?}",
+        d.0, peeked.version, peeked.look
+    )
+}
+
+/// Tells whether there was an effect, which is let go.
+fn tell_effect(
+    seat: u32,
+    d: DeviceId,
+    effect: Option<Effect>,
+    told: &mut String,
+) -> Result<(), AllocError> {
+    writeln!(told, "seat {seat} push {}: {}", d.0, effect.is_some())
+}
+
+/// Reads the row of a device, about its message 1.
+fn read<R: Wait>(
     rt: &R,
-    alloc: Global,
     store: &SharedStore<AnyLaw>,
     seat: &mut StoreSeat<AnyLaw>,
-    what: &str,
     d: DeviceId,
     told: &mut String,
 ) -> Result<(), AllocError>
@@ -56,31 +87,89 @@ fn call<R: Wait>(
     requires device { IsDevice store.now.devices d.0 }
     ensures { AreSeatsOf store_basis store.now.fronts.fronts.items seat.new.seats.items }
 {
-    write!(told, "seat {} {what} {}: ", seat.number(), d.0)?;
-    match what {
-        "read" => {
-            let seen = store.read(rt, seat, d, Asked::Message(1))?;
-            writeln!(told, "{} {:?}", seen.version, seen.look)
-        }
-        "peek" => {
-            let peeked = store.peek(rt, seat, d, Asked::Message(1))?;
-            writeln!(told, "{} {:?}", peeked.version, peeked.look)
-        }
-        "write" => {
-            let Ok(commit) = store.commit(rt, seat, d, 0, first_entry(alloc)?) else {
-                return Err(AllocError);
-            };
-            writeln!(told, "{commit:?}")
-        }
-        "push" => {
-            let effect = store.push(rt, seat, d, Lane::Down, 1)?;
-            writeln!(told, "{}", effect.is_some())
-        }
-        _ => {
-            let settled = store.settle(rt, seat, d, Lane::Down, 0)?;
-            writeln!(told, "{settled:?}")
-        }
-    }
+    let seen = store.read(rt, seat, d, Asked::Message(1))?;
+    tell_seen(seat.number(), d, seen, told)
+}
+
+/// Peeks at it.
+fn peek<R: Wait>(
+    rt: &R,
+    store: &SharedStore<AnyLaw>,
+    seat: &mut StoreSeat<AnyLaw>,
+    d: DeviceId,
+    told: &mut String,
+) -> Result<(), AllocError>
+    requires seat { AreSeatsOf store_basis store.now.fronts.fronts.items seat.old.seats.items }
+    requires device { IsDevice store.now.devices d.0 }
+    ensures { AreSeatsOf store_basis store.now.fronts.fronts.items seat.new.seats.items }
+{
+    let peeked = store.peek(rt, seat, d, Asked::Message(1))?;
+    tell_peeked(seat.number(), d, peeked, told)
+}
+
+/// Writes version 0 of a device. `None` where memory runs out.
+fn commit_first<R: Wait>(
+    rt: &R,
+    alloc: Global,
+    store: &SharedStore<AnyLaw>,
+    seat: &mut StoreSeat<AnyLaw>,
+    d: DeviceId,
+) -> Option<Commit>
+    requires seat { AreSeatsOf store_basis store.now.fronts.fronts.items seat.old.seats.items }
+    requires device { IsDevice store.now.devices d.0 }
+    ensures { AreSeatsOf store_basis store.now.fronts.fronts.items seat.new.seats.items }
+{
+    let entry = first_entry(alloc).ok()?;
+    store.commit(rt, seat, d, 0, entry).ok()
+}
+
+/// The same, told.
+fn write<R: Wait>(
+    rt: &R,
+    alloc: Global,
+    store: &SharedStore<AnyLaw>,
+    seat: &mut StoreSeat<AnyLaw>,
+    d: DeviceId,
+    told: &mut String,
+) -> Result<(), AllocError>
+    requires seat { AreSeatsOf store_basis store.now.fronts.fronts.items seat.old.seats.items }
+    requires device { IsDevice store.now.devices d.0 }
+    ensures { AreSeatsOf store_basis store.now.fronts.fronts.items seat.new.seats.items }
+{
+    let commit = commit_first(rt, alloc, store, seat, d).ok_or(AllocError)?;
+    writeln!(told, "seat {} write {}: {commit:?}", seat.number(), d.0)
+}
+
+/// Asks for the first down of a device.
+fn push<R: Wait>(
+    rt: &R,
+    store: &SharedStore<AnyLaw>,
+    seat: &mut StoreSeat<AnyLaw>,
+    d: DeviceId,
+    told: &mut String,
+) -> Result<(), AllocError>
+    requires seat { AreSeatsOf store_basis store.now.fronts.fronts.items seat.old.seats.items }
+    requires device { IsDevice store.now.devices d.0 }
+    ensures { AreSeatsOf store_basis store.now.fronts.fronts.items seat.new.seats.items }
+{
+    let effect = store.push(rt, seat, d, Lane::Down, 1)?;
+    tell_effect(seat.number(), d, effect, told)
+}
+
+/// Settles none of its downs.
+fn settle<R: Wait>(
+    rt: &R,
+    store: &SharedStore<AnyLaw>,
+    seat: &mut StoreSeat<AnyLaw>,
+    d: DeviceId,
+    told: &mut String,
+) -> Result<(), AllocError>
+    requires seat { AreSeatsOf store_basis store.now.fronts.fronts.items seat.old.seats.items }
+    requires device { IsDevice store.now.devices d.0 }
+    ensures { AreSeatsOf store_basis store.now.fronts.fronts.items seat.new.seats.items }
+{
+    let settled = store.settle(rt, seat, d, Lane::Down, 0)?;
+    writeln!(told, "seat {} settle {}: {settled:?}", seat.number(), d.0)
 }
 
 /// The two seats of a store, in the order of their numbers. `None` where there are fewer.
@@ -138,7 +227,50 @@ fn tell_turns(shards: &[StoreShard<AnyLaw>], told: &mut String) -> Result<(), Al
     Ok(())
 }
 
-/// Both seats read version 0 of device 1, and write it; then each call at shard 2, where devices 2 and 18 lie.
+/// Both seats read version 0 of device 1, and write it.
+fn call_at_one<R: Wait>(
+    rt: &R,
+    alloc: Global,
+    store: &SharedStore<AnyLaw>,
+    first: &mut StoreSeat<AnyLaw>,
+    second: &mut StoreSeat<AnyLaw>,
+    told: &mut String,
+) -> Result<(), AllocError>
+    requires devices { store.now.devices ≡ 32 }
+    requires first { AreSeatsOf store_basis store.now.fronts.fronts.items first.old.seats.items }
+    requires second { AreSeatsOf store_basis store.now.fronts.fronts.items second.old.seats.items }
+    ensures first { AreSeatsOf store_basis store.now.fronts.fronts.items first.new.seats.items }
+    ensures second { AreSeatsOf store_basis store.now.fronts.fronts.items second.new.seats.items }
+{
+    read(rt, store, first, DeviceId(1), told)?;
+    read(rt, store, second, DeviceId(1), told)?;
+    write(rt, alloc, store, second, DeviceId(1), told)?;
+    write(rt, alloc, store, first, DeviceId(1), told)
+}
+
+/// Each call at shard 2, where devices 2 and 18 lie.
+fn call_at_two<R: Wait>(
+    rt: &R,
+    alloc: Global,
+    store: &SharedStore<AnyLaw>,
+    first: &mut StoreSeat<AnyLaw>,
+    second: &mut StoreSeat<AnyLaw>,
+    told: &mut String,
+) -> Result<(), AllocError>
+    requires devices { store.now.devices ≡ 32 }
+    requires first { AreSeatsOf store_basis store.now.fronts.fronts.items first.old.seats.items }
+    requires second { AreSeatsOf store_basis store.now.fronts.fronts.items second.old.seats.items }
+    ensures first { AreSeatsOf store_basis store.now.fronts.fronts.items first.new.seats.items }
+    ensures second { AreSeatsOf store_basis store.now.fronts.fronts.items second.new.seats.items }
+{
+    write(rt, alloc, store, first, DeviceId(18), told)?;
+    peek(rt, store, first, DeviceId(18), told)?;
+    peek(rt, store, second, DeviceId(2), told)?;
+    push(rt, store, first, DeviceId(18), told)?;
+    settle(rt, store, first, DeviceId(18), told)
+}
+
+/// The calls at both shards.
 fn call_all<R: Wait>(
     rt: &R,
     alloc: Global,
@@ -153,15 +285,8 @@ fn call_all<R: Wait>(
     ensures first { AreSeatsOf store_basis store.now.fronts.fronts.items first.new.seats.items }
     ensures second { AreSeatsOf store_basis store.now.fronts.fronts.items second.new.seats.items }
 {
-    call(rt, alloc, store, first, "read", DeviceId(1), told)?;
-    call(rt, alloc, store, second, "read", DeviceId(1), told)?;
-    call(rt, alloc, store, second, "write", DeviceId(1), told)?;
-    call(rt, alloc, store, first, "write", DeviceId(1), told)?;
-    call(rt, alloc, store, first, "write", DeviceId(18), told)?;
-    call(rt, alloc, store, first, "peek", DeviceId(18), told)?;
-    call(rt, alloc, store, second, "peek", DeviceId(2), told)?;
-    call(rt, alloc, store, first, "push", DeviceId(18), told)?;
-    call(rt, alloc, store, first, "settle", DeviceId(18), told)
+    call_at_one(rt, alloc, store, first, second, told)?;
+    call_at_two(rt, alloc, store, first, second, told)
 }
 
 /// The shards of a store behind these calls. `None` where memory runs out.
@@ -209,8 +334,7 @@ fn work_on<R: Wait>(
     requires device { IsDevice store.now.devices d.0 }
     ensures { AreSeatsOf store_basis store.now.fronts.fronts.items seat.new.seats.items }
 {
-    let entry = first_entry(alloc).ok()?;
-    store.commit(rt, seat, d, 0, entry).ok()?;
+    commit_first(rt, alloc, store, seat, d)?;
     store.peek(rt, seat, d, Asked::Message(1)).ok()?;
     Some(())
 }
