@@ -2,7 +2,7 @@
 //! that is awaited only then; and what a hand loses.
 ghost use Rattle.std.specs.Prelude.{◌≡◌, length, All, IfOk};
 ghost use Rattle.device_types.specs.Line.{IsLine};
-ghost use Rattle.device_types.specs.Message.{IsBody, IsMessage};
+ghost use Rattle.device_types.specs.Message.{IsBody, IsFrom, IsMessage};
 ghost use Rattle.link_schedule.specs.World.{IsShort};
 
 use crate::events::{case_text, happen_all, put_wanted};
@@ -123,7 +123,8 @@ write 2 = VoidHand
 ";
 
 fn message(number: u64, body: Body) -> Message
-    requires { IsBody body }
+    requires from { IsFrom body 2 3 }
+    requires body { IsBody body }
     ensures number { result.number ≡ number }
     ensures message { IsMessage result }
 {
@@ -136,7 +137,8 @@ fn message(number: u64, body: Body) -> Message
 }
 
 fn attach() -> Body
-    ensures { IsBody result }
+    ensures from { IsFrom result 2 3 }
+    ensures body { IsBody result }
 {
     Body::Attach {
         plmn: 0x02f839,

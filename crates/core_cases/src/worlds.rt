@@ -1,7 +1,7 @@
 //! Schedules over the worlds of two devices, with what each event comes to, by hand.
 ghost use Rattle.std.specs.Prelude.{◌≡◌, length, All, IfOk};
 ghost use Rattle.device_types.specs.Line.{IsLine};
-ghost use Rattle.device_types.specs.Message.{IsBody, IsMessage};
+ghost use Rattle.device_types.specs.Message.{IsBody, IsFrom, IsMessage};
 ghost use Rattle.link_schedule.specs.Floor.{IsOpen};
 ghost use Rattle.link_schedule.specs.World.{IsShort};
 
@@ -283,7 +283,8 @@ effect 1 down 1 = VoidLink
 ";
 
 fn message(number: u64, body: Body) -> Message
-    requires { IsBody body }
+    requires from { IsFrom body 1 1 }
+    requires body { IsBody body }
     ensures number { result.number ≡ number }
     ensures message { IsMessage result }
 {
@@ -296,7 +297,8 @@ fn message(number: u64, body: Body) -> Message
 }
 
 fn attach() -> Body
-    ensures { IsBody result }
+    ensures from { IsFrom result 1 1 }
+    ensures body { IsBody result }
 {
     Body::Attach {
         plmn: 0x02f839,
@@ -309,7 +311,8 @@ fn attach() -> Body
 
 /// The right response to the challenge.
 fn response(alloc: Global) -> Result<Body, AllocError>
-    ensures { IfOk result IsBody }
+    ensures from { IfOk result (λ body. IsFrom body 1 1) }
+    ensures body { IfOk result IsBody }
 {
     let res = [0xa0, 0xa1, 0xa2, 0xa3, 0xa4, 0xa5, 0xa6, 0xa7];
     Ok(Body::Response {
