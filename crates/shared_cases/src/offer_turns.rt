@@ -5,7 +5,7 @@ ghost use Rattle.device_machine.specs.Ends.{end_of};
 ghost use Rattle.device_types.specs.Alone.{alone_of};
 ghost use Rattle.device_types.specs.Journal.{effects_of};
 ghost use Rattle.device_types.specs.Line.{IsLine};
-ghost use Rattle.device_types.specs.Message.{IsBody, IsMessage};
+ghost use Rattle.device_types.specs.Message.{IsBody, IsFrom, IsMessage};
 ghost use Rattle.device_types.specs.Subscriber.{IsSubscriber};
 ghost use Rattle.session_store.specs.Charter.{IsShort};
 ghost use Rattle.store_shared.specs.FrontRow.{AreSeatsOf};
@@ -43,8 +43,10 @@ shard 1: seat 0 accepted Located(1000000000, 2000000000)
 shard 1: seat 1 accepted Created(3232235521, 1, 170721281)
 ";
 
+/// A message that comes from a base station.
 fn message(number: u64, body: Body) -> Message
-    requires { IsBody body }
+    requires from { IsFrom body 1 7 }
+    requires body { IsBody body }
     ensures number { result.number ≡ number }
     ensures message { IsMessage result }
 {
@@ -57,7 +59,8 @@ fn message(number: u64, body: Body) -> Message
 }
 
 fn attach() -> Body
-    ensures { IsBody result }
+    ensures from { IsFrom result 1 7 }
+    ensures body { IsBody result }
 {
     Body::Attach {
         plmn: 31,
@@ -70,7 +73,8 @@ fn attach() -> Body
 
 /// The right response to the challenge.
 fn response(alloc: Global) -> Result<Body, AllocError>
-    ensures { IfOk result IsBody }
+    ensures from { IfOk result (λ body. IsFrom body 1 7) }
+    ensures body { IfOk result IsBody }
 {
     let res = [0xa0, 0xa1, 0xa2, 0xa3];
     Ok(Body::Response {
