@@ -1,9 +1,9 @@
 -- What is written for a message, octet by octet.
-use Rattle.std.proofs.Common.{◌≡◌, ℕ, zero, suc, ◌+◌, ◌-◌, ◌*◌, ◌<◌, Bool, eqb, ◌&&◌, List, [], ◌∷◌, ◌++◌, length, get_or, take, drop, Option, Some, None, IfSome, is_some, unwrap_or, option_map, Ok, refl, sym, ap, ◌∙◌, subst, inl, inr, append_assoc, arith}
+use Rattle.std.proofs.Common.{◌≡◌, ℕ, zero, suc, ◌+◌, ◌-◌, ◌*◌, ◌<◌, Bool, eqb, ◌&&◌, List, [], ◌∷◌, ◌++◌, length, get_or, take, drop, Option, Some, None, IfSome, is_some, unwrap_or, option_map, cond, Ok, refl, sym, ap, ◌∙◌, subst, inl, inr, append_assoc, arith}
 use Rattle.std.specs.List.{All, AllByRecursion}
 use Rattle.std.proofs.lemmas.Bool.{cases_Bool, eqb-true, and_parts}
-use Rattle.std.proofs.lemmas.List.{length-append}
-use Rattle.std.proofs.lemmas.List.Sums.{count_by-le-length}
+use Rattle.std.proofs.lemmas.List.{length-append, take_at}
+use Rattle.std.proofs.lemmas.List.Sums.{count_by-le-length, sum_by-cons}
 use Rattle.aper_fields.specs.Bits.{bits, bits_of, zeros, gap, filled}
 use Rattle.aper_fields.specs.Run.{fixed_bits_run, number_run}
 use Rattle.aper_fields.specs.Spelling.{IsOctets}
@@ -24,7 +24,7 @@ use Rattle.s1ap_pdu.specs.Messages.{outcome_index, header_of, kinds, kind_of, va
 use Rattle.s1ap_pdu.specs.Grammar.{Spells, kind_among, kind_with}
 use Rattle.s1ap_pdu.specs.Built.{message_at}
 use Rattle.s1ap_pdu.specs.Run.{value_run, ie_run, fields_run, ies_run, header_run, pdu_run, written, count_of, IsShort, IsRightValue, IsRightField, IsRight, HasOctetsIn, HasOctets}
-use Rattle.s1ap_messages.specs.Usual.{counted, ie_octets, octets_of, value_octets, Given, HasForm, IsUsualValue, fields_octets, body_octets, message_octets, usual_octets, unfinished_octets, HasForms, IsPut, HasUsualValues, IsUsual, AreFieldsOf, BeginsAs}
+use Rattle.s1ap_messages.specs.Usual.{counted, ie_octets, octets_of, value_octets, Given, HasForm, IsUsualValue, fields_octets, body_octets, message_octets, usual_octets, unfinished_octets, HasForms, IsPut, HasUsualValues, IsUsual, AreFieldsOf, AreSmallIds, BeginsAs}
 use Rattle.s1ap_pdu.specs.Values.{FieldValue}
 use Rattle.s1ap_pdu.proofs.Distinct.{few_rows}
 use Rattle.s1ap_pdu.proofs.Writes.{values-length}
@@ -93,6 +93,26 @@ fields_are (row ∷ rows) (Some v ∷ values) usual h few =
     let small = id_behind row.id criticality (value_octets v) (fields_octets rows values) h in
     let behind = item_behind row.id criticality (value_octets v) (fields_octets rows values) h in
     octets_then (ie_run row (Some v)) (fields_run rows values) (ie_octets row.id criticality (value_octets v)) (fields_octets rows values) (item_is row.id criticality (value_run v 0) (value_octets v) small (value_is v usual.0) l.0) (fields_are rows values usual.1 behind.1 l.1)
+
+-- ---- tables
+
+-- the rows of a table of six places
+pub rows_taken : (all rows pad : List IeRow) (n : ℕ) → all ≡ rows ++ pad → n ≡ length rows → take n all ≡ rows
+rows_taken all rows pad n e l = ap (take n) e ∙ take_at rows pad n (sym l)
+
+-- ids are less than 256
+pub small_ids : (kind : MessageKind) → AreSmallIds (rows_of kind)
+small_ids kind.InitialUeMessage = search arith
+small_ids _ = search arith
+
+-- an IE that is absent has no octets
+pub absent_octets : (rows : List IeRow) → fields_octets rows (None ∷ []) ≡ []
+absent_octets [] = refl
+absent_octets (row ∷ rows) = refl
+
+-- a value in front of others
+pub count_more : (v : FieldValue) (values : List (Option FieldValue)) → count_of (Some v ∷ values) ≡ 1 + count_of values
+count_more v values = sum_by-cons (λ (x : Option FieldValue). cond (is_some x) 1 0) (Some v) values
 
 -- ---- the message
 

@@ -37,16 +37,6 @@ long_body (a ∷ []) n some e long = absurd (omega arith)
 long_body (a ∷ b ∷ []) n some e long = absurd (omega arith)
 long_body (a ∷ b ∷ c ∷ []) n some e long = absurd (omega arith)
 
--- so many IEs behind one another
-pub two_ies : (out front a b : List ℕ) → ((out ++ front) ++ a) ++ b ≡ out ++ (front ++ (a ++ (b ++ [])))
-two_ies out front a b = simp (append_assoc, append-nil)
-
-pub three_ies : (out front a b c : List ℕ) → (((out ++ front) ++ a) ++ b) ++ c ≡ out ++ (front ++ (a ++ (b ++ (c ++ []))))
-three_ies out front a b c = simp (append_assoc, append-nil)
-
-pub five_ies : (out front a b c d e : List ℕ) → (((((out ++ front) ++ a) ++ b) ++ c) ++ d) ++ e ≡ out ++ (front ++ (a ++ (b ++ (c ++ (d ++ (e ++ []))))))
-five_ies out front a b c d e = simp (append_assoc, append-nil)
-
 pub number_length : (before unit n : ℕ) → length (number_octets before unit n) ≡ length (least_octets n) + 1
 unfolding number_octets
 number_length before unit n = omega arith
@@ -55,12 +45,6 @@ number_length before unit n = omega arith
 pub two_put : (front head one all a b : List ℕ) (id criticality len : ℕ) → head ≡ front ++ 0 ∷ id ∷ 64 * criticality ∷ count_octets len → one ≡ head ++ a → all ≡ one ++ b → len ≡ length a + length b → all ≡ front ++ ie_octets id criticality (a ++ b)
 two_put front head one all a b id criticality len h o e l =
     ie_put front head all (a ++ b) id criticality len h (e ∙ rw o (append_assoc head a b)) (l ∙ sym (length-append a b))
-
-pub six_ies : (out front a b c d e f : List ℕ) → ((((((out ++ front) ++ a) ++ b) ++ c) ++ d) ++ e) ++ f ≡ out ++ (front ++ (a ++ (b ++ (c ++ (d ++ (e ++ (f ++ [])))))))
-six_ies out front a b c d e f = simp (append_assoc, append-nil)
-
-pub six_parts : (out front a b c d e f : List ℕ) → ((((((out ++ front) ++ a) ++ b) ++ c) ++ d) ++ e) ++ f ≡ out ++ (front ++ (a ++ (b ++ (c ++ (d ++ (e ++ f))))))
-six_parts out front a b c d e f = simp append_assoc
 
 setup_length : (erab : ErabToSetup) (more : ℕ) → more ≡ length (nas_octets erab.nas) → more + 14 ≡ length (setup_octets erab)
 unfolding setup_octets four_octets
@@ -71,11 +55,11 @@ unfolding ie_octets
 ie_length id criticality content = omega (arith, counted_length content)
 
 -- a list of one item
-pub setups_put : (out head count item all : List ℕ) (erab : ErabToSetup) (k more : ℕ) → more ≡ length (nas_octets erab.nas) → k ≡ length (count_octets (more + 14)) → head ≡ out ++ 0 ∷ 24 ∷ 0 ∷ count_octets (k + (more + 14) + 4) → count ≡ head ++ 0 ∷ [] → item ≡ count ++ 0 ∷ 52 ∷ 0 ∷ count_octets (more + 14) → all ≡ item ++ setup_octets erab → all ≡ out ++ ie_octets 24 0 (erabs_octets 52 0 setup_octets (erab ∷ []))
+pub setups_put : (out head count item all : List ℕ) (erab : ErabToSetup) (id criticality k more : ℕ) → more ≡ length (nas_octets erab.nas) → k ≡ length (count_octets (more + 14)) → head ≡ out ++ 0 ∷ id ∷ 64 * criticality ∷ count_octets (k + (more + 14) + 4) → count ≡ head ++ 0 ∷ [] → item ≡ count ++ 0 ∷ 52 ∷ 0 ∷ count_octets (more + 14) → all ≡ item ++ setup_octets erab → all ≡ out ++ ie_octets id criticality (erabs_octets 52 0 setup_octets (erab ∷ []))
 unfolding erabs_octets items_octets
-setups_put out head count item all erab k more m l h c i a =
+setups_put out head count item all erab id criticality k more m l h c i a =
     let n : more + 14 ≡ length (setup_octets erab) = setup_length erab more m in
     let one : all ≡ count ++ ie_octets 52 0 (setup_octets erab) = ie_put count item all (setup_octets erab) 52 0 (more + 14) i a n in
     let e : ie_octets 52 0 (setup_octets erab) ++ [] ≡ ie_octets 52 0 (setup_octets erab) = append-nil (ie_octets 52 0 (setup_octets erab)) in
     let whole : k + (more + 14) + 4 ≡ length (0 ∷ ie_octets 52 0 (setup_octets erab)) = omega (arith, l, ie_length 52 0 (setup_octets erab), ap (λ (x : ℕ). length (count_octets x)) n, n) in
-    rw e (ie_put out head all (0 ∷ ie_octets 52 0 (setup_octets erab)) 24 0 (k + (more + 14) + 4) h (one ∙ rw c (append_assoc head (0 ∷ []) (ie_octets 52 0 (setup_octets erab)))) whole)
+    rw e (ie_put out head all (0 ∷ ie_octets 52 0 (setup_octets erab)) id criticality (k + (more + 14) + 4) h (one ∙ rw c (append_assoc head (0 ∷ []) (ie_octets 52 0 (setup_octets erab)))) whole)

@@ -148,8 +148,8 @@ IsUsualValue v = Given (octets_of (Some v)) (IsRightValue v)
 
 -- the IEs of a table, with their values
 abbrev pub fields_octets : List IeRow → List (Option FieldValue) → List ℕ
-fields_octets [] values = []
-fields_octets (row ∷ rows) [] = []
+fields_octets rows [] = []
+fields_octets [] (v ∷ values) = []
 fields_octets (row ∷ rows) (None ∷ values) = fields_octets rows values
 fields_octets (row ∷ rows) (Some v ∷ values) = ie_octets row.id (criticality_number row.criticality) (value_octets v) ++ fields_octets rows values
 
@@ -202,9 +202,18 @@ IsUsual p = HasUsualValues p × (length (body_octets p) < 16384)
 abbrev pub AreFieldsOf : MessageKind → List ℕ → ℕ → Pdu → Type 0
 AreFieldsOf kind octets count p = (kind_of p ≡ kind) × (octets ≡ fields_octets (rows_of kind) (values_of p)) × (count ≡ count_of (values_of p)) × HasUsualValues p
 
--- the same of a message that has each IE of its table
-abbrev pub AreAllFieldsOf : MessageKind → List ℕ → Pdu → Type 0
-AreAllFieldsOf kind octets p = AreFieldsOf kind octets (length (rows_of kind)) p
+-- what such IEs are, and how many, where each row of the table has a value or its place
+abbrev pub AreFields : MessageKind → List ℕ → ℕ → List (Option FieldValue) → Type 0
+AreFields kind octets count values = (octets ≡ fields_octets (rows_of kind) values) × (length values ≡ length (rows_of kind) → count ≡ count_of values) × AllByRecursion (λ v. IfSome v IsUsualValue) values
+
+-- a value that the short way has room for
+abbrev pub IsBrief : FieldValue → Type 0
+IsBrief (value.Radio radio) = length radio ≤ 16000
+IsBrief _ = Unit {0}
+
+-- ids of an octet
+abbrev pub AreSmallIds : List IeRow → Type 0
+AreSmallIds rows = AllByRecursion (λ row. row.id < 256) rows
 
 -- the octets of the header of a kind of message
 abbrev pub BeginsAs : MessageKind → ℕ → ℕ → ℕ → Type 0

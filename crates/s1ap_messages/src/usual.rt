@@ -6,13 +6,12 @@ ghost use Rattle.s1ap_pdu.specs.Run.{written, IsRight};
 ghost use Rattle.s1ap_messages.specs.Usual.{counted, unfinished_octets, usual_octets, IsPut, IsUsual};
 
 mod bearers;
-mod counts;
+mod fields;
 mod kinds;
 mod octets;
 mod put;
-mod put_bearers;
 mod put_kinds;
-mod put_values;
+mod strings;
 mod values;
 
 use crate::usual::kinds::{fields, kind_of_header};

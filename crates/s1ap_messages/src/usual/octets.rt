@@ -75,16 +75,13 @@ pub fn counted(octets: &[u8]) -> Option<(&[u8], &[u8])>
 #[inline(always)]
 #[tactic(auto, unfolding(crate::specs::Usual::ie_octets))]
 pub fn ie(octets: &[u8], id: u16, criticality: Criticality) -> Option<(&[u8], &[u8])>
-    requires { id < 256 }
     ensures { IfSome result (λ x. octets.now ≡ ie_octets id (criticality_number criticality) x.0.now ++ x.1.now) }
 {
     let (high, low, third, rest) = three(octets)?;
-    let wanted = 64 * criticality.number();
-    if high != 0 || low != id as u8 || third != wanted {
+    if high != 0 || u16::from(low) != id || third != 64 * criticality.number() {
         return None;
     }
-    let (content, rest) = counted(rest)?;
-    Some((content, rest))
+    counted(rest)
 }
 
 /// A number of at least one octet more than another, which is not 0.

@@ -1,84 +1,125 @@
-//! Values of IEs, read from their octets.
+//! Values of IEs, read from their octets and written as them.
 
-ghost use Rattle.std.specs.Prelude.{◌≡◌, ◌+◌, ◌%◌, ◌^◌, ◌<◌, ◌≤◌, true, false, ◌∷◌, [], ◌++◌, IfSome, length, option_map};
-ghost use Rattle.aper_fields.specs.Spelling.{IsEnumValue};
-ghost use Rattle.s1ap_ies.specs.Run.{IsTai, IsCgi, IsStmsi, IsBitRates, IsSecCaps, IsCause, IsUeIds};
-ghost use Rattle.s1ap_ies.specs.Criticalities as level;
+ghost use Rattle.std.specs.Prelude.{◌≡◌, ◌+◌, ◌*◌, ◌%◌, ◌^◌, ◌<◌, ◌≤◌, ◌∷◌, [], ◌++◌, IfSome, OnOk, length};
+ghost use Rattle.s1ap_ies.specs.Run.{IsTai, IsCgi, IsStmsi, IsSecCaps, IsCause};
+ghost use Rattle.s1ap_ies.specs.declared.ue_ids.UeIds.TheVariants.{Pair};
 ghost use Rattle.s1ap_ies.specs.Criticalities.{criticality_number};
-ghost use Rattle.s1ap_ies.specs.declared.names.TheConstants as named;
-ghost use Rattle.s1ap_pdu.specs.Tables.{optional};
 ghost use Rattle.s1ap_pdu.specs.declared.value.IeValue.TheVariants as value;
-ghost use Rattle.s1ap_messages.specs.Usual.{counted, four_octets, number_octets, tai_octets, cgi_octets, stmsi_octets, rates_octets, caps_octets, rrc_octets, cause_octets, ids_octets, ie_octets, fields_octets, IsUsualValue};
+ghost use Rattle.s1ap_messages.specs.Usual.{four_octets, number_octets, tai_octets, cgi_octets, stmsi_octets, caps_octets, cause_octets, ids_octets, ie_octets};
 
-use crate::usual::octets::{counted, id, ie, number, one};
+use crate::usual::fields::Field;
+use crate::usual::octets::{id, number};
+use crate::usual::put::{octets_in, put_ie, put_number};
 use aper_fields::EnumValue;
-use device_types::Octets;
-use s1ap_ies::{BitRates, Cause, Cgi, Criticality, SecCaps, Stmsi, Tai, UeIds, names};
-use std::alloc::Global;
+use s1ap_ies::{BitRates, Cause, Cgi, Criticality, SecCaps, Stmsi, Tai, names};
+use std::alloc::AllocError;
 
-/// An eNB UE S1AP ID, where all of the octets are it.
-#[inline(always)]
-pub fn enb_id(octets: &[u8]) -> Option<u32>
-    ensures octets { IfSome result (λ enb. octets.now ≡ number_octets 0 64 enb) }
-    ensures right { IfSome result (λ enb. enb < 2 ^ 24) }
-{
-    let (enb, more) = id(octets, 0, 64)?;
-    if !more.is_empty() || u64::from(enb) > names::MOST_ENB_UE_S1AP_ID {
-        return None;
-    }
-    Some(enb)
+/// An MME UE S1AP ID (TS 36.413, 9.2.3.3).
+#[derive(Clone, Copy)]
+pub struct MmeId(pub u32);
+
+/// An eNB UE S1AP ID (TS 36.413, 9.2.3.4).
+#[derive(Clone, Copy)]
+pub struct EnbId(pub u32);
+
+/// The UE S1AP IDs that are both identities (TS 36.413, 9.1.4.6).
+#[derive(Clone, Copy)]
+pub struct BothIds {
+    /// MME UE S1AP ID.
+    pub mme: u32,
+    /// eNB UE S1AP ID.
+    pub enb: u32,
 }
 
-/// The IE of an MME UE S1AP ID, and what stands behind it.
+/// Puts the IE of an identity: the count of its octets less one in the two highest bits of an octet, and the number in as few
+/// octets as it needs.
 #[inline(always)]
-pub fn mme(octets: &[u8], criticality: Criticality) -> Option<(u32, &[u8])>
-    ensures { IfSome result (λ x. octets.now ≡ ie_octets named.MME_UE_S1AP_ID (criticality_number criticality) (number_octets 0 64 x.0) ++ x.1.now) }
+fn put_id(out: &mut Vec<u8>, id: u16, criticality: Criticality, n: u64) -> Result<(), AllocError>
+    requires id { id < 256 }
+    requires fits { n < 2 ^ 32 }
+    ensures { OnOk result (out.new.items ≡ out.old.items ++ ie_octets id (criticality_number criticality) (number_octets 0 64 n)) }
 {
-    let (content, rest) = ie(octets, names::MME_UE_S1AP_ID, criticality)?;
-    let (mme, more) = id(content, 0, 64)?;
-    if !more.is_empty() {
-        return None;
-    }
-    Some((mme, rest))
+    put_ie(out, id, criticality, octets_in(n) + 1)?;
+    put_number(out, 0, 64, n)?;
+    Ok(())
 }
 
-/// The IE of an eNB UE S1AP ID, and what stands behind it.
-#[inline(always)]
-pub fn enb(octets: &[u8], criticality: Criticality) -> Option<(u32, &[u8])>
-    ensures octets { IfSome result (λ x. octets.now ≡ ie_octets named.ENB_UE_S1AP_ID (criticality_number criticality) (number_octets 0 64 x.0) ++ x.1.now) }
-    ensures right { IfSome result (λ x. x.0 < 2 ^ 24) }
-{
-    let (content, rest) = ie(octets, names::ENB_UE_S1AP_ID, criticality)?;
-    let enb = enb_id(content)?;
-    Some((enb, rest))
+impl<'a> Field<'a> for MmeId {
+    ghost meaning = { λ v. value.Mme v.0 };
+
+    #[inline(always)]
+    fn read(octets: &'a [u8]) -> Option<MmeId> {
+        let (mme, more) = id(octets, 0, 64)?;
+        if !more.is_empty() {
+            return None;
+        }
+        Some(MmeId(mme))
+    }
+
+    #[inline(always)]
+    fn put(&self, out: &mut Vec<u8>, id: u16, criticality: Criticality) -> Result<(), AllocError> {
+        put_id(out, id, criticality, u64::from(self.0))
+    }
 }
 
-/// An octet string, and what stands behind it.
-#[inline(always)]
-pub fn text(octets: &[u8], id: u16, criticality: Criticality) -> Option<(&[u8], &[u8])>
-    requires { id < 256 }
-    ensures octets { IfSome result (λ x. octets.now ≡ ie_octets id (criticality_number criticality) (counted x.0.now) ++ x.1.now) }
-    ensures right { IfSome result (λ x. length x.0.now < 16384) }
-{
-    let (content, rest) = ie(octets, id, criticality)?;
-    let (text, more) = counted(content)?;
-    if !more.is_empty() {
-        return None;
+impl<'a> Field<'a> for EnbId {
+    ghost meaning = { λ v. value.Enb v.0 };
+
+    #[inline(always)]
+    fn read(octets: &'a [u8]) -> Option<EnbId> {
+        let (enb, more) = id(octets, 0, 64)?;
+        if !more.is_empty() || u64::from(enb) > names::MOST_ENB_UE_S1AP_ID {
+            return None;
+        }
+        Some(EnbId(enb))
     }
-    Some((text, rest))
+
+    #[inline(always)]
+    fn put(&self, out: &mut Vec<u8>, id: u16, criticality: Criticality) -> Result<(), AllocError> {
+        put_id(out, id, criticality, u64::from(self.0))
+    }
 }
 
-/// A NAS-PDU, and what stands behind it.
-#[inline(always)]
-pub fn nas(octets: &[u8]) -> Option<(&[u8], &[u8])>
-    ensures octets { IfSome result (λ x. octets.now ≡ ie_octets named.NAS_PDU level.reject (counted x.0.now) ++ x.1.now) }
-    ensures right { IfSome result (λ x. length x.0.now ≤ 2048) }
+/// Puts the IE of both identities: each as the count of its octets less one and the number in as few octets as it needs, behind
+/// the bits 00 of the choice and 00 of the SEQUENCE.
+fn put_pair(
+    out: &mut Vec<u8>,
+    id: u16,
+    criticality: Criticality,
+    mme: u64,
+    enb: u64,
+) -> Result<(), AllocError>
+    requires id { id < 256 }
+    requires mme { mme < 2 ^ 32 }
+    requires enb { enb < 2 ^ 32 }
+    ensures { OnOk result (out.new.items ≡ out.old.items ++ ie_octets id (criticality_number criticality) (ids_octets (Pair mme enb))) }
 {
-    let (nas, rest) = text(octets, names::NAS_PDU, Criticality::Reject)?;
-    if nas.len() > names::MOST_OCTETS_OF_NAS {
-        return None;
+    put_ie(out, id, criticality, octets_in(mme) + octets_in(enb) + 2)?;
+    put_number(out, 0, 4, mme)?;
+    put_number(out, 0, 64, enb)?;
+    Ok(())
+}
+
+impl<'a> Field<'a> for BothIds {
+    ghost meaning = { λ v. value.Ids (Pair v.mme v.enb) };
+
+    #[inline(always)]
+    #[tactic(auto, unfolding(crate::specs::Usual::ids_octets))]
+    fn read(octets: &'a [u8]) -> Option<BothIds> {
+        let (mme, more) = id(octets, 0, 4)?;
+        let EnbId(enb) = EnbId::read(more)?;
+        Some(BothIds { mme, enb })
     }
-    Some((nas, rest))
+
+    fn put(&self, out: &mut Vec<u8>, id: u16, criticality: Criticality) -> Result<(), AllocError> {
+        put_pair(
+            out,
+            id,
+            criticality,
+            u64::from(self.mme),
+            u64::from(self.enb),
+        )
+    }
 }
 
 /// The TAI that five octets behind an octet of zeros are.
@@ -93,17 +134,35 @@ fn tai_of(a: u8, b: u8, c: u8, d: u8, e: u8) -> Tai
     }
 }
 
-/// A TAI, and what stands behind it.
-#[inline(always)]
-pub fn tai(octets: &[u8], criticality: Criticality) -> Option<(Tai, &[u8])>
-    ensures octets { IfSome result (λ x. octets.now ≡ ie_octets named.TAI (criticality_number criticality) (tai_octets x.0) ++ x.1.now) }
-    ensures right { IfSome result (λ x. IsTai x.0) }
-{
-    let (content, rest) = ie(octets, names::TAI, criticality)?;
-    let [0, a, b, c, d, e] = content else {
-        return None;
-    };
-    Some((tai_of(*a, *b, *c, *d, *e), rest))
+impl<'a> Field<'a> for Tai {
+    ghost meaning = { value.Tai };
+
+    #[inline(always)]
+    fn read(octets: &'a [u8]) -> Option<Tai> {
+        let [0, a, b, c, d, e] = octets else {
+            return None;
+        };
+        Some(tai_of(*a, *b, *c, *d, *e))
+    }
+
+    /// An octet 00, which says that nothing optional is there, the PLMN identity in three octets, the tracking area code in two
+    /// (TS 36.413, 9.2.3.16).
+    #[inline(always)]
+    #[tactic(auto, unfolding(crate::specs::Usual::ie_octets, crate::specs::Usual::counted, crate::specs::Usual::count_octets, crate::specs::Usual::tai_octets))]
+    fn put(&self, out: &mut Vec<u8>, id: u16, criticality: Criticality) -> Result<(), AllocError> {
+        out.extend_from_slice(&[
+            0,
+            id as u8,
+            64 * criticality.number(),
+            6,
+            0,
+            (self.plmn / 65536) as u8,
+            (self.plmn / 256 % 256) as u8,
+            (self.plmn % 256) as u8,
+            (self.tac / 256) as u8,
+            (self.tac % 256) as u8,
+        ])
+    }
 }
 
 /// The CGI that seven octets behind an octet of zeros are.
@@ -119,41 +178,71 @@ fn cgi_of(a: u8, b: u8, c: u8, d: u8, e: u8, f: u8, g: u8) -> Cgi
     }
 }
 
-/// A CGI, and what stands behind it.
-#[inline(always)]
-pub fn cgi(octets: &[u8]) -> Option<(Cgi, &[u8])>
-    ensures octets { IfSome result (λ x. octets.now ≡ ie_octets named.CGI level.ignore (cgi_octets x.0) ++ x.1.now) }
-    ensures right { IfSome result (λ x. IsCgi x.0) }
-{
-    let (content, rest) = ie(octets, names::CGI, Criticality::Ignore)?;
-    let [0, a, b, c, d, e, f, g] = content else {
-        return None;
-    };
-    if *g % 16 != 0 {
-        return None;
+impl<'a> Field<'a> for Cgi {
+    ghost meaning = { value.Cgi };
+
+    #[inline(always)]
+    fn read(octets: &'a [u8]) -> Option<Cgi> {
+        let [0, a, b, c, d, e, f, g] = octets else {
+            return None;
+        };
+        if *g % 16 != 0 {
+            return None;
+        }
+        Some(cgi_of(*a, *b, *c, *d, *e, *f, *g))
     }
-    Some((cgi_of(*a, *b, *c, *d, *e, *f, *g), rest))
+
+    /// An octet 00, the PLMN identity in three octets, the cell identity in 28 bits, and four bits 0 (TS 36.413, 9.2.1.38).
+    #[inline(always)]
+    #[tactic(auto, unfolding(crate::specs::Usual::ie_octets, crate::specs::Usual::counted, crate::specs::Usual::count_octets, crate::specs::Usual::cgi_octets))]
+    fn put(&self, out: &mut Vec<u8>, id: u16, criticality: Criticality) -> Result<(), AllocError> {
+        out.extend_from_slice(&[
+            0,
+            id as u8,
+            64 * criticality.number(),
+            8,
+            0,
+            (self.plmn / 65536) as u8,
+            (self.plmn / 256 % 256) as u8,
+            (self.plmn % 256) as u8,
+            (self.cell / 1048576) as u8,
+            (self.cell / 4096 % 256) as u8,
+            (self.cell / 16 % 256) as u8,
+            (self.cell % 16 * 16) as u8,
+        ])
+    }
 }
 
-/// An RRC establishment cause that is one of the roots, and what stands behind it.
-#[inline(always)]
-#[tactic(auto, unfolding(crate::specs::Usual::rrc_octets))]
-pub fn rrc(octets: &[u8]) -> Option<(EnumValue, &[u8])>
-    ensures octets { IfSome result (λ x. octets.now ≡ ie_octets named.RRC_CAUSE level.ignore (rrc_octets x.0) ++ x.1.now) }
-    ensures right { IfSome result (λ x. IsEnumValue 5 true x.0) }
-{
-    let (content, rest) = ie(octets, names::RRC_CAUSE, Criticality::Ignore)?;
-    let [a] = content else {
-        return None;
-    };
-    if *a % 16 != 0 || u32::from(*a / 16) >= names::RRC_CAUSE_ROOTS {
-        return None;
+/// An RRC Establishment Cause (TS 36.413, 9.2.1.3a) in an octet.
+impl<'a> Field<'a> for EnumValue {
+    ghost meaning = { value.Rrc };
+
+    /// It is read where it is one of the roots.
+    #[inline(always)]
+    #[tactic(auto, unfolding(crate::specs::Usual::rrc_octets))]
+    fn read(octets: &'a [u8]) -> Option<EnumValue> {
+        let [a] = octets else {
+            return None;
+        };
+        if *a % 16 != 0 || u32::from(*a / 16) >= names::RRC_CAUSE_ROOTS {
+            return None;
+        }
+        Some(EnumValue {
+            extended: false,
+            index: *a / 16,
+        })
     }
-    let rrc = EnumValue {
-        extended: false,
-        index: *a / 16,
-    };
-    Some((rrc, rest))
+
+    /// A bit 0 and the root's index in three bits, and bits 0; or the bits 10 and an index beyond the roots in six.
+    #[inline(always)]
+    #[tactic(auto, unfolding(crate::specs::Usual::ie_octets, crate::specs::Usual::counted, crate::specs::Usual::count_octets, crate::specs::Usual::rrc_octets))]
+    fn put(&self, out: &mut Vec<u8>, id: u16, criticality: Criticality) -> Result<(), AllocError> {
+        let criticality = 64 * criticality.number();
+        if self.extended {
+            return out.extend_from_slice(&[0, id as u8, criticality, 1, 128 + self.index]);
+        }
+        out.extend_from_slice(&[0, id as u8, criticality, 1, 16 * self.index])
+    }
 }
 
 /// Four octets as a number.
@@ -163,6 +252,20 @@ pub fn four(a: u8, b: u8, c: u8, d: u8) -> u32
     ensures { four_octets result ≡ a ∷ b ∷ c ∷ d ∷ [] }
 {
     u32::from(a) * 16777216 + u32::from(b) * 65536 + u32::from(c) * 256 + u32::from(d)
+}
+
+/// A number as four octets.
+#[inline(always)]
+#[tactic(auto, unfolding(crate::specs::Usual::four_octets))]
+pub fn octets_of(n: u32) -> [u8; 4]
+    ensures { result ≡ four_octets n }
+{
+    [
+        (n / 16777216) as u8,
+        (n / 65536 % 256) as u8,
+        (n / 256 % 256) as u8,
+        (n % 256) as u8,
+    ]
 }
 
 /// The S-TMSI with an MME code that stands two bits behind the start of two octets.
@@ -180,52 +283,70 @@ fn stmsi_of(h: u8, m: u8, tmsi: u32) -> Stmsi
     }
 }
 
-/// An S-TMSI, and what stands behind it.
-#[inline(always)]
-fn stmsi(octets: &[u8]) -> Option<(Stmsi, &[u8])>
-    ensures octets { IfSome result (λ x. octets.now ≡ ie_octets named.STMSI level.reject (stmsi_octets x.0) ++ x.1.now) }
-    ensures right { IfSome result (λ x. IsStmsi x.0) }
-{
-    let (content, rest) = ie(octets, names::STMSI, Criticality::Reject)?;
-    let [h, m, a, b, c, d] = content else {
-        return None;
-    };
-    if *h >= 64 || *m % 64 != 0 {
-        return None;
+impl<'a> Field<'a> for Stmsi {
+    ghost meaning = { value.Stmsi };
+
+    #[inline(always)]
+    fn read(octets: &'a [u8]) -> Option<Stmsi> {
+        let [h, m, a, b, c, d] = octets else {
+            return None;
+        };
+        if *h >= 64 || *m % 64 != 0 {
+            return None;
+        }
+        Some(stmsi_of(*h, *m, four(*a, *b, *c, *d)))
     }
-    Some((stmsi_of(*h, *m, four(*a, *b, *c, *d)), rest))
+
+    /// Two bits 0, the MME code in eight bits, bits 0 up to the next octet, and the M-TMSI in four octets (TS 36.413, 9.2.3.6).
+    #[inline(always)]
+    #[tactic(auto, unfolding(crate::specs::Usual::ie_octets, crate::specs::Usual::counted, crate::specs::Usual::count_octets, crate::specs::Usual::stmsi_octets, crate::specs::Usual::four_octets))]
+    fn put(&self, out: &mut Vec<u8>, id: u16, criticality: Criticality) -> Result<(), AllocError> {
+        let [a, b, c, d] = octets_of(self.tmsi);
+        let code = self.mmec;
+        let criticality = 64 * criticality.number();
+        out.extend_from_slice(&[
+            0,
+            id as u8,
+            criticality,
+            6,
+            code / 4,
+            code % 4 * 64,
+            a,
+            b,
+            c,
+            d,
+        ])
+    }
 }
 
-/// The S-TMSI of an INITIAL UE MESSAGE, which is its last IE, where it has one.
-#[inline(always)]
-pub fn last_stmsi(octets: &[u8]) -> Option<Option<Stmsi>>
-    ensures octets { IfSome result (λ s. octets.now ≡ fields_octets (optional named.STMSI ∷ []) (option_map value.Stmsi s ∷ [])) }
-    ensures right { IfSome result (λ s. IfSome (option_map value.Stmsi s) IsUsualValue) }
-{
-    if octets.is_empty() {
-        return Some(None);
-    }
-    let (stmsi, more) = stmsi(octets)?;
-    if !more.is_empty() {
-        return None;
-    }
-    Some(Some(stmsi))
-}
+impl<'a> Field<'a> for BitRates {
+    ghost meaning = { value.Rates };
 
-/// Bit rates, and what stands behind them.
-#[inline(always)]
-#[tactic(auto, unfolding(crate::specs::Usual::rates_octets))]
-pub fn rates(octets: &[u8]) -> Option<(BitRates, &[u8])>
-    ensures octets { IfSome result (λ x. octets.now ≡ ie_octets named.BIT_RATES level.reject (rates_octets x.0) ++ x.1.now) }
-    ensures right { IfSome result (λ x. IsBitRates x.0) }
-{
-    let (content, rest) = ie(octets, names::BIT_RATES, Criticality::Reject)?;
-    let (dl, up) = number(content, 0, 8)?;
-    let (ul, more) = number(up, 0, 32)?;
-    if dl > names::MOST_BIT_RATE || ul > names::MOST_BIT_RATE || !more.is_empty() {
-        return None;
+    #[inline(always)]
+    #[tactic(auto, unfolding(crate::specs::Usual::rates_octets))]
+    fn read(octets: &'a [u8]) -> Option<BitRates> {
+        let (dl, up) = number(octets, 0, 8)?;
+        let (ul, more) = number(up, 0, 32)?;
+        if dl > names::MOST_BIT_RATE || ul > names::MOST_BIT_RATE || !more.is_empty() {
+            return None;
+        }
+        Some(BitRates { dl, ul })
     }
-    Some((BitRates { dl, ul }, rest))
+
+    /// Downlink, then uplink, each as the count of its octets less one and the bit/s in as few octets as they need (TS 36.413,
+    /// 9.2.1.20).
+    #[inline(always)]
+    fn put(&self, out: &mut Vec<u8>, id: u16, criticality: Criticality) -> Result<(), AllocError> {
+        put_ie(
+            out,
+            id,
+            criticality,
+            octets_in(self.dl) + octets_in(self.ul) + 2,
+        )?;
+        put_number(out, 0, 8, self.dl)?;
+        put_number(out, 0, 32, self.ul)?;
+        Ok(())
+    }
 }
 
 /// The security capabilities that five octets are.
@@ -244,33 +365,37 @@ fn caps_of(a: u8, b: u8, c: u8, d: u8, e: u8) -> SecCaps
     }
 }
 
-/// Security capabilities, and what stands behind them.
-#[inline(always)]
-pub fn caps(octets: &[u8]) -> Option<(SecCaps, &[u8])>
-    ensures octets { IfSome result (λ x. octets.now ≡ ie_octets named.SEC_CAPS level.reject (caps_octets x.0) ++ x.1.now) }
-    ensures right { IfSome result (λ x. IsSecCaps x.0) }
-{
-    let (content, rest) = ie(octets, names::SEC_CAPS, Criticality::Reject)?;
-    let [a, b, c, d, e] = content else {
-        return None;
-    };
-    if *a >= 32 || *c % 32 >= 16 || *e % 16 != 0 {
-        return None;
-    }
-    Some((caps_of(*a, *b, *c, *d, *e), rest))
-}
+impl<'a> Field<'a> for SecCaps {
+    ghost meaning = { value.Caps };
 
-/// A security key, and what stands behind it.
-#[inline(always)]
-pub fn key(octets: &[u8]) -> Option<(&[u8], &[u8])>
-    ensures octets { IfSome result (λ x. octets.now ≡ ie_octets named.SECURITY_KEY level.reject x.0.now ++ x.1.now) }
-    ensures right { IfSome result (λ x. length x.0.now ≡ 32) }
-{
-    let (content, rest) = ie(octets, names::SECURITY_KEY, Criticality::Reject)?;
-    if content.len() != names::SECURITY_KEY_OCTETS {
-        return None;
+    #[inline(always)]
+    fn read(octets: &'a [u8]) -> Option<SecCaps> {
+        let [a, b, c, d, e] = octets else {
+            return None;
+        };
+        if *a >= 32 || *c % 32 >= 16 || *e % 16 != 0 {
+            return None;
+        }
+        Some(caps_of(*a, *b, *c, *d, *e))
     }
-    Some((content, rest))
+
+    /// Two bits 0, then twice a bit 0 and 16 bits of algorithms, encryption before integrity protection, and four bits 0
+    /// (TS 36.413, 9.2.1.40).
+    #[inline(always)]
+    #[tactic(auto, unfolding(crate::specs::Usual::ie_octets, crate::specs::Usual::counted, crate::specs::Usual::count_octets, crate::specs::Usual::caps_octets))]
+    fn put(&self, out: &mut Vec<u8>, id: u16, criticality: Criticality) -> Result<(), AllocError> {
+        out.extend_from_slice(&[
+            0,
+            id as u8,
+            64 * criticality.number(),
+            5,
+            (self.eea / 2048) as u8,
+            (self.eea / 8 % 256) as u8,
+            (self.eea % 8 * 32 + self.eia / 4096) as u8,
+            (self.eia / 16 % 256) as u8,
+            (self.eia % 16 * 16) as u8,
+        ])
+    }
 }
 
 /// The cause that one octet is, where it is a root of those of NAS.
@@ -307,52 +432,35 @@ fn radio_cause(a: u8, b: u8) -> Option<Cause>
     })
 }
 
-/// The cause that the octets are, where it is a root of those of the radio network or of NAS.
-#[inline(always)]
-fn cause_of(octets: &[u8]) -> Option<Cause>
-    ensures octets { IfSome result (λ c. octets.now ≡ cause_octets c) }
-    ensures right { IfSome result (λ c. IsCause c) }
-{
-    let (a, more) = one(octets)?;
-    if more.is_empty() {
-        return nas_cause(a);
+/// A Cause (TS 36.413, 9.2.1.3) in one octet or two.
+impl<'a> Field<'a> for Cause {
+    ghost meaning = { value.Cause };
+
+    /// It is read where it is a root of those of the radio network or of NAS.
+    #[inline(always)]
+    fn read(octets: &'a [u8]) -> Option<Cause> {
+        match octets {
+            [a] => nas_cause(*a),
+            [a, b] => radio_cause(*a, *b),
+            _ => None,
+        }
     }
-    let [b] = more else {
-        return None;
-    };
-    radio_cause(a, *b)
-}
 
-/// Such a cause, and what stands behind it.
-#[inline(always)]
-pub fn cause(octets: &[u8]) -> Option<(Cause, &[u8])>
-    ensures octets { IfSome result (λ x. octets.now ≡ ie_octets named.CAUSE level.ignore (cause_octets x.0) ++ x.1.now) }
-    ensures right { IfSome result (λ x. IsCause x.0) }
-{
-    let (content, rest) = ie(octets, names::CAUSE, Criticality::Ignore)?;
-    Some((cause_of(content)?, rest))
-}
-
-/// UE S1AP IDs that are both identities of a device, and what stands behind them.
-#[inline(always)]
-#[tactic(auto, unfolding(crate::specs::Usual::ids_octets))]
-pub fn ids(octets: &[u8]) -> Option<(UeIds, &[u8])>
-    ensures octets { IfSome result (λ x. octets.now ≡ ie_octets named.UE_IDS level.reject (ids_octets x.0) ++ x.1.now) }
-    ensures right { IfSome result (λ x. IsUeIds x.0) }
-{
-    let (content, rest) = ie(octets, names::UE_IDS, Criticality::Reject)?;
-    let (mme, more) = id(content, 0, 4)?;
-    let enb = enb_id(more)?;
-    Some((UeIds::Pair { mme, enb }, rest))
-}
-
-/// Octets in memory of their own, or None for want of memory.
-#[inline(always)]
-pub fn own(alloc: Global, octets: &[u8]) -> Option<Octets>
-    ensures { IfSome result (λ o. o ≡ octets.now) }
-{
-    match Vec::from_slice(alloc, octets) {
-        Ok(octets) => Some(Octets::from(octets)),
-        Err(_) => None,
+    /// A bit 0 and the group in three bits, then a bit 0 and the root's index in as many bits as the group's roots need, or the
+    /// bits 10 and an index beyond them in six; bits 0 at the end.
+    #[tactic(auto, unfolding(crate::specs::Usual::ie_octets, crate::specs::Usual::counted, crate::specs::Usual::count_octets, crate::specs::Usual::cause_octets, device_types::specs::Cause::cause_roots))]
+    fn put(&self, out: &mut Vec<u8>, id: u16, criticality: Criticality) -> Result<(), AllocError> {
+        let id = id as u8;
+        let criticality = 64 * criticality.number();
+        let (group, i) = (16 * self.group, self.index);
+        if self.extended {
+            return out.extend_from_slice(&[0, id, criticality, 2, group + 8 + i / 16, i % 16 * 16]);
+        }
+        match self.group {
+            0 => out.extend_from_slice(&[0, id, criticality, 2, i / 8, i % 8 * 32]),
+            1 => out.extend_from_slice(&[0, id, criticality, 1, 16 + 4 * i]),
+            2 => out.extend_from_slice(&[0, id, criticality, 1, 32 + 2 * i]),
+            _ => out.extend_from_slice(&[0, id, criticality, 1, group + i]),
+        }
     }
 }

@@ -2,7 +2,7 @@
 use Rattle.std.proofs.Common.{arith}
 use Rattle.s1ap_messages.specs.Usual.{number_octets}
 use Rattle.s1ap_messages.proofs.UsualWrite.{ie_put, number_length}
-use Rattle.s1ap_messages.proofs.usual.put_values.put_wide_id.Goals as goal
+use Rattle.s1ap_messages.proofs.usual.values.put_id.Goals as goal
 use Rattle.s1ap_ies.specs.Criticalities.{criticality_number}
 
 pub returns : goal.returns
