@@ -83,7 +83,8 @@ AreUsual values = AllByRecursion (λ v. IfSome v IsUsualValue) values
 
 fields_are : (rows : List IeRow) (values : List (Option FieldValue)) → AreUsual values → IsOctets (fields_octets rows values) → length (fields_octets rows values) < 16384 → AreOctets (fields_run rows values) (fields_octets rows values)
 unfolding fields_run bits_of ie_run
-fields_are [] values usual h few = λ k. refl
+fields_are [] [] usual h few = λ k. refl
+fields_are [] (v ∷ values) usual h few = λ k. refl
 fields_are (row ∷ rows) [] usual h few = λ k. refl
 fields_are (row ∷ rows) (None ∷ values) usual h few =
     octets_then (ie_run row None) (fields_run rows values) [] (fields_octets rows values) (λ k. refl) (fields_are rows values usual.1 h few)
