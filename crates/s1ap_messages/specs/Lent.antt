@@ -1,5 +1,5 @@
 -- Fields that are lent, as they are seen.
-use Rattle.std.specs.Prelude.{List, ℕ, Option, option_map}
+use Rattle.std.specs.Prelude.{option_map}
 use Rattle.s1ap_ies.specs.declared.erab_to_setup.ErabToSetup.{ErabToSetup}
 use Rattle.s1ap_messages.specs.declared.usual.bearers.LentErab.{LentErab}
 
