@@ -19,7 +19,7 @@ use Rattle.s1ap_messages.proofs.UsualValues.{count_few, text_is}
 -- ---- E-RABs that were set up
 
 done_parts : (v : ErabDone) → run types.erab_done v 0 ≡ bits 3 0 ++ (bits 4 (v.id - 0) ++ (zeros 1 ++ (bits 8 31 ++ (bits 32 v.address ++ bits 32 v.teid))))
-unfolding run flags_run fields_run types.erab_done types.erab_id types.address fixed_bits_run number_run bits lib.Count.count_leading_zeros
+unfolding run flags_run fields_run types.erab_done fixed_bits_run number_run bits lib.Count.count_leading_zeros
 done_parts v = refl
 
 done_first : (id : ℕ) → id < 16 → bits 3 0 ++ (bits 4 id ++ zeros 1) ≡ bits 8 (2 * id)
@@ -41,7 +41,7 @@ nas_are None right = λ k. refl
 nas_are (Some nas) right = octets_at_start _ _ (octet_string_periodic nas) (text_is nas (omega (arith, right)))
 
 setup_parts : (v : ErabToSetup) → run types.erab_to_setup v 0 ≡ bits 1 0 ++ (bits 1 (cond (is_some v.nas) 1 0) ++ (bits 2 0 ++ (bits 4 (v.id - 0) ++ (bits 8 0 ++ (bits 8 (v.qci - 0) ++ (bits 2 0 ++ (bits 6 v.arp ++ (bits 8 15 ++ (bits 8 128 ++ (bits 32 v.address ++ (bits 32 v.teid ++ part_run octet_string_run v.nas 112)))))))))))
-unfolding run flags_run fields_run types.erab_to_setup types.erab_id types.qos types.arp types.address present_run fixed_bits_run number_run bits lib.Count.count_leading_zeros
+unfolding run flags_run fields_run types.erab_to_setup present_run fixed_bits_run number_run bits lib.Count.count_leading_zeros
 setup_parts v = refl
 
 setup_first : (b id : ℕ) → b ≤ 1 → id < 16 → bits 1 0 ++ (bits 1 b ++ (bits 2 0 ++ bits 4 id)) ≡ bits 8 (64 * b + id)
