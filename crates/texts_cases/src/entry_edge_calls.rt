@@ -103,17 +103,21 @@ fn named(name: &str) -> Result<&str, Fail> {
     Err(Fail::new("no such message"))
 }
 
+/// What stands behind the first word of a line: of a notice the IMSI, and otherwise the text of the message of that name.
+fn behind<'a>(first: &str, name: &'a str) -> Result<&'a str, Fail> {
+    if first == "data" {
+        return Ok(name);
+    }
+    named(name)
+}
+
 /// The case text of a trace: a line for each of its items, which are a base station and the name of a message, or a notice.
 fn case_text(alloc: Global, trace: &str) -> Result<String, Fail> {
     let mut text = format!(in alloc; "[subscribers]\n{ROWS}[trace]\n")?;
     for item in trace.split(", ") {
-        let (station, name) = item.split_once(' ').ok_or("no base station")?;
-        let behind = if station == "data" {
-            name
-        } else {
-            named(name)?
-        };
-        writeln!(text, "{station} {behind}")?;
+        let (first, name) = item.split_once(' ').ok_or("no base station")?;
+        let rest = behind(first, name)?;
+        writeln!(text, "{first} {rest}")?;
     }
     Ok(text)
 }
