@@ -8,6 +8,7 @@ from dataclasses import dataclass
 from typing import Dict, List, Optional, Union
 
 from .case_text import SUBSCRIBERS, read_case
+from .command import BadInput
 from .devices import Device
 from .values import MOST_BIT_RATE
 
@@ -95,6 +96,14 @@ def rows_given(given: bytes) -> List[Row]:
         octets = bytes.fromhex(response) if re.fullmatch(r"([0-9a-fA-F]{2})*", response) else b""
         rows.append(Row(it.device, it.imsi, it.tmsi, octets, [], False))
     return rows
+
+
+def rows_known(given: bytes) -> List[Row]:
+    """The rows of a file of subscribers; none of one that cannot be read, which the program refuses for its own reason."""
+    try:
+        return rows_given(given)
+    except BadInput:
+        return []
 
 
 def _told(device: Device) -> Dict[str, Value]:
