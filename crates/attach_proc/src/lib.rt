@@ -1,7 +1,7 @@
 //! Attach (3GPP TS 23.401, 5.3.2.1).
 #![tactic(auto)]
 
-ghost use Rattle.std.specs.Prelude.{◌≡◌, ◌∷◌, [], IfOk, false};
+ghost use Rattle.std.specs.Prelude.{◌≡◌, ◌∷◌, [], IfOk, Option, false};
 ghost use Rattle.device_types.specs.Acts.{run, sets, enters, tells, asks, moves_connection, drops_ue, normal_release, authentication_failure};
 ghost use Rattle.device_types.specs.Attach.{attach_message, attach_answer};
 ghost use Rattle.device_types.specs.Rule.{fitting};
@@ -9,6 +9,7 @@ ghost use Rattle.device_types.specs.StepTable.{attach_rules};
 ghost use Rattle.device_types.specs.declared.effect.SubCall.TheVariants as subscriber;
 ghost use Rattle.device_types.specs.declared.input.Answer.TheVariants as answers;
 ghost use Rattle.device_types.specs.declared.message.Body.TheVariants as bodies;
+ghost use Rattle.device_types.specs.declared.message.Side.{Side};
 ghost use Rattle.device_types.specs.declared.nas_out.NasOut.TheVariants.{AuthReject, SecurityCommand, AttachReject};
 ghost use Rattle.device_types.specs.declared.session.Stage.TheVariants.{AwaitVectors, Securing};
 ghost use Rattle.device_types.specs.declared.subscriber.Subscriber.{Subscriber};
@@ -55,7 +56,7 @@ fn on_message(
         Body::Response { res } => response(session, message, res),
         Body::Secured => secured(session, message),
         Body::SecurityRefused => security_refused(session, message),
-        Body::ContextDone { addr, teid } => context_done(session, message, *addr, *teid),
+        Body::ContextDone { addr, teid, .. } => context_done(session, message, *addr, *teid),
         Body::AttachDone => attach_done(session, message),
         Body::ContextFailed => context_failed(session, message),
         Body::ReleaseAsked { cause } => release_asked(session, message, *cause),
@@ -213,14 +214,14 @@ fn release_asked(
     Ok(None)
 }
 
-/// The base station has set up the context.
+/// The base station has set up the context, whatever it says of a second bearer.
 fn context_done(
     session: &Session,
     message: &Message,
     addr: u32,
     teid: u32,
 ) -> Result<Option<Step>, AllocError>
-    ensures { IfOk result (λ step. (row : Subscriber) → step ≡ fitting (attach_message row session.now message.now (bodies.ContextDone addr teid)) session.now) }
+    ensures { IfOk result (λ step. (row : Subscriber) (second : Option Side) → step ≡ fitting (attach_message row session.now message.now (bodies.ContextDone addr teid second)) session.now) }
 {
     if !session.is_here(message) {
         return Ok(None);

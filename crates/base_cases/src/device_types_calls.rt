@@ -4,8 +4,8 @@ ghost use Rattle.device_types.specs.Line.{IsLine};
 
 use device_types::{
     Accept, Answer, Areas, Bearer, Body, Book, CauseCode, DeviceEnd, Down, Effect, Entry, GwCall,
-    Input, Key, Lane, Link, ListOf, Message, Messages, NasOut, Octets, Offer, Reply, Session,
-    Stage, Step, SubCall, Subscriber, TryCopy,
+    Input, Key, Lane, Link, ListOf, Message, Messages, NasOut, Octets, Offer, Reply, Second,
+    Session, Side, Stage, Step, SubCall, Subscriber, TryCopy,
 };
 use std::alloc::{AllocError, Global};
 use std::fmt::{Debug, Write};
@@ -18,7 +18,7 @@ Key { octets: ListOf { items: [] } }
 Key { octets: ListOf { items: [17] } }
 CauseCode { group: 2, extended: false, index: 3 }
 Subscriber { number: 1, imsi: 208930000000001, tmsi: 2, rand: ListOf { items: [1] }, autn: ListOf { items: [2] }, res: ListOf { items: [3] }, \
-key: ListOf { items: [4] }, apn: ListOf { items: [97] }, ip: 5, sgw: 6, teid: 7, ambr_dl: 8, ambr_ul: 9, forbidden: ListOf { items: [10] } }
+key: ListOf { items: [4] }, apn: ListOf { items: [97] }, ip: 5, sgw: 6, teid: 7, ambr_dl: 8, ambr_ul: 9, forbidden: ListOf { items: [10] }, apn2: Some(ListOf { items: [98] }), ip2: Some(11) }
 AuthRequest { rand: ListOf { items: [1] }, autn: ListOf { items: [2] } }
 AttachAccept { plmn: 1, tac: 2, pti: 3, apn: ListOf { items: [97] }, ip: 4 }
 Message { number: 1, station: 2, enb: 3, body: Response { res: ListOf { items: [160, 161] } } }
@@ -37,24 +37,30 @@ Modify(1, 2)
 Purge
 Session { stage: Detached, link: Off, plmn: 0, tac: 0, eea: 0, eia: 0, pti: 0, res: ListOf { items: [] }, key: Key { octets: ListOf { items: [] } }, \
 dl: 0, ul: 0, sgw: 0, teid: 0, ip: 0, side_addr: 0, side_teid: 0, bearer: None, registered: false, off: false, \
-cause: CauseCode { group: 0, extended: false, index: 0 }, radio: 0 }
+cause: CauseCode { group: 0, extended: false, index: 0 }, radio: 0, \
+second: None, pti2: 0, sgw2: 0, teid2: 0, ip2: 0, side2_addr: 0, side2_teid: 0 }
 Session { stage: Connected, link: On { station: 1, enb: 2 }, plmn: 3, tac: 4, eea: 5, eia: 6, pti: 7, res: ListOf { items: [8] }, \
 key: Key { octets: ListOf { items: [9] } }, dl: 10, ul: 11, sgw: 12, teid: 13, ip: 14, side_addr: 15, side_teid: 16, bearer: Active, \
-registered: true, off: true, cause: CauseCode { group: 1, extended: false, index: 1 }, radio: 17 }
+registered: true, off: true, cause: CauseCode { group: 1, extended: false, index: 1 }, radio: 17, \
+second: Radio, pti2: 18, sgw2: 19, teid2: 20, ip2: 21, side2_addr: 22, side2_teid: 23 }
 Reply { number: 1, version: 2, downs: ListOf { items: [Gateway(Create)] } }
 Step { session: Session { stage: Detached, link: Off, plmn: 0, tac: 0, eea: 0, eia: 0, pti: 0, res: ListOf { items: [] }, key: Key { octets: ListOf { items: [] } }, \
 dl: 0, ul: 0, sgw: 0, teid: 0, ip: 0, side_addr: 0, side_teid: 0, bearer: None, registered: false, off: false, \
-cause: CauseCode { group: 0, extended: false, index: 0 }, radio: 0 }, effects: ListOf { items: [Gateway(Create)] } }
+cause: CauseCode { group: 0, extended: false, index: 0 }, radio: 0, \
+second: None, pti2: 0, sgw2: 0, teid2: 0, ip2: 0, side2_addr: 0, side2_teid: 0 }, effects: ListOf { items: [Gateway(Create)] } }
 Entry { input: Message(Message { number: 4, station: 2, enb: 3, body: Service }), step: Step { session: Session { stage: Detached, link: Off, plmn: 0, tac: 0, eea: 0, eia: 0, pti: 0, res: ListOf { items: [] }, key: Key { octets: ListOf { items: [] } }, \
 dl: 0, ul: 0, sgw: 0, teid: 0, ip: 0, side_addr: 0, side_teid: 0, bearer: None, registered: false, off: false, \
-cause: CauseCode { group: 0, extended: false, index: 0 }, radio: 0 }, effects: ListOf { items: [Gateway(Create)] } } }
+cause: CauseCode { group: 0, extended: false, index: 0 }, radio: 0, \
+second: None, pti2: 0, sgw2: 0, teid2: 0, ip2: 0, side2_addr: 0, side2_teid: 0 }, effects: ListOf { items: [Gateway(Create)] } } }
 Entry { input: Answer { lane: Gateway, k: 5, answer: Modified }, step: Step { session: Session { stage: Detached, link: Off, plmn: 0, tac: 0, eea: 0, eia: 0, pti: 0, res: ListOf { items: [] }, key: Key { octets: ListOf { items: [] } }, \
 dl: 0, ul: 0, sgw: 0, teid: 0, ip: 0, side_addr: 0, side_teid: 0, bearer: None, registered: false, off: false, \
-cause: CauseCode { group: 0, extended: false, index: 0 }, radio: 0 }, effects: ListOf { items: [Gateway(Create)] } } }
+cause: CauseCode { group: 0, extended: false, index: 0 }, radio: 0, \
+second: None, pti2: 0, sgw2: 0, teid2: 0, ip2: 0, side2_addr: 0, side2_teid: 0 }, effects: ListOf { items: [Gateway(Create)] } } }
 DeviceEnd { messages: 1, steps: 2, downs: ListOf { items: [Release { station: 1, enb: 2, cause: CauseCode { group: 2, extended: false, index: 1 } }] }, \
 gateway: ListOf { items: [Modify(1, 2)] }, subscriber: ListOf { items: [Purge] }, session: Session { stage: Detached, link: Off, plmn: 0, tac: 0, eea: 0, eia: 0, pti: 0, res: ListOf { items: [] }, key: Key { octets: ListOf { items: [] } }, \
 dl: 0, ul: 0, sgw: 0, teid: 0, ip: 0, side_addr: 0, side_teid: 0, bearer: None, registered: false, off: false, \
-cause: CauseCode { group: 0, extended: false, index: 0 }, radio: 0 } }
+cause: CauseCode { group: 0, extended: false, index: 0 }, radio: 0, \
+second: None, pti2: 0, sgw2: 0, teid2: 0, ip2: 0, side2_addr: 0, side2_teid: 0 } }
 ";
 
 const LISTS: &str = "\
@@ -121,6 +127,8 @@ fn row(alloc: Global) -> Subscriber {
         ambr_dl: 8,
         ambr_ul: 9,
         forbidden: Areas::new(alloc),
+        apn2: None,
+        ip2: Some(11),
     }
 }
 
@@ -131,7 +139,9 @@ fn fill(row: &mut Subscriber) -> Result<(), AllocError> {
     row.res.push(3)?;
     row.key.push(4)?;
     row.apn.push(97)?;
-    row.forbidden.push(10)
+    row.forbidden.push(10)?;
+    row.apn2 = Some(list(row.rand.alloc(), 98)?);
+    Ok(())
 }
 
 fn subscriber(alloc: Global) -> Result<Subscriber, AllocError> {
@@ -241,6 +251,13 @@ fn connected(alloc: Global) -> Result<Session, AllocError> {
         off: true,
         cause: cause(1, false, 1),
         radio: 17,
+        second: Second::Radio,
+        pti2: 18,
+        sgw2: 19,
+        teid2: 20,
+        ip2: 21,
+        side2_addr: 22,
+        side2_teid: 23,
     })
 }
 
@@ -329,6 +346,103 @@ fn put_effects(alloc: Global, text: &mut String) -> Result<(), Fail> {
     )?;
     put(text, entry(alloc, modified()))?;
     put(text, end(alloc))
+}
+
+/// What comes and goes for a second connection.
+const SECOND: &str = "\
+Message { number: 5, station: 2, enb: 3, body: ContextDone { addr: 6, teid: 7, second: None } }
+Message { number: 8, station: 2, enb: 3, body: ContextDone { addr: 9, teid: 10, second: Some(Side { addr: 11, teid: 12 }) } }
+Message { number: 13, station: 2, enb: 3, body: PdnRequest { pti: 14 } }
+Message { number: 15, station: 2, enb: 3, body: PdnAccept }
+Message { number: 16, station: 2, enb: 3, body: SecondDone { addr: 17, teid: 18 } }
+Message { number: 19, station: 2, enb: 3, body: SecondRefused }
+PdnReject { pti: 20, cause: 27 }
+Activate { pti: 21, apn: ListOf { items: [98] }, ip: 22 }
+Erab { station: 23, enb: 24, sgw: 25, teid: 26, pti: 27, ip: 28 }
+SetupTwo { station: 29, enb: 30, dl: 31, ul: 32, sgw: 33, teid: 34, eea: 35, eia: 36, key: Key { octets: ListOf { items: [37] } }, sgw2: 38, teid2: 39 }
+SecondCreate
+SecondModify(40, 41)
+SecondCreated(42, 43, 44)
+SecondModified
+";
+
+/// The copies of the messages of a device for a second connection.
+fn put_second_messages(text: &mut String) -> Result<(), Fail> {
+    let (addr, teid, second) = (6, 7, None);
+    put(
+        text,
+        Ok(message(5, Body::ContextDone { addr, teid, second })),
+    )?;
+    let (addr, teid) = (9, 10);
+    let second = Some(Side { addr: 11, teid: 12 });
+    put(
+        text,
+        Ok(message(8, Body::ContextDone { addr, teid, second })),
+    )?;
+    put(text, Ok(message(13, Body::PdnRequest { pti: 14 })))?;
+    put(text, Ok(message(15, Body::PdnAccept)))?;
+    let (addr, teid) = (17, 18);
+    put(text, Ok(message(16, Body::SecondDone { addr, teid })))?;
+    put(text, Ok(message(19, Body::SecondRefused)))
+}
+
+fn setup_two(alloc: Global) -> Result<Down, AllocError> {
+    let key = key(alloc, 37)?;
+    Ok(Down::SetupTwo {
+        station: 29,
+        enb: 30,
+        dl: 31,
+        ul: 32,
+        sgw: 33,
+        teid: 34,
+        eea: 35,
+        eia: 36,
+        key,
+        sgw2: 38,
+        teid2: 39,
+    })
+}
+
+fn erab() -> Down {
+    Down::Erab {
+        station: 23,
+        enb: 24,
+        sgw: 25,
+        teid: 26,
+        pti: 27,
+        ip: 28,
+    }
+}
+
+fn activate(alloc: Global) -> Result<NasOut, AllocError> {
+    let apn = list(alloc, 98)?;
+    Ok(NasOut::Activate {
+        pti: 21,
+        apn,
+        ip: 22,
+    })
+}
+
+/// The copies of what goes out for a second connection, and of the answers to its calls.
+fn put_second_effects(alloc: Global, text: &mut String) -> Result<(), Fail> {
+    put(text, Ok(NasOut::PdnReject { pti: 20, cause: 27 }))?;
+    put(text, activate(alloc))?;
+    put(text, Ok(erab()))?;
+    put(text, setup_two(alloc))?;
+    put(text, Ok(GwCall::SecondCreate))?;
+    put(text, Ok(GwCall::SecondModify(40, 41)))?;
+    put(text, Ok(Answer::SecondCreated(42, 43, 44)))?;
+    put(text, Ok(Answer::SecondModified))
+}
+
+#[test]
+fn copies_of_a_second_connection_are_equal(rt: HostRuntime) -> Result<(), Fail> {
+    let alloc = rt.alloc();
+    let mut text = String::new(alloc);
+    put_second_messages(&mut text)?;
+    put_second_effects(alloc, &mut text)?;
+    assert_eq!(rt; text.as_str(), SECOND);
+    Ok(())
 }
 
 #[test]

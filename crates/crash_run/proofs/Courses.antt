@@ -45,21 +45,23 @@ last_on J peer = (lane_of_peer peer, pushed_count (lane_of_peer peer) J)
 
 -- ---- what comes next
 
-awaits_at : (J : List Entry) (stage : Stage) (addr teid : ℕ) → awaits J (awaited_in stage addr teid) ≡ option_map (last_on J) (peer_at stage)
-awaits_at J stages.AwaitVectors addr teid = refl
-awaits_at J stages.AwaitLocation addr teid = refl
-awaits_at J stages.AwaitCreate addr teid = refl
-awaits_at J stages.AwaitModify addr teid = refl
-awaits_at J stages.AwaitRelease addr teid = refl
-awaits_at J stages.AwaitDelete addr teid = refl
-awaits_at J _ addr teid = refl
+awaits_at : (J : List Entry) (stage : Stage) (s : Session) → awaits J (awaited_in stage s) ≡ option_map (last_on J) (peer_at stage)
+awaits_at J stages.AwaitVectors s = refl
+awaits_at J stages.AwaitLocation s = refl
+awaits_at J stages.AwaitCreate s = refl
+awaits_at J stages.AwaitModify s = refl
+awaits_at J stages.AwaitRelease s = refl
+awaits_at J stages.AwaitDelete s = refl
+awaits_at J stages.AwaitSecond s = refl
+awaits_at J stages.AwaitSecondModify s = refl
+awaits_at J _ s = refl
 
 -- the call whose answer is awaited is the last one of the peer of the stage
 awaited_is : (row : Subscriber) (ms : List Message) (v : ℕ) (o : Option Peer) → o ≡ peer_at (session_of (alone_to row ms v)).stage → awaited_call (alone_to row ms v) ≡ option_map (last_on (alone_to row ms v)) o
 awaited_is row ms v o is =
     let J = alone_to row ms v in
     let s = session_of J in
-    (fine_alone row ms v).awaiting ∙ awaits_at J s.stage s.side_addr s.side_teid ∙ ap (option_map (last_on J)) (sym is)
+    (fine_alone row ms v).awaiting ∙ awaits_at J s.stage s ∙ ap (option_map (last_on J)) (sym is)
 
 -- its answer, by the calls that the peer accepted
 pub answer_next : {C : Type 0} (f : C → Effect) (peer : Peer) (row : Subscriber) (ms : List Message) (v k : ℕ) (calls : List C) (answer : Answer) → Some peer ≡ peer_at (session_of (alone_to row ms v)).stage → map f calls ≡ effects_of (lane_of_peer peer) (alone_to row ms v) → k ≡ length calls → answer ≡ answer_of row (map f (take k calls)) → Some (inputs.Answer (lane_of_peer peer) k answer) ≡ next_input row ms (alone_to row ms v)

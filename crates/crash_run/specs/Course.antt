@@ -5,7 +5,7 @@ use Rattle.device_types.specs.declared.effect.Effect.TheVariants as effects
 use Rattle.device_types.specs.declared.event.Lane.TheVariants as lanes
 use Rattle.device_types.specs.declared.message.Message.{Message}
 use Rattle.device_types.specs.declared.session.Stage.{Stage}
-use Rattle.device_types.specs.declared.session.Stage.TheVariants.{AwaitVectors, AwaitLocation, AwaitCreate, AwaitModify, AwaitRelease, AwaitDelete}
+use Rattle.device_types.specs.declared.session.Stage.TheVariants.{AwaitVectors, AwaitLocation, AwaitCreate, AwaitModify, AwaitRelease, AwaitDelete, AwaitSecond, AwaitSecondModify}
 use Rattle.device_types.specs.declared.subscriber.Subscriber.{Subscriber}
 use Rattle.device_types.specs.Alone.{alone_to}
 use Rattle.device_types.specs.Journal.{effects_of, taken_count}
@@ -25,6 +25,8 @@ peer_at AwaitCreate = Some Gateway
 peer_at AwaitModify = Some Gateway
 peer_at AwaitRelease = Some Gateway
 peer_at AwaitDelete = Some Gateway
+peer_at AwaitSecond = Some Gateway
+peer_at AwaitSecondModify = Some Gateway
 peer_at _ = None
 
 -- peers that accepted these calls of the device of that number

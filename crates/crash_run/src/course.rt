@@ -38,9 +38,12 @@ fn peer_at(stage: Stage) -> Option<Peer>
 {
     match stage {
         Stage::AwaitVectors | Stage::AwaitLocation => Some(Peer::Server),
-        Stage::AwaitCreate | Stage::AwaitModify | Stage::AwaitRelease | Stage::AwaitDelete => {
-            Some(Peer::Gateway)
-        }
+        Stage::AwaitCreate
+        | Stage::AwaitModify
+        | Stage::AwaitRelease
+        | Stage::AwaitDelete
+        | Stage::AwaitSecond
+        | Stage::AwaitSecondModify => Some(Peer::Gateway),
         _ => None,
     }
 }

@@ -46,9 +46,9 @@ session_known J =
     ∙ ap (λ o. option_map_or (λ (t : Step). t.session) o opening) (slice_get-map (λ (e : Entry). e.step) J (length J - 1))
     ∙ session_of_steps (last_of J)
 
-input_in : (row : Subscriber) (ms : List Message) (J : List Entry) (stage : Stage) (addr teid : ℕ) → input_from ms (course_of J) (answer_for row (created_count J) (awaited_in stage addr teid)) ≡ input_by row ms J (awaited_in stage addr teid)
-input_in row ms J stages.AwaitVectors addr teid = refl
-input_in row ms J _ addr teid = refl
+input_in : (row : Subscriber) (ms : List Message) (J : List Entry) (stage : Stage) (s : Session) → input_from ms (course_of J) (answer_for row (created_count J) (awaited_in stage s)) ≡ input_by row ms J (awaited_in stage s)
+input_in row ms J stages.AwaitVectors s = refl
+input_in row ms J _ s = refl
 
 -- the course knows what comes next
 input_known : (row : Subscriber) (ms : List Message) (v : ℕ) → input_for row ms (course_of (alone_to row ms v)) ≡ next_input row ms (alone_to row ms v)
@@ -56,7 +56,7 @@ input_known row ms v =
     let J = alone_to row ms v in
     let s = session_of J in
     ap (λ t. input_from ms (course_of J) (answer_for row (created_count J) (awaited_by t))) (session_known J)
-    ∙ input_in row ms J s.stage s.side_addr s.side_teid
+    ∙ input_in row ms J s.stage s
     ∙ sym (input_by_stage row ms J (fine_alone row ms v))
 
 -- ---- one more entry

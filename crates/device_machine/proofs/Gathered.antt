@@ -138,24 +138,24 @@ gathered_behind J (e ∷ K) =
 
 -- ---- what can be written
 
-writable_downs : (es : List Effect) → All IsWritable es → All IsDown (filter_map down_in es)
-writable_downs [] all = All-nil IsDown
-writable_downs (effects.Down d ∷ es) all = All-cons IsDown d (filter_map down_in es) (All-head IsWritable (effects.Down d) es all) (writable_downs es (All-tail IsWritable (effects.Down d) es all))
-writable_downs (effects.Gateway c ∷ es) all = writable_downs es (All-tail IsWritable (effects.Gateway c) es all)
-writable_downs (effects.Subscriber c ∷ es) all = writable_downs es (All-tail IsWritable (effects.Subscriber c) es all)
+writable_downs : (row : Subscriber) (es : List Effect) → All (IsWritable row) es → All (IsDown row) (filter_map down_in es)
+writable_downs row [] all = All-nil (IsDown row)
+writable_downs row (effects.Down d ∷ es) all = All-cons (IsDown row) d (filter_map down_in es) (All-head (IsWritable row) (effects.Down d) es all) (writable_downs row es (All-tail (IsWritable row) (effects.Down d) es all))
+writable_downs row (effects.Gateway c ∷ es) all = writable_downs row es (All-tail (IsWritable row) (effects.Gateway c) es all)
+writable_downs row (effects.Subscriber c ∷ es) all = writable_downs row es (All-tail (IsWritable row) (effects.Subscriber c) es all)
 
-pub downs_written : (J : List Entry) → ((v : ℕ) (entry : Entry) → slice_get J v ≡ Some entry → All IsWritable entry.step.effects) → All IsDown (downs_of J)
-downs_written [] each = All-nil IsDown
-downs_written (e ∷ J) each =
+pub downs_written : (row : Subscriber) (J : List Entry) → ((v : ℕ) (entry : Entry) → slice_get J v ≡ Some entry → All (IsWritable row) entry.step.effects) → All (IsDown row) (downs_of J)
+downs_written row [] each = All-nil (IsDown row)
+downs_written row (e ∷ J) each =
     let here = effects_on lanes.Down e.step.effects in
     let rest = effects_of lanes.Down J in
-    subst (All IsDown) (sym (filter_map-append down_in here rest))
-    (All-append IsDown (filter_map down_in here) (filter_map down_in rest)
-    (writable_downs here (All-filter (is_on lanes.Down) IsWritable e.step.effects (each 0 e refl)))
-    (downs_written J (λ v. each (suc v))))
+    subst (All (IsDown row)) (sym (filter_map-append down_in here rest))
+    (All-append (IsDown row) (filter_map down_in here) (filter_map down_in rest)
+    (writable_downs row here (All-filter (is_on lanes.Down) (IsWritable row) e.step.effects (each 0 e refl)))
+    (downs_written row J (λ v. each (suc v))))
 
-pub end_written : (row : Subscriber) (ms : List Message) → IsSubscriber row → All IsMessage ms → length ms ≤ 100000 → All IsDown (end_of row ms).downs
-end_written row ms r a count = downs_written (alone_of row ms) (sound_writable row ms r a count)
+pub end_written : (row : Subscriber) (ms : List Message) → IsSubscriber row → All IsMessage ms → length ms ≤ 100000 → All (IsDown row) (end_of row ms).downs
+end_written row ms r a count = downs_written row (alone_of row ms) (sound_writable row ms r a count)
 
 -- ---- the end
 

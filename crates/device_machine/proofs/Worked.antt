@@ -1,5 +1,5 @@
 -- What becomes of devices, computed: one that gives a wrong response, and one that sends nothing.
-use Rattle.std.proofs.Common.{◌≡◌, [], ◌∷◌, false, refl}
+use Rattle.std.proofs.Common.{◌≡◌, [], ◌∷◌, false, None, refl}
 use Rattle.device_types.specs.declared.cause.CauseCode.{CauseCode}
 use Rattle.device_types.specs.declared.down.Down.TheVariants.{Nas, Release}
 use Rattle.device_types.specs.declared.effect.SubCall.TheVariants.{Vectors}
@@ -32,6 +32,8 @@ row = record {
   ambr_dl = 10;
   ambr_ul = 11;
   forbidden = [];
+  apn2 = None;
+  ip2 = None;
 }
 
 attach : Message

@@ -117,7 +117,7 @@ fn creates_in(input: &Input) -> u32
 {
     match input {
         Input::Answer {
-            answer: Answer::Created(_, _, _),
+            answer: Answer::Created(_, _, _) | Answer::SecondCreated(_, _, _),
             ..
         } => 1,
         _ => 0,
@@ -216,6 +216,11 @@ fn answer_for(
         Stage::AwaitModify => Some((Lane::Gateway, Answer::Modified)),
         Stage::AwaitRelease => Some((Lane::Gateway, Answer::Freed)),
         Stage::AwaitDelete => Some((Lane::Gateway, Answer::Deleted)),
+        Stage::AwaitSecond => Some((
+            Lane::Gateway,
+            Answer::SecondCreated(row.sgw, row.teid + created, row.ip2.unwrap_or(0)),
+        )),
+        Stage::AwaitSecondModify => Some((Lane::Gateway, Answer::SecondModified)),
         _ => None,
     })
 }

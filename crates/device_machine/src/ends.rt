@@ -117,5 +117,5 @@ pub fn end_can_be_written(_row: &Subscriber, _messages: &[Message])
     requires row { IsSubscriber _row.now }
     requires messages { All IsMessage _messages.now }
     requires count { length _messages.now ≤ 100000 }
-    ensures { All IsDown (end_of _row.now _messages.now).downs }
+    ensures { All (IsDown _row.now) (end_of _row.now _messages.now).downs }
 {}

@@ -23,11 +23,12 @@ use Rattle.device_types.specs.Alone.{input_at, next_input, entry_of, next_entry,
 use Rattle.device_types.specs.Awaited.{awaited_in, awaited_by, lane_of}
 use Rattle.device_types.specs.Journal.{session_of, effects_on, effects_of, pushed_count, is_message, taken_count, is_awaited, awaited_behind, awaited_call}
 use Rattle.device_types.specs.PeerAnswer.{create_count, answer_to, answer_of}
-use Rattle.device_types.specs.Rule.{is_settled}
+use Rattle.device_types.specs.Rule.{number, is_settled}
 use Rattle.device_types.specs.StepTable.{step_table, step_of}
 use Rattle.device_types.proofs.Calls.{is_peer, AreCalls, CallsAsStage, settled_calls}
 use Rattle.device_types.proofs.Journals.{session_more, effects_more, pushed_more, taken_more, awaited_more}
 use Rattle.device_types.proofs.Peers.{creates_append, answer_more}
+use Rattle.device_types.proofs.Single.{IsSingle, keeps_single, single_opening}
 
 -- ---- the calls of a step, by lane
 
@@ -72,21 +73,23 @@ gateway_of es calls h = gateway_calls es ∙ ap (effects_on lanes.Gateway) h
 subscriber_of : (es calls : List Effect) → filter is_peer es ≡ calls → effects_on lanes.Subscriber es ≡ effects_on lanes.Subscriber calls
 subscriber_of es calls h = subscriber_calls es ∙ ap (effects_on lanes.Subscriber) h
 
-awaits_at : (J : List Entry) (e : Entry) (stage : Stage) (addr teid : ℕ) → filter is_peer e.step.effects ≡ awaited_in stage addr teid → awaited_behind J e.step.effects ≡ awaits (J ++ e ∷ []) (awaited_in stage addr teid)
-awaits_at J e stages.AwaitVectors addr teid h = on_subscriber J e (effects.Subscriber subscriber.Vectors) (gateway_of e.step.effects (effects.Subscriber subscriber.Vectors ∷ []) h) (subscriber_of e.step.effects (effects.Subscriber subscriber.Vectors ∷ []) h) refl
-awaits_at J e stages.AwaitLocation addr teid h = on_subscriber J e (effects.Subscriber subscriber.Location) (gateway_of e.step.effects (effects.Subscriber subscriber.Location ∷ []) h) (subscriber_of e.step.effects (effects.Subscriber subscriber.Location ∷ []) h) refl
-awaits_at J e stages.AwaitCreate addr teid h = on_gateway J e (effects.Gateway gateway.Create) (gateway_of e.step.effects (effects.Gateway gateway.Create ∷ []) h) refl
-awaits_at J e stages.AwaitModify addr teid h = on_gateway J e (effects.Gateway (gateway.Modify addr teid)) (gateway_of e.step.effects (effects.Gateway (gateway.Modify addr teid) ∷ []) h) refl
-awaits_at J e stages.AwaitRelease addr teid h = on_gateway J e (effects.Gateway gateway.Release) (gateway_of e.step.effects (effects.Gateway gateway.Release ∷ []) h) refl
-awaits_at J e stages.AwaitDelete addr teid h = on_gateway J e (effects.Gateway gateway.Delete) (gateway_of e.step.effects (effects.Gateway gateway.Delete ∷ []) h) refl
-awaits_at J e _ addr teid h = on_none J e.step.effects (gateway_of e.step.effects [] h) (ap (position is_awaited) (subscriber_of e.step.effects [] h))
+awaits_at : (J : List Entry) (e : Entry) (stage : Stage) (s : Session) → filter is_peer e.step.effects ≡ awaited_in stage s → awaited_behind J e.step.effects ≡ awaits (J ++ e ∷ []) (awaited_in stage s)
+awaits_at J e stages.AwaitVectors s h = on_subscriber J e (effects.Subscriber subscriber.Vectors) (gateway_of e.step.effects (effects.Subscriber subscriber.Vectors ∷ []) h) (subscriber_of e.step.effects (effects.Subscriber subscriber.Vectors ∷ []) h) refl
+awaits_at J e stages.AwaitLocation s h = on_subscriber J e (effects.Subscriber subscriber.Location) (gateway_of e.step.effects (effects.Subscriber subscriber.Location ∷ []) h) (subscriber_of e.step.effects (effects.Subscriber subscriber.Location ∷ []) h) refl
+awaits_at J e stages.AwaitCreate s h = on_gateway J e (effects.Gateway gateway.Create) (gateway_of e.step.effects (effects.Gateway gateway.Create ∷ []) h) refl
+awaits_at J e stages.AwaitModify s h = on_gateway J e (effects.Gateway (gateway.Modify s.side_addr s.side_teid)) (gateway_of e.step.effects (effects.Gateway (gateway.Modify s.side_addr s.side_teid) ∷ []) h) refl
+awaits_at J e stages.AwaitRelease s h = on_gateway J e (effects.Gateway gateway.Release) (gateway_of e.step.effects (effects.Gateway gateway.Release ∷ []) h) refl
+awaits_at J e stages.AwaitDelete s h = on_gateway J e (effects.Gateway gateway.Delete) (gateway_of e.step.effects (effects.Gateway gateway.Delete ∷ []) h) refl
+awaits_at J e stages.AwaitSecond s h = on_gateway J e (effects.Gateway gateway.SecondCreate) (gateway_of e.step.effects (effects.Gateway gateway.SecondCreate ∷ []) h) refl
+awaits_at J e stages.AwaitSecondModify s h = on_gateway J e (effects.Gateway (gateway.SecondModify s.side2_addr s.side2_teid)) (gateway_of e.step.effects (effects.Gateway (gateway.SecondModify s.side2_addr s.side2_teid) ∷ []) h) refl
+awaits_at J e _ s h = on_none J e.step.effects (gateway_of e.step.effects [] h) (ap (position is_awaited) (subscriber_of e.step.effects [] h))
 
 awaits_of : (J : List Entry) (e : Entry) → CallsAsStage e.step → awaited_behind J e.step.effects ≡ awaits (J ++ e ∷ []) (awaited_by e.step.session)
 awaits_of J e c =
     let s = e.step.session in
     let purge = effects.Subscriber subscriber.Purge ∷ [] in
     ⊎_elim
-    (λ (h : filter is_peer e.step.effects ≡ awaited_by s). awaits_at J e s.stage s.side_addr s.side_teid h)
+    (λ (h : filter is_peer e.step.effects ≡ awaited_by s). awaits_at J e s.stage s h)
     (λ (h : (filter is_peer e.step.effects ≡ effects.Subscriber subscriber.Purge ∷ []) × (awaited_by s ≡ [])).
     on_none J e.step.effects (gateway_of e.step.effects purge h.0) (ap (position is_awaited) (subscriber_of e.step.effects purge h.0)) ∙ sym (ap (awaits (J ++ e ∷ [])) h.1))
     c
@@ -96,14 +99,14 @@ awaits_of J e c =
 pub created_more : (J : List Entry) (e : Entry) → created_count (J ++ e ∷ []) ≡ created_count J + cond (is_created e.input) 1 0
 created_more J e = search (rules, common_steps)
 
-creates_at : (stage : Stage) (addr teid : ℕ) → create_count (effects_on lanes.Gateway (awaited_in stage addr teid)) ≡ create_count (awaited_in stage addr teid)
-creates_at stages.AwaitVectors addr teid = refl
-creates_at _ addr teid = refl
+creates_at : (stage : Stage) (s : Session) → create_count (effects_on lanes.Gateway (awaited_in stage s)) ≡ create_count (awaited_in stage s)
+creates_at stages.AwaitVectors s = refl
+creates_at _ s = refl
 
 creates_of : (s : Session) (es : List Effect) → AreCalls (awaited_by s) (filter is_peer es) → create_count (effects_on lanes.Gateway es) ≡ create_count (awaited_by s)
 creates_of s es c =
     ⊎_elim
-    (λ (h : filter is_peer es ≡ awaited_by s). ap create_count (gateway_of es (awaited_by s) h) ∙ creates_at s.stage s.side_addr s.side_teid)
+    (λ (h : filter is_peer es ≡ awaited_by s). ap create_count (gateway_of es (awaited_by s) h) ∙ creates_at s.stage s)
     (λ (h : (filter is_peer es ≡ effects.Subscriber subscriber.Purge ∷ []) × (awaited_by s ≡ [])). ap create_count (gateway_of es (effects.Subscriber subscriber.Purge ∷ []) h.0) ∙ sym (ap create_count h.1))
     c
 
@@ -117,22 +120,25 @@ pub record Fine (row : Subscriber) (J : List Entry) : Type 0 where
   pub awaiting : awaited_call J ≡ awaits J (awaited_by (session_of J))
   pub answering : Answerable row J (awaited_by (session_of J))
   pub creating : create_count (effects_of lanes.Gateway J) ≡ created_count J + create_count (awaited_by (session_of J))
+  pub single : IsSingle (session_of J)
 
 -- the answer to the one call of a new entry
 answer_at : (row : Subscriber) (J : List Entry) (e : Entry) (lane : Lane) (c : Effect) → effects_on lane e.step.effects ≡ c ∷ [] → answer_of row (effects_of lane (J ++ e ∷ [])) ≡ answer_to row (create_count (effects_of lane J)) c
 answer_at row J e lane c h = ap (answer_of row) (effects_more lane J e ∙ ap (λ xs. effects_of lane J ++ xs) h) ∙ answer_more row (effects_of lane J) c
 
-answerable_at : (row : Subscriber) (J : List Entry) (e : Entry) (stage : Stage) (addr teid : ℕ) → create_count (effects_of lanes.Gateway J) ≡ created_count (J ++ e ∷ []) → filter is_peer e.step.effects ≡ awaited_in stage addr teid → Answerable row (J ++ e ∷ []) (awaited_in stage addr teid)
-answerable_at row J e stages.AwaitVectors addr teid n h = answer_at row J e lanes.Subscriber (effects.Subscriber subscriber.Vectors) (subscriber_of e.step.effects (effects.Subscriber subscriber.Vectors ∷ []) h)
-answerable_at row J e stages.AwaitLocation addr teid n h = answer_at row J e lanes.Subscriber (effects.Subscriber subscriber.Location) (subscriber_of e.step.effects (effects.Subscriber subscriber.Location ∷ []) h)
-answerable_at row J e stages.AwaitCreate addr teid n h = answer_at row J e lanes.Gateway (effects.Gateway gateway.Create) (gateway_of e.step.effects (effects.Gateway gateway.Create ∷ []) h) ∙ ap (λ m. answer_to row m (effects.Gateway gateway.Create)) n
-answerable_at row J e stages.AwaitModify addr teid n h = answer_at row J e lanes.Gateway (effects.Gateway (gateway.Modify addr teid)) (gateway_of e.step.effects (effects.Gateway (gateway.Modify addr teid) ∷ []) h)
-answerable_at row J e stages.AwaitRelease addr teid n h = answer_at row J e lanes.Gateway (effects.Gateway gateway.Release) (gateway_of e.step.effects (effects.Gateway gateway.Release ∷ []) h)
-answerable_at row J e stages.AwaitDelete addr teid n h = answer_at row J e lanes.Gateway (effects.Gateway gateway.Delete) (gateway_of e.step.effects (effects.Gateway gateway.Delete ∷ []) h)
-answerable_at row J e _ addr teid n h = tt
+answerable_at : (row : Subscriber) (J : List Entry) (e : Entry) (stage : Stage) (s : Session) → create_count (effects_of lanes.Gateway J) ≡ created_count (J ++ e ∷ []) → filter is_peer e.step.effects ≡ awaited_in stage s → Answerable row (J ++ e ∷ []) (awaited_in stage s)
+answerable_at row J e stages.AwaitVectors s n h = answer_at row J e lanes.Subscriber (effects.Subscriber subscriber.Vectors) (subscriber_of e.step.effects (effects.Subscriber subscriber.Vectors ∷ []) h)
+answerable_at row J e stages.AwaitLocation s n h = answer_at row J e lanes.Subscriber (effects.Subscriber subscriber.Location) (subscriber_of e.step.effects (effects.Subscriber subscriber.Location ∷ []) h)
+answerable_at row J e stages.AwaitCreate s n h = answer_at row J e lanes.Gateway (effects.Gateway gateway.Create) (gateway_of e.step.effects (effects.Gateway gateway.Create ∷ []) h) ∙ ap (λ m. answer_to row m (effects.Gateway gateway.Create)) n
+answerable_at row J e stages.AwaitModify s n h = answer_at row J e lanes.Gateway (effects.Gateway (gateway.Modify s.side_addr s.side_teid)) (gateway_of e.step.effects (effects.Gateway (gateway.Modify s.side_addr s.side_teid) ∷ []) h)
+answerable_at row J e stages.AwaitRelease s n h = answer_at row J e lanes.Gateway (effects.Gateway gateway.Release) (gateway_of e.step.effects (effects.Gateway gateway.Release ∷ []) h)
+answerable_at row J e stages.AwaitDelete s n h = answer_at row J e lanes.Gateway (effects.Gateway gateway.Delete) (gateway_of e.step.effects (effects.Gateway gateway.Delete ∷ []) h)
+answerable_at row J e stages.AwaitSecond s n h = answer_at row J e lanes.Gateway (effects.Gateway gateway.SecondCreate) (gateway_of e.step.effects (effects.Gateway gateway.SecondCreate ∷ []) h) ∙ ap (λ m. answer_to row m (effects.Gateway gateway.SecondCreate)) n
+answerable_at row J e stages.AwaitSecondModify s n h = answer_at row J e lanes.Gateway (effects.Gateway (gateway.SecondModify s.side2_addr s.side2_teid)) (gateway_of e.step.effects (effects.Gateway (gateway.SecondModify s.side2_addr s.side2_teid) ∷ []) h)
+answerable_at row J e _ s n h = tt
 
-fine_more : (row : Subscriber) (J : List Entry) (e : Entry) → Fine row J → CallsAsStage e.step → cond (is_created e.input) 1 0 ≡ create_count (awaited_by (session_of J)) → Fine row (J ++ e ∷ [])
-fine_more row J e f c n =
+fine_more : (row : Subscriber) (J : List Entry) (e : Entry) → Fine row J → CallsAsStage e.step → cond (is_created e.input) 1 0 ≡ create_count (awaited_by (session_of J)) → IsSingle e.step.session → Fine row (J ++ e ∷ [])
+fine_more row J e f c n single =
     let s = e.step.session in
     let count : create_count (effects_of lanes.Gateway J) ≡ created_count (J ++ e ∷ []) = f.creating ∙ ap (λ m. created_count J + m) (sym n) ∙ sym (created_more J e) in
     let stage : awaited_by (session_of (J ++ e ∷ [])) ≡ awaited_by s = ap awaited_by (session_more J e) in
@@ -141,11 +147,12 @@ fine_more row J e f c n =
       awaiting = awaited_more J e ∙ awaits_of J e c ∙ sym (ap (awaits (J ++ e ∷ [])) stage);
       answering = subst (λ (xs : List Effect). Answerable row (J ++ e ∷ []) xs) (sym stage)
           (⊎_elim
-          (λ (h : filter is_peer e.step.effects ≡ awaited_by s). answerable_at row J e s.stage s.side_addr s.side_teid count h)
+          (λ (h : filter is_peer e.step.effects ≡ awaited_by s). answerable_at row J e s.stage s count h)
           (λ (h : (filter is_peer e.step.effects ≡ effects.Subscriber subscriber.Purge ∷ []) × (awaited_by s ≡ [])). subst (λ (xs : List Effect). Answerable row (J ++ e ∷ []) xs) (sym h.1) tt)
           c);
       creating = made ∙ ap (λ m. m + create_count (effects_on lanes.Gateway e.step.effects)) count
           ∙ ap (λ m. created_count (J ++ e ∷ []) + m) (creates_of s e.step.effects c ∙ sym (ap create_count stage));
+      single = subst (λ (t : Session). IsSingle t) (sym (session_more J e)) single;
     }
 
 -- ---- an answer to the call of the stage
@@ -158,6 +165,8 @@ rank stages.AwaitCreate = 1
 rank stages.AwaitModify = 1
 rank stages.AwaitRelease = 1
 rank stages.AwaitDelete = 1
+rank stages.AwaitSecond = 1
+rank stages.AwaitSecondModify = 1
 rank _ = 0
 
 abbrev Answered : Subscriber → Session → Lane → ℕ → ℕ → List Effect → Type 0
@@ -165,34 +174,40 @@ Answered row s l k n [] = Unit {0}
 Answered row s l k n (c ∷ cs) =
     CallsAsStage (step_of row s (inputs.Answer l k (answer_to row n c))) × (rank (step_of row s (inputs.Answer l k (answer_to row n c))).session.stage < rank s.stage)
 
-answered_at : (row : Subscriber) (s : Session) (l : Lane) (k n : ℕ) (stage : Stage) → Answered row (record s { stage = stage }) l k n (awaited_by (record s { stage = stage }))
+answered_at : (row : Subscriber) (s : Session) (l : Lane) (k n : ℕ) (stage : Stage) → number stage < 16 → Answered row (record s { stage = stage }) l k n (awaited_by (record s { stage = stage }))
 unfolding step_table step_of
-answered_at row s l k n stages.AwaitVectors = (inl refl, lit< tt)
-answered_at row s l k n stages.AwaitLocation = (inl refl, lit< tt)
-answered_at row s l k n stages.AwaitCreate = (inl refl, lit< tt)
-answered_at row s l k n stages.AwaitModify = (inl refl, lit< tt)
-answered_at row s l k n stages.AwaitRelease = (inl refl, lit< tt)
-answered_at row s l k n stages.AwaitDelete =
+answered_at row s l k n stages.AwaitVectors low = (inl refl, lit< tt)
+answered_at row s l k n stages.AwaitLocation low = (inl refl, lit< tt)
+answered_at row s l k n stages.AwaitCreate low = (inl refl, lit< tt)
+answered_at row s l k n stages.AwaitModify low = (inl refl, lit< tt)
+answered_at row s l k n stages.AwaitRelease low = (inl refl, lit< tt)
+answered_at row s l k n stages.AwaitSecond low = absurd (omega arith)
+answered_at row s l k n stages.AwaitSecondModify low = absurd (omega arith)
+answered_at row s l k n stages.AwaitDelete low =
     (elim s.off as (λ off. CallsAsStage (step_of row (record s { stage = stages.AwaitDelete; off = off }) (inputs.Answer l k answers.Deleted))) [ true ↦ inr (refl, refl) | false ↦ inr (refl, refl) ], lit< tt)
-answered_at row s l k n _ = tt
+answered_at row s l k n _ low = tt
 
-created_at : (row : Subscriber) (l : Lane) (k n : ℕ) (stage : Stage) (addr teid : ℕ) (c : Effect) (cs : List Effect) → awaited_in stage addr teid ≡ c ∷ cs → cond (is_created (inputs.Answer l k (answer_to row n c))) 1 0 ≡ create_count (awaited_in stage addr teid)
-created_at row l k n stages.AwaitVectors addr teid c cs h = let e : c ≡ effects.Subscriber subscriber.Vectors = cc in rw e refl
-created_at row l k n stages.AwaitLocation addr teid c cs h = let e : c ≡ effects.Subscriber subscriber.Location = cc in rw e refl
-created_at row l k n stages.AwaitCreate addr teid c cs h = let e : c ≡ effects.Gateway gateway.Create = cc in rw e refl
-created_at row l k n stages.AwaitModify addr teid c cs h = let e : c ≡ effects.Gateway (gateway.Modify addr teid) = cc in rw e refl
-created_at row l k n stages.AwaitRelease addr teid c cs h = let e : c ≡ effects.Gateway gateway.Release = cc in rw e refl
-created_at row l k n stages.AwaitDelete addr teid c cs h = let e : c ≡ effects.Gateway gateway.Delete = cc in rw e refl
-created_at row l k n _ addr teid c cs h = absurd (cc)
+created_at : (row : Subscriber) (l : Lane) (k n : ℕ) (stage : Stage) (s : Session) (c : Effect) (cs : List Effect) → awaited_in stage s ≡ c ∷ cs → cond (is_created (inputs.Answer l k (answer_to row n c))) 1 0 ≡ create_count (awaited_in stage s)
+created_at row l k n stages.AwaitVectors s c cs h = let e : c ≡ effects.Subscriber subscriber.Vectors = cc in rw e refl
+created_at row l k n stages.AwaitLocation s c cs h = let e : c ≡ effects.Subscriber subscriber.Location = cc in rw e refl
+created_at row l k n stages.AwaitCreate s c cs h = let e : c ≡ effects.Gateway gateway.Create = cc in rw e refl
+created_at row l k n stages.AwaitModify s c cs h = let e : c ≡ effects.Gateway (gateway.Modify s.side_addr s.side_teid) = cc in rw e refl
+created_at row l k n stages.AwaitRelease s c cs h = let e : c ≡ effects.Gateway gateway.Release = cc in rw e refl
+created_at row l k n stages.AwaitDelete s c cs h = let e : c ≡ effects.Gateway gateway.Delete = cc in rw e refl
+created_at row l k n stages.AwaitSecond s c cs h = let e : c ≡ effects.Gateway gateway.SecondCreate = cc in rw e refl
+created_at row l k n stages.AwaitSecondModify s c cs h = let e : c ≡ effects.Gateway (gateway.SecondModify s.side2_addr s.side2_teid) = cc in rw e refl
+created_at row l k n _ s c cs h = absurd (cc)
 
-settled_at : (stage : Stage) (addr teid : ℕ) → awaited_in stage addr teid ≡ [] → is_settled stage ≡ true
-settled_at stages.AwaitVectors addr teid h = absurd (cc)
-settled_at stages.AwaitLocation addr teid h = absurd (cc)
-settled_at stages.AwaitCreate addr teid h = absurd (cc)
-settled_at stages.AwaitModify addr teid h = absurd (cc)
-settled_at stages.AwaitRelease addr teid h = absurd (cc)
-settled_at stages.AwaitDelete addr teid h = absurd (cc)
-settled_at _ addr teid h = refl
+settled_at : (stage : Stage) (s : Session) → awaited_in stage s ≡ [] → is_settled stage ≡ true
+settled_at stages.AwaitVectors s h = absurd (cc)
+settled_at stages.AwaitLocation s h = absurd (cc)
+settled_at stages.AwaitCreate s h = absurd (cc)
+settled_at stages.AwaitModify s h = absurd (cc)
+settled_at stages.AwaitRelease s h = absurd (cc)
+settled_at stages.AwaitDelete s h = absurd (cc)
+settled_at stages.AwaitSecond s h = absurd (cc)
+settled_at stages.AwaitSecondModify s h = absurd (cc)
+settled_at _ s h = refl
 
 pub rank_low : (stage : Stage) → rank stage ≤ 2
 rank_low stages.AwaitVectors = lit≤ tt
@@ -205,16 +220,20 @@ settled_rank stages.AwaitCreate h = absurd (cc)
 settled_rank stages.AwaitModify h = absurd (cc)
 settled_rank stages.AwaitRelease h = absurd (cc)
 settled_rank stages.AwaitDelete h = absurd (cc)
+settled_rank stages.AwaitSecond h = absurd (cc)
+settled_rank stages.AwaitSecondModify h = absurd (cc)
 settled_rank _ h = refl
 
-calls_of_rank : (stage : Stage) (addr teid : ℕ) → rank stage ≡ 0 → awaited_in stage addr teid ≡ []
-calls_of_rank stages.AwaitVectors addr teid h = absurd (omega arith)
-calls_of_rank stages.AwaitLocation addr teid h = absurd (omega arith)
-calls_of_rank stages.AwaitCreate addr teid h = absurd (omega arith)
-calls_of_rank stages.AwaitModify addr teid h = absurd (omega arith)
-calls_of_rank stages.AwaitRelease addr teid h = absurd (omega arith)
-calls_of_rank stages.AwaitDelete addr teid h = absurd (omega arith)
-calls_of_rank _ addr teid h = refl
+calls_of_rank : (stage : Stage) (s : Session) → rank stage ≡ 0 → awaited_in stage s ≡ []
+calls_of_rank stages.AwaitVectors s h = absurd (omega arith)
+calls_of_rank stages.AwaitLocation s h = absurd (omega arith)
+calls_of_rank stages.AwaitCreate s h = absurd (omega arith)
+calls_of_rank stages.AwaitModify s h = absurd (omega arith)
+calls_of_rank stages.AwaitRelease s h = absurd (omega arith)
+calls_of_rank stages.AwaitDelete s h = absurd (omega arith)
+calls_of_rank stages.AwaitSecond s h = absurd (omega arith)
+calls_of_rank stages.AwaitSecondModify s h = absurd (omega arith)
+calls_of_rank _ s h = refl
 
 -- ---- what comes next, by the call of the stage
 
@@ -261,11 +280,11 @@ taking : (row : Subscriber) (ms : List Message) (J : List Entry) (o : Option Mes
 taking row ms J None input g e h f = absurd (cc)
 taking row ms J (Some m) input g e h f =
     let s = session_of J in
-    let settles = settled_at s.stage s.side_addr s.side_teid h in
+    let settles = settled_at s.stage s h in
     let is : inputs.Message m ≡ input = cc in
     let none : cond (is_created (inputs.Message m)) 1 0 ≡ create_count (awaited_by s) = sym (ap create_count h) in
     subst (λ (i : Input). Next row ms J i) is (
-      fine_more row J (entry_of row J (inputs.Message m)) f (settled_calls row s (inputs.Message m) settles) none,
+      fine_more row J (entry_of row J (inputs.Message m)) f (settled_calls row s (inputs.Message m) settles) none (keeps_single row s (inputs.Message m) f.single),
       inl (record {
         message = refl;
         calm = f.awaiting ∙ ap (awaits J) h;
@@ -284,10 +303,10 @@ turn_by row ms J (c ∷ cs) input h g f =
     let i = inputs.Answer l k (answer_to row (created_count J) c) in
     let e = entry_of row J i in
     let is : i ≡ input = cc in
-    let a = subst (λ (xs : List Effect). Answered row s l k (created_count J) xs) h (answered_at row s l k (created_count J) s.stage) in
+    let a = subst (λ (xs : List Effect). Answered row s l k (created_count J) xs) h (answered_at row s l k (created_count J) s.stage f.single.1) in
     let lower = a.1 in
     subst (λ (x : Input). Next row ms J x) is (
-      fine_more row J e f a.0 (created_at row l k (created_count J) s.stage s.side_addr s.side_teid c cs h),
+      fine_more row J e f a.0 (created_at row l k (created_count J) s.stage s c cs h) (keeps_single row s i f.single),
       inr (record {
         answer = refl;
         lower = subst (λ (t : Session). rank t.stage < rank s.stage) (sym (session_more J e)) lower;
@@ -302,7 +321,7 @@ fine_with row ms J None n f = f
 fine_with row ms J (Some input) n f = (turn row ms J input n f).0
 
 pub fine_alone : (row : Subscriber) (ms : List Message) (v : ℕ) → Fine row (alone_to row ms v)
-fine_alone row ms zero = record { awaiting = refl; answering = tt; creating = refl }
+fine_alone row ms zero = record { awaiting = refl; answering = tt; creating = refl; single = single_opening }
 fine_alone row ms (suc v) = fine_with row ms (alone_to row ms v) (next_input row ms (alone_to row ms v)) refl (fine_alone row ms v)
 
 -- ---- no entry is left at the end
@@ -370,7 +389,7 @@ ended row ms J f z =
     let past : length ms ≤ taken_count J = omega arith in
     let low : rank s.stage ≡ 0 = omega arith in
     input_by_stage row ms J f
-    ∙ ap (input_by row ms J) (calls_of_rank s.stage s.side_addr s.side_teid low)
+    ∙ ap (input_by row ms J) (calls_of_rank s.stage s low)
     ∙ ap (option_map inputs.Message) (slice_get_past ms (taken_count J) past)
 
 -- no input is left

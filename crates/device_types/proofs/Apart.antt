@@ -86,12 +86,16 @@ message row s m (bodies.Response res) = opposite (here s m && (number s.stage ==
 message row s m bodies.Secured = one (here s m && (number s.stage == 3))
 message row s m bodies.SecurityRefused = one (here s m && (number s.stage == 3))
 message row s m bodies.AttachDone = done (here s m) s.stage
-message row s m (bodies.ContextDone addr teid) = context (here s m) s.stage
+message row s m (bodies.ContextDone addr teid second) = context (here s m) s.stage
 message row s m bodies.ContextFailed = refused (here s m) s.stage
 message row s m (bodies.ReleaseAsked cause) = asked (here s m) s.stage
 message row s m bodies.Released = one (here s m && (number s.stage == 13))
 message row s m (bodies.Capability octets) = one (here s m && is_settled s.stage)
 message row s m bodies.Data = one (number s.stage == 14)
+message row s m (bodies.PdnRequest pti) = none
+message row s m bodies.PdnAccept = none
+message row s m (bodies.SecondDone addr teid) = none
+message row s m bodies.SecondRefused = none
 
 answer : (row : Subscriber) (s : Session) (a : Answer) → count_by (λ r. r.fits) (attach_answer s a ++ service_answer s a ++ [] ++ detach_answer s a) ≤ 1
 answer row s (answers.Vectors rand autn res key) = one (number s.stage == 1)
@@ -101,6 +105,8 @@ answer row s (answers.Created sgw teid ip) = one (number s.stage == 5)
 answer row s answers.Modified = one (number s.stage == 9)
 answer row s answers.Freed = one (number s.stage == 12)
 answer row s answers.Deleted = one (number s.stage == 15)
+answer row s (answers.SecondCreated sgw teid ip) = none
+answer row s answers.SecondModified = none
 
 pub apart : (row : Subscriber) (s : Session) (input : Input) → fit_count row s input ≤ 1
 unfolding step_table

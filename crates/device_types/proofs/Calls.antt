@@ -106,27 +106,29 @@ both : (a b : Bool) → (a && b) ≡ true → (a ≡ true) × (b ≡ true)
 both true b h = (refl, h)
 both false b h = absurd (cc)
 
-settled_stage : (stage : Stage) (addr teid : ℕ) → is_settled stage ≡ true → AreCalls (awaited_in stage addr teid) []
-settled_stage stages.AwaitVectors addr teid h = absurd (cc)
-settled_stage stages.AwaitLocation addr teid h = absurd (cc)
-settled_stage stages.AwaitCreate addr teid h = absurd (cc)
-settled_stage stages.AwaitModify addr teid h = absurd (cc)
-settled_stage stages.AwaitRelease addr teid h = absurd (cc)
-settled_stage stages.AwaitDelete addr teid h = absurd (cc)
-settled_stage _ addr teid h = inl refl
+settled_stage : (stage : Stage) (s : Session) → is_settled stage ≡ true → AreCalls (awaited_in stage s) []
+settled_stage stages.AwaitVectors s h = absurd (cc)
+settled_stage stages.AwaitLocation s h = absurd (cc)
+settled_stage stages.AwaitCreate s h = absurd (cc)
+settled_stage stages.AwaitModify s h = absurd (cc)
+settled_stage stages.AwaitRelease s h = absurd (cc)
+settled_stage stages.AwaitDelete s h = absurd (cc)
+settled_stage stages.AwaitSecond s h = absurd (cc)
+settled_stage stages.AwaitSecondModify s h = absurd (cc)
+settled_stage _ s h = inl refl
 
-connected_stage : (stage : Stage) (addr teid : ℕ) → (number stage == 11) ≡ true → AreCalls (awaited_in stage addr teid) []
-connected_stage stages.Connected addr teid h = inl refl
-connected_stage _ addr teid h = absurd (cc)
+connected_stage : (stage : Stage) (s : Session) → (number stage == 11) ≡ true → AreCalls (awaited_in stage s) []
+connected_stage stages.Connected s h = inl refl
+connected_stage _ s h = absurd (cc)
 
-idle_stage : (stage : Stage) (addr teid : ℕ) → (number stage == 14) ≡ true → AreCalls (awaited_in stage addr teid) []
-idle_stage stages.Idle addr teid h = inl refl
-idle_stage _ addr teid h = absurd (cc)
+idle_stage : (stage : Stage) (s : Session) → (number stage == 14) ≡ true → AreCalls (awaited_in stage s) []
+idle_stage stages.Idle s h = inl refl
+idle_stage _ s h = absurd (cc)
 
-gone_stage : (stage : Stage) (registered : Bool) (addr teid : ℕ) → is_gone stage registered ≡ true → AreCalls (awaited_in stage addr teid) []
-gone_stage stages.Detached registered addr teid h = inl refl
-gone_stage stages.Releasing registered addr teid h = inl refl
-gone_stage _ registered addr teid h = absurd (cc)
+gone_stage : (stage : Stage) (registered : Bool) (s : Session) → is_gone stage registered ≡ true → AreCalls (awaited_in stage s) []
+gone_stage stages.Detached registered s h = inl refl
+gone_stage stages.Releasing registered s h = inl refl
+gone_stage _ registered s h = absurd (cc)
 
 -- ---- lines
 
@@ -150,24 +152,24 @@ message row s m (bodies.Attach plmn tac eea eia pti) =
     let n = (moves_connection m.station m.enb s).session in
     ((λ h. rw (filter-append, quiet_move) (dropped normal_release n)), ((λ h. rw (filter-append, quiet_move) (inl refl)), tt))
 message row s m bodies.Service =
-    ((λ h. rw (filter-append, quiet_move) (inl refl)), ((λ h. settled_stage s.stage s.side_addr s.side_teid (both (settled s) _ h).0), tt))
+    ((λ h. rw (filter-append, quiet_move) (inl refl)), ((λ h. settled_stage s.stage s (both (settled s) _ h).0), tt))
 message row s m (bodies.Area first plmn tac) =
     let n = (moves_connection m.station m.enb s).session in (
       (λ h. rw (filter-append, quiet_move) (freed normal_release n)),
       (
         (λ h. rw (filter-append, quiet_move) (freed normal_release (record n { plmn = plmn; tac = tac }))),
         (
-          (λ h. settled_stage s.stage s.side_addr s.side_teid (both first (settled s) (both (first && settled s) _ h).0).1),
+          (λ h. settled_stage s.stage s (both first (settled s) (both (first && settled s) _ h).0).1),
           (
-            (λ h. connected_stage s.stage s.side_addr s.side_teid (both (not first && here s m) _ (both (not first && here s m && at stages.Connected s) _ h).0).1),
-            ((λ h. connected_stage s.stage s.side_addr s.side_teid (both (not first && here s m) _ (both (not first && here s m && at stages.Connected s) _ h).0).1), tt),
+            (λ h. connected_stage s.stage _ (both (not first && here s m) _ (both (not first && here s m && at stages.Connected s) _ h).0).1),
+            ((λ h. connected_stage s.stage _ (both (not first && here s m) _ (both (not first && here s m && at stages.Connected s) _ h).0).1), tt),
           ),
         ),
       ),
     )
 message row s m (bodies.Detach first off) =
     let n = (moves_connection m.station m.enb s).session in (
-      (λ h. greeted off m.station m.enb s (gone_stage s.stage s.registered s.side_addr s.side_teid (both first _ h).1)),
+      (λ h. greeted off m.station m.enb s (gone_stage s.stage s.registered s (both first _ h).1)),
       (
         (λ h. rw (filter-append, quiet_move) (gone_with off n)),
         ((λ h. gone_with off s), tt),
@@ -177,12 +179,16 @@ message row s m (bodies.Response res) = (λ h. inl refl, ((λ h. dropped Rattle.
 message row s m bodies.Secured = (λ h. inl refl, tt)
 message row s m bodies.SecurityRefused = (λ h. dropped Rattle.device_types.specs.Acts.unspecified s, tt)
 message row s m bodies.AttachDone = (λ h. inl refl, ((λ h. inl refl), tt))
-message row s m (bodies.ContextDone addr teid) = (λ h. inl refl, ((λ h. inl refl), ((λ h. inl refl), tt)))
+message row s m (bodies.ContextDone addr teid second) = (λ h. inl refl, ((λ h. inl refl), ((λ h. inl refl), tt)))
 message row s m bodies.ContextFailed = (λ h. dropped Rattle.device_types.specs.Acts.unspecified s, ((λ h. freed Rattle.device_types.specs.Acts.unspecified s), tt))
 message row s m (bodies.ReleaseAsked cause) = (λ h. dropped cause s, ((λ h. freed cause s), tt))
 message row s m bodies.Released = (λ h. released s.registered s, tt)
-message row s m (bodies.Capability octets) = (λ h. settled_stage s.stage s.side_addr s.side_teid (both (here s m) _ h).1, tt)
-message row s m bodies.Data = (λ h. idle_stage s.stage s.side_addr s.side_teid h, tt)
+message row s m (bodies.Capability octets) = (λ h. settled_stage s.stage _ (both (here s m) _ h).1, tt)
+message row s m bodies.Data = (λ h. idle_stage s.stage s h, tt)
+message row s m (bodies.PdnRequest pti) = tt
+message row s m bodies.PdnAccept = tt
+message row s m (bodies.SecondDone addr teid) = tt
+message row s m bodies.SecondRefused = tt
 
 answer : (row : Subscriber) (s : Session) (a : Answer) → RulesCall s (attach_answer s a ++ service_answer s a ++ [] ++ detach_answer s a)
 answer row s (answers.Vectors rand autn res key) = (λ h. inl refl, tt)
@@ -191,6 +197,8 @@ answer row s answers.Purged = tt
 answer row s (answers.Created sgw teid ip) = (λ h. inl refl, tt)
 answer row s answers.Modified = (λ h. inl refl, tt)
 answer row s answers.Freed = (λ h. inl refl, tt)
+answer row s (answers.SecondCreated sgw teid ip) = tt
+answer row s answers.SecondModified = tt
 answer row s answers.Deleted = (λ h. unless s.off, tt)
   where
     unless : (off : Bool) → CallsAsStage (run (Rattle.device_types.specs.Acts.sets (λ t. record t { bearer = bearers.None }) ∷ Rattle.device_types.specs.Acts.asks Rattle.device_types.specs.declared.effect.SubCall.TheVariants.Purge ∷ tells_unless off DetachAccept ∷ Rattle.device_types.specs.Acts.releases ∷ []) s)
@@ -219,7 +227,7 @@ unfolding step_of
 settled_calls row s input h =
     ⊎_elim
     (λ (c : CallsAsStage (unwrap_or (fitting (step_table row s input) s) (made s []))). c)
-    (λ (e : fitting (step_table row s input) s ≡ None). rw e (settled_stage s.stage s.side_addr s.side_teid h))
+    (λ (e : fitting (step_table row s input) s ≡ None). rw e (settled_stage s.stage s h))
     (rules_call (step_table row s input) s (all_rules row s input))
 
 -- each awaited effect is a call
@@ -231,14 +239,14 @@ awaited_calls (effects.Subscriber subscriber.Vectors ∷ es) = ap (λ xs. effect
 awaited_calls (effects.Subscriber subscriber.Location ∷ es) = ap (λ xs. effects.Subscriber subscriber.Location ∷ xs) (awaited_calls es)
 awaited_calls (effects.Subscriber subscriber.Purge ∷ es) = awaited_calls es
 
-one_at : (stage : Stage) (addr teid : ℕ) → length (filter is_awaited (awaited_in stage addr teid)) ≤ 1
-one_at stages.AwaitVectors addr teid = lit≤ tt
-one_at _ addr teid = lit≤ tt
+one_at : (stage : Stage) (s : Session) → length (filter is_awaited (awaited_in stage s)) ≤ 1
+one_at stages.AwaitVectors s = lit≤ tt
+one_at _ s = lit≤ tt
 
 one_of : (s : Session) (es : List Effect) → AreCalls (awaited_by s) (filter is_peer es) → length (filter is_awaited es) ≤ 1
 one_of s es c =
     ⊎_elim
-    (λ (e : filter is_peer es ≡ awaited_by s). rw (awaited_calls es, e) (one_at s.stage s.side_addr s.side_teid))
+    (λ (e : filter is_peer es ≡ awaited_by s). rw (awaited_calls es, e) (one_at s.stage s))
     (λ (e : (filter is_peer es ≡ effects.Subscriber subscriber.Purge ∷ []) × (awaited_by s ≡ [])). rw (awaited_calls es, e.0) (lit≤ tt))
     c
 
@@ -261,14 +269,14 @@ none_fits (r ∷ rs) s h = rw (sum_by-cons (λ (x : Rule). cond x.fits 1 0) r rs
     by_test false k e = let none = k e in omega arith
 
 -- where a row fits, the awaited call of its step is that of the stage
-of_awaited : (stage : Stage) (addr teid : ℕ) → filter is_awaited (awaited_in stage addr teid) ≡ awaited_in stage addr teid
-of_awaited stages.AwaitVectors addr teid = refl
-of_awaited _ addr teid = refl
+of_awaited : (stage : Stage) (s : Session) → filter is_awaited (awaited_in stage s) ≡ awaited_in stage s
+of_awaited stages.AwaitVectors s = refl
+of_awaited _ s = refl
 
 stage_of : (s : Session) (es : List Effect) → AreCalls (awaited_by s) (filter is_peer es) → filter is_awaited es ≡ awaited_by s
 stage_of s es c =
     ⊎_elim
-    (λ (e : filter is_peer es ≡ awaited_by s). rw (awaited_calls es, e) (of_awaited s.stage s.side_addr s.side_teid))
+    (λ (e : filter is_peer es ≡ awaited_by s). rw (awaited_calls es, e) (of_awaited s.stage s))
     (λ (e : (filter is_peer es ≡ effects.Subscriber subscriber.Purge ∷ []) × (awaited_by s ≡ [])). rw (awaited_calls es, e.0, e.1) refl)
     c
 

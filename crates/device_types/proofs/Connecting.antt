@@ -258,7 +258,7 @@ message row s m bodies.AttachDone p l c = (
   inl ((λ h. here_on s m (number s.stage == 6) l h), ((λ t on. silent _ on), tt)),
   (inl ((λ h. here_on s m (number s.stage == 7) l h), ((λ t on. making _ _ on tt), ((λ t on. silent _ on), tt))), tt),
 )
-message row s m (bodies.ContextDone addr teid) p l c = (
+message row s m (bodies.ContextDone addr teid second) p l c = (
   inl ((λ h. here_on s m (number s.stage == 6) l h), ((λ t on. silent _ on), ((λ t on. silent _ on), tt))),
   (
     inl ((λ h. here_on s m (number s.stage == 8) l h), ((λ t on. silent _ on), ((λ t on. making _ _ on tt), ((λ t on. silent _ on), tt)))),
@@ -272,6 +272,10 @@ message row s m (bodies.ReleaseAsked cause) p l c =
 message row s m bodies.Released p l c = (inr (inr (λ h. released_in s.registered s)), tt)
 message row s m (bodies.Capability octets) p l c = (inr (inr (λ h. same_stage s c _)), tt)
 message row s m bodies.Data p l c = (inr (inr (λ h. paged s c)), tt)
+message row s m (bodies.PdnRequest pti) p l c = tt
+message row s m bodies.PdnAccept p l c = tt
+message row s m (bodies.SecondDone addr teid) p l c = tt
+message row s m bodies.SecondRefused p l c = tt
 
 -- a row for an answer fits in a stage where the session has a connection
 answer : (s : Session) (a : Answer) → IsConnected s → RulesGo s (attach_answer s a ++ service_answer s a ++ [] ++ detach_answer s a)
@@ -286,6 +290,8 @@ answer s answers.Modified c = (inl ((λ h. awaiting s.stage 9 s.link h refl refl
 answer s answers.Freed c = (inl ((λ h. awaiting s.stage 12 s.link h refl refl c), ((λ t on. silent _ on), (released, tt))), tt)
 answer s answers.Deleted c =
     (inl ((λ h. awaiting s.stage 15 s.link h refl refl c), ((λ t on. silent _ on), ((λ t on. making _ _ on tt), (told_unless s.off nas.DetachAccept, (released, tt))))), tt)
+answer s (answers.SecondCreated sgw teid ip) c = tt
+answer s answers.SecondModified c = tt
 
 step_goes : (row : Subscriber) (s : Session) (input : Input) → IsSession s → IsConnected s → IsInput input → Goes (step_of row s input)
 unfolding step_table step_of

@@ -42,6 +42,7 @@ use Rattle.device_types.proofs.Journals.{session_more, pushed_more}
 use Rattle.device_types.proofs.Keeping.{keeps_ranges, keeps_cause, writes_effects}
 use Rattle.device_types.proofs.Peers.{answer_ranged}
 use Rattle.device_types.proofs.Prefixes.{short, prefix, entry_at}
+use Rattle.device_types.proofs.Single.{single_opening}
 
 -- ---- the input of an entry
 
@@ -215,6 +216,7 @@ sound_opening : Sound opening
 unfolding cause_roots
 sound_opening = record {
   ranges = record {
+    stage = lit< tt;
     link = tt;
     area = (lit< tt, lit< tt);
     eea = lit< tt;
@@ -232,6 +234,7 @@ sound_opening = record {
     side_teid = lit< tt;
     cause = (lit< tt, lit< tt);
     radio = lit< tt;
+    no_second = single_opening.0;
   };
   cause = (lit< tt, lit< tt);
   connected = tt;
@@ -281,17 +284,17 @@ sound_to row ms zero r a low = sound_opening
 sound_to row ms (suc v) r a low = sound_with row ms v (next_input row ms (alone_to row ms v)) r a (omega arith) refl (sound_to row ms v r a (omega arith))
 
 -- an entry of Alone
-pub record SoundEntry (entry : Entry) : Type 0 where
+pub record SoundEntry (row : Subscriber) (entry : Entry) : Type 0 where
   pub session : Sound entry.step.session
   pub input : IsInput entry.input
-  pub writable : All IsWritable entry.step.effects
+  pub writable : All (IsWritable row) entry.step.effects
   pub sent : All IsSent entry.step.effects
 
 pub few_entries : (row : Subscriber) (ms : List Message) → length (alone_of row ms) ≤ 3 * length ms
 unfolding alone_of
 few_entries row ms = short row ms (3 * length ms)
 
-pub sound_entry : (row : Subscriber) (ms : List Message) → IsSubscriber row → All IsMessage ms → length ms ≤ 100000 → (v : ℕ) (entry : Entry) → slice_get (alone_of row ms) v ≡ Some entry → SoundEntry entry
+pub sound_entry : (row : Subscriber) (ms : List Message) → IsSubscriber row → All IsMessage ms → length ms ≤ 100000 → (v : ℕ) (entry : Entry) → slice_get (alone_of row ms) v ≡ Some entry → SoundEntry row entry
 sound_entry row ms r a count v entry g =
     let J = alone_to row ms v in
     let s = session_of J in
@@ -301,7 +304,7 @@ sound_entry row ms r a count v entry g =
     let low : v < 268435456 = omega arith in
     let before = sound_to row ms v r a (omega arith) in
     let i = ranged_input row ms v m.input r a low m.next in
-    subst (λ (e : Entry). SoundEntry e) (sym m.entry_is) (record {
+    subst (λ (e : Entry). SoundEntry row e) (sym m.entry_is) (record {
       session = sound_step row s m.input before i;
       input = i;
       writable = writes_effects row s m.input before.ranges before.cause i;
@@ -320,7 +323,7 @@ sound_connection row ms r a count v entry g = (sound_entry row ms r a count v en
 pub sound_input : (row : Subscriber) (ms : List Message) → IsSubscriber row → All IsMessage ms → length ms ≤ 100000 → (v : ℕ) (entry : Entry) → slice_get (alone_of row ms) v ≡ Some entry → IsInput entry.input
 sound_input row ms r a count v entry g = (sound_entry row ms r a count v entry g).input
 
-pub sound_writable : (row : Subscriber) (ms : List Message) → IsSubscriber row → All IsMessage ms → length ms ≤ 100000 → (v : ℕ) (entry : Entry) → slice_get (alone_of row ms) v ≡ Some entry → All IsWritable entry.step.effects
+pub sound_writable : (row : Subscriber) (ms : List Message) → IsSubscriber row → All IsMessage ms → length ms ≤ 100000 → (v : ℕ) (entry : Entry) → slice_get (alone_of row ms) v ≡ Some entry → All (IsWritable row) entry.step.effects
 sound_writable row ms r a count v entry g = (sound_entry row ms r a count v entry g).writable
 
 pub sound_sent : (row : Subscriber) (ms : List Message) → IsSubscriber row → All IsMessage ms → length ms ≤ 100000 → (v : ℕ) (entry : Entry) → slice_get (alone_of row ms) v ≡ Some entry → All IsSent entry.step.effects

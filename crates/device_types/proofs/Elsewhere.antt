@@ -42,12 +42,16 @@ unfit row s m (bodies.Response res) h c = rw h refl
 unfit row s m bodies.Secured h c = rw h refl
 unfit row s m bodies.SecurityRefused h c = rw h refl
 unfit row s m bodies.AttachDone h c = rw h refl
-unfit row s m (bodies.ContextDone addr teid) h c = rw h refl
+unfit row s m (bodies.ContextDone addr teid second) h c = rw h refl
 unfit row s m bodies.ContextFailed h c = rw h refl
 unfit row s m (bodies.ReleaseAsked cause) h c = rw h refl
 unfit row s m bodies.Released h c = rw h refl
 unfit row s m (bodies.Capability octets) h c = rw h refl
 unfit row s m bodies.Data h c = absurd (cc)
+unfit row s m (bodies.PdnRequest pti) h c = refl
+unfit row s m bodies.PdnAccept h c = refl
+unfit row s m (bodies.SecondDone addr teid) h c = refl
+unfit row s m bodies.SecondRefused h c = refl
 
 pub fits_none : (row : Subscriber) (s : Session) (m : Message) → IsElsewhere s m → comes m.body ≡ false → fit_count row s (inputs.Message m) ≡ 0
 unfolding step_table

@@ -146,7 +146,7 @@ message row s m bodies.Secured = (inl (((λ t. lit≤ tt), ((λ t. lit≤ tt), t
 message row s m bodies.SecurityRefused = (inl ((dropped unspecified, tt), lit≤ tt), tt)
 message row s m bodies.AttachDone =
     (inl (((λ t. lit≤ tt), tt), lit≤ tt), (inl (((λ t. lit≤ tt), ((λ t. lit≤ tt), tt)), lit≤ tt), tt))
-message row s m (bodies.ContextDone addr teid) = (
+message row s m (bodies.ContextDone addr teid second) = (
   inl (((λ t. lit≤ tt), ((λ t. lit≤ tt), tt)), lit≤ tt),
   (
     inl (((λ t. lit≤ tt), ((λ t. lit≤ tt), ((λ t. lit≤ tt), tt))), lit≤ tt),
@@ -158,6 +158,10 @@ message row s m (bodies.ReleaseAsked cause) = (inl ((dropped cause, tt), lit≤ 
 message row s m bodies.Released = (inl (((λ t. lit≤ tt), ((λ t. lit≤ tt), tt)), lit≤ tt), tt)
 message row s m (bodies.Capability octets) = (inl (((λ t. lit≤ tt), tt), lit≤ tt), tt)
 message row s m bodies.Data = (inl (((λ t. lit≤ tt), tt), lit≤ tt), tt)
+message row s m (bodies.PdnRequest pti) = tt
+message row s m bodies.PdnAccept = tt
+message row s m (bodies.SecondDone addr teid) = tt
+message row s m bodies.SecondRefused = tt
 
 answer : (s : Session) (a : Answer) → RulesFew (attach_answer s a ++ service_answer s a ++ [] ++ detach_answer s a)
 answer s (answers.Vectors rand autn res key) = (inl (((λ t. lit≤ tt), ((λ t. lit≤ tt), ((λ t. lit≤ tt), tt))), lit≤ tt), tt)
@@ -167,6 +171,8 @@ answer s (answers.Created sgw teid ip) = (inl (((λ t. lit≤ tt), ((λ t. lit�
 answer s answers.Modified = (inl (((λ t. lit≤ tt), ((λ t. lit≤ tt), tt)), lit≤ tt), tt)
 answer s answers.Freed = (inl (((λ t. lit≤ tt), ((λ t. lit≤ tt), tt)), lit≤ tt), tt)
 answer s answers.Deleted = (inl (((λ t. lit≤ tt), ((λ t. lit≤ tt), (unless s.off DetachAccept, ((λ t. lit≤ tt), tt)))), lit≤ tt), tt)
+answer s (answers.SecondCreated sgw teid ip) = tt
+answer s answers.SecondModified = tt
 
 pub effects_few : (row : Subscriber) (s : Session) (input : Input) → length (step_of row s input).effects ≤ 4
 unfolding step_table step_of

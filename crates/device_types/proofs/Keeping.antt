@@ -6,7 +6,7 @@ use Rattle.device_types.specs.declared.cause.CauseCode.{CauseCode}
 use Rattle.device_types.specs.declared.down.Accept.{Accept}
 use Rattle.device_types.specs.declared.down.Accept.TheVariants as accepts
 use Rattle.device_types.specs.declared.down.Down.{Down}
-use Rattle.device_types.specs.declared.down.Down.TheVariants.{Nas, Setup, Release, Page}
+use Rattle.device_types.specs.declared.down.Down.TheVariants.{Nas, Setup, Release, Page, Erab, SetupTwo}
 use Rattle.device_types.specs.declared.effect.Effect.{Effect}
 use Rattle.device_types.specs.declared.effect.Effect.TheVariants as effects
 use Rattle.device_types.specs.declared.input.Answer.{Answer}
@@ -43,6 +43,7 @@ use Rattle.device_types.specs.Rule.{Rule, fitting}
 use Rattle.device_types.specs.Service.{service_message, service_answer}
 use Rattle.device_types.specs.Session.{IsSession, IsLink}
 use Rattle.device_types.specs.StepTable.{step_table, step_of}
+use Rattle.device_types.proofs.Single.{IsSingle, keeps_single}
 
 -- ---- the ranges of a session, by the fields that change together, where C says what its cause is
 
@@ -64,8 +65,9 @@ ranged s r = (r.link, r.area, (r.eea, r.eia, r.pti), (r.res, r.res_octets, r.key
 pub ranged_with : (C : CauseCode → Type 0) (s : Session) → IsSession s → C s.cause → Ranged C s
 ranged_with C s r c = (r.link, r.area, (r.eea, r.eia, r.pti), (r.res, r.res_octets, r.key), (r.dl, r.ul), (r.sgw, r.teid, r.ip), (r.side_addr, r.side_teid), c, r.radio)
 
-pub session_from : (C : CauseCode → Type 0) (s : Session) → (C s.cause → IsStoredCause s.cause) → Ranged C s → IsSession s
-session_from C s k r = record {
+pub session_from : (C : CauseCode → Type 0) (s : Session) → (C s.cause → IsStoredCause s.cause) → Ranged C s → IsSingle s → IsSession s
+session_from C s k r single = record {
+  stage = single.1;
   link = r.0;
   area = r.1;
   eea = r.2.0;
@@ -83,31 +85,36 @@ session_from C s k r = record {
   side_teid = r.6.1;
   cause = k r.7;
   radio = r.8;
+  no_second = single.0;
 }
 
--- ---- what can be written, where C says which causes
+-- ---- what can be written, where C says which causes; no step makes a message of a second bearer
 
 abbrev DownIs : (CauseCode → Type 0) → Down → Type 0
 DownIs C (Nas station enb message) = IsReceiver station enb × IsNasOut message × HasNasFields message
 DownIs C (Setup station enb dl ul sgw teid eea eia key accept) = IsReceiver station enb × AreRates dl ul × IsTunnel sgw teid × AreAlgorithms eea eia × IsKey key × IsAccept accept
 DownIs C (Release station enb cause) = IsReceiver station enb × C cause
 DownIs C (Page plmn tac) = IsArea plmn tac
+DownIs C (Erab station enb sgw teid pti ip) = ⊥
+DownIs C (SetupTwo station enb dl ul sgw teid eea eia key sgw2 teid2) = ⊥
 
 abbrev EffectIs : (CauseCode → Type 0) → Effect → Type 0
 EffectIs C (effects.Down down) = DownIs C down
 EffectIs C (effects.Gateway call) = Unit {0}
 EffectIs C (effects.Subscriber call) = Unit {0}
 
-down_is : (down : Down) → DownIs IsCauseCode down → IsDown down
-down_is (Nas station enb message) h = h
-down_is (Setup station enb dl ul sgw teid eea eia key accept) h = h
-down_is (Release station enb cause) h = h
-down_is (Page plmn tac) h = h
+down_is : (row : Subscriber) (down : Down) → DownIs IsCauseCode down → IsDown row down
+down_is row (Nas station enb message) h = h
+down_is row (Setup station enb dl ul sgw teid eea eia key accept) h = h
+down_is row (Release station enb cause) h = h
+down_is row (Page plmn tac) h = h
+down_is row (Erab station enb sgw teid pti ip) h = absurd h
+down_is row (SetupTwo station enb dl ul sgw teid eea eia key sgw2 teid2) h = absurd h
 
-writable : (effect : Effect) → EffectIs IsCauseCode effect → IsWritable effect
-writable (effects.Down down) h = down_is down h
-writable (effects.Gateway call) h = tt
-writable (effects.Subscriber call) h = tt
+writable : (row : Subscriber) (effect : Effect) → EffectIs IsCauseCode effect → IsWritable row effect
+writable row (effects.Down down) h = down_is row down h
+writable row (effects.Gateway call) h = tt
+writable row (effects.Subscriber call) h = tt
 
 -- ---- acts and rows
 
@@ -277,11 +284,11 @@ message C k row s q m bodies.Secured p i = (((λ t r. making C _ _ r tt), ((λ t
 message C k row s q m bodies.SecurityRefused p i = ((dropped C unspecified (k _ (nas_code 3 (lit< tt))), tt), tt)
 message C k row s q m bodies.AttachDone p i =
     (((λ t r. silent C _ r), tt), (((λ t r. making C _ _ r tt), ((λ t r. silent C _ r), tt)), tt))
-message C k row s q m (bodies.ContextDone addr teid) p i = (
-  ((λ t r. silent C _ (with_side C addr teid i t r)), ((λ t r. silent C _ r), tt)),
+message C k row s q m (bodies.ContextDone addr teid second) p i = (
+  ((λ t r. silent C _ (with_side C addr teid (i.0, i.1) t r)), ((λ t r. silent C _ r), tt)),
   (
-    ((λ t r. silent C _ (with_side C addr teid i t r)), ((λ t r. making C _ _ r tt), ((λ t r. silent C _ r), tt))),
-    (((λ t r. silent C _ (with_side C addr teid i t r)), ((λ t r. making C _ _ r tt), ((λ t r. silent C _ r), tt))), tt),
+    ((λ t r. silent C _ (with_side C addr teid (i.0, i.1) t r)), ((λ t r. making C _ _ r tt), ((λ t r. silent C _ r), tt))),
+    (((λ t r. silent C _ (with_side C addr teid (i.0, i.1) t r)), ((λ t r. making C _ _ r tt), ((λ t r. silent C _ r), tt))), tt),
   ),
 )
 message C k row s q m bodies.ContextFailed p i =
@@ -290,6 +297,10 @@ message C k row s q m (bodies.ReleaseAsked cause) p i = ((dropped C cause (k cau
 message C k row s q m bodies.Released p i = (((λ t r. silent C _ (with_link C Off tt t r)), ((λ t r. silent C _ r), tt)), tt)
 message C k row s q m (bodies.Capability octets) p i = (((λ t r. silent C _ (r.0, r.1, r.2, r.3, r.4, r.5, r.6, r.7, radio_low (length octets))), tt), tt)
 message C k row s q m bodies.Data p i = (((λ t r. making C _ _ r r.1), tt), tt)
+message C k row s q m (bodies.PdnRequest pti) p i = tt
+message C k row s q m bodies.PdnAccept p i = tt
+message C k row s q m (bodies.SecondDone addr teid) p i = tt
+message C k row s q m bodies.SecondRefused p i = tt
 
 answer : (C : CauseCode → Type 0) (row : Subscriber) (s : Session) → Ranged C s → (a : Answer) → IsAnswer a → RulesRight C (attach_answer s a ++ service_answer s a ++ [] ++ detach_answer s a)
 answer C row s q (answers.Vectors rand autn res key) i =
@@ -303,6 +314,8 @@ answer C row s q answers.Modified i = (((λ t r. silent C _ r), ((λ t r. silent
 answer C row s q answers.Freed i = (((λ t r. silent C _ r), (released C, tt)), tt)
 answer C row s q answers.Deleted i =
     (((λ t r. silent C _ r), ((λ t r. making C _ _ r tt), (told_unless C s.off nas.DetachAccept tt tt, (released C, tt)))), tt)
+answer C row s q (answers.SecondCreated sgw teid ip) i = tt
+answer C row s q answers.SecondModified i = tt
 
 right : (C : CauseCode → Type 0) (k : (c : CauseCode) → IsCauseCode c → C c) (row : Subscriber) (s : Session) (input : Input) → Ranged C s → IsInput input → Right C (step_of row s input)
 unfolding step_table step_of
@@ -332,13 +345,13 @@ stored cause c = (c.0, by_mark cause.extended c.1)
     by_mark false h = let low = roots_low cause.group in omega arith
 
 pub keeps_ranges : (row : Subscriber) (s : Session) (input : Input) → IsSession s → IsInput input → IsSession (step_of row s input).session
-keeps_ranges row s input r i = session_from IsStoredCause (step_of row s input).session (λ c. c) (right IsStoredCause stored row s input (ranged s r) i).session
+keeps_ranges row s input r i = session_from IsStoredCause (step_of row s input).session (λ c. c) (right IsStoredCause stored row s input (ranged s r) i).session (keeps_single row s input (r.no_second, r.stage))
 
 pub keeps_cause : (row : Subscriber) (s : Session) (input : Input) → IsSession s → IsCauseCode s.cause → IsInput input → IsCauseCode (step_of row s input).session.cause
 keeps_cause row s input r c i = (right IsCauseCode (λ d h. h) row s input (ranged_with IsCauseCode s r c) i).session.7
 
-all_writable : (es : List Effect) → All (EffectIs IsCauseCode) es → All IsWritable es
-all_writable es a = λ i d h. writable _ (a i d h)
+all_writable : (row : Subscriber) (es : List Effect) → All (EffectIs IsCauseCode) es → All (IsWritable row) es
+all_writable row es a = λ i d h. writable row _ (a i d h)
 
-pub writes_effects : (row : Subscriber) (s : Session) (input : Input) → IsSession s → IsCauseCode s.cause → IsInput input → All IsWritable (step_of row s input).effects
-writes_effects row s input r c i = all_writable (step_of row s input).effects (right IsCauseCode (λ d h. h) row s input (ranged_with IsCauseCode s r c) i).effects
+pub writes_effects : (row : Subscriber) (s : Session) (input : Input) → IsSession s → IsCauseCode s.cause → IsInput input → All (IsWritable row) (step_of row s input).effects
+writes_effects row s input r c i = all_writable row (step_of row s input).effects (right IsCauseCode (λ d h. h) row s input (ranged_with IsCauseCode s r c) i).effects

@@ -11,5 +11,6 @@ pub mod Keeping
 pub mod Members
 pub mod Peers
 pub mod Prefixes
+pub mod Single
 pub mod Tests
 pub mod Worked

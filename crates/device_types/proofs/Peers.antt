@@ -1,6 +1,6 @@
 -- The answers of the peers are in their ranges, and the answer to one more call.
-use Rattle.std.proofs.Common.{◌≡◌, ℕ, ◌+◌, ◌-◌, ◌≤◌, ◌<◌, List, [], ◌∷◌, ◌++◌, length, take, Option, Some, None, ap, ◌∙◌, arith, rules, length-append}
-use Rattle.std.specs.Prelude.{slice_get}
+use Rattle.std.proofs.Common.{◌≡◌, ℕ, ◌+◌, ◌-◌, ◌≤◌, ◌<◌, ◌^◌, lit<, List, [], ◌∷◌, ◌++◌, length, take, Option, Some, None, ap, ◌∙◌, arith, rules, length-append}
+use Rattle.std.specs.Prelude.{slice_get, unwrap_or, IfSome}
 use Rattle.std.specs.Option.{option_map_or}
 use Rattle.std.proofs.Math.Seq.{take-append_seam}
 use Rattle.std.proofs.lemmas.List.{length-take}
@@ -32,11 +32,17 @@ answer_more row calls call =
     ∙ ap (λ o. option_map_or (answer_to row (create_count (take (length calls) all))) o answers.Purged) (last_more calls call)
     ∙ ap (λ before. answer_to row (create_count before) call) (take-append_seam calls (call ∷ []))
 
+second_address : (ip : Option ℕ) → IfSome ip (λ x. x < 2 ^ 32) → unwrap_or ip 0 < 2 ^ 32
+second_address None h = lit< tt
+second_address (Some x) h = h
+
 pub answer_ranged : (row : Subscriber) (n : ℕ) (call : Effect) → IsSubscriber row → n < 268435456 → IsAnswer (answer_to row n call)
 answer_ranged row n (effects.Gateway gateway.Create) r low = let most = r.teid_most in (r.sgw, omega arith, r.ip)
 answer_ranged row n (effects.Gateway (gateway.Modify addr teid)) r low = tt
 answer_ranged row n (effects.Gateway gateway.Release) r low = tt
 answer_ranged row n (effects.Gateway gateway.Delete) r low = tt
+answer_ranged row n (effects.Gateway gateway.SecondCreate) r low = let most = r.teid_most in (r.sgw, omega arith, second_address row.ip2 r.ip2)
+answer_ranged row n (effects.Gateway (gateway.SecondModify addr teid)) r low = tt
 answer_ranged row n (effects.Subscriber subscriber.Vectors) r low = record {
   rand = r.rand;
   autn = r.autn;

@@ -45,17 +45,19 @@ forbidden_listed row area = (listed row.forbidden area, (λ at. found row.forbid
 
 -- ---- settled sessions
 
-settled_in : (stage : Stage) (addr teid : ℕ) → (is_settled stage ≡ true) ↔ (awaited_in stage addr teid ≡ [])
-settled_in stages.AwaitVectors addr teid = ((λ h. absurd (cc)), (λ h. absurd (cc)))
-settled_in stages.AwaitLocation addr teid = ((λ h. absurd (cc)), (λ h. absurd (cc)))
-settled_in stages.AwaitCreate addr teid = ((λ h. absurd (cc)), (λ h. absurd (cc)))
-settled_in stages.AwaitModify addr teid = ((λ h. absurd (cc)), (λ h. absurd (cc)))
-settled_in stages.AwaitRelease addr teid = ((λ h. absurd (cc)), (λ h. absurd (cc)))
-settled_in stages.AwaitDelete addr teid = ((λ h. absurd (cc)), (λ h. absurd (cc)))
-settled_in _ addr teid = ((λ h. refl), (λ h. refl))
+settled_in : (stage : Stage) (s : Session) → (is_settled stage ≡ true) ↔ (awaited_in stage s ≡ [])
+settled_in stages.AwaitVectors s = ((λ h. absurd (cc)), (λ h. absurd (cc)))
+settled_in stages.AwaitLocation s = ((λ h. absurd (cc)), (λ h. absurd (cc)))
+settled_in stages.AwaitCreate s = ((λ h. absurd (cc)), (λ h. absurd (cc)))
+settled_in stages.AwaitModify s = ((λ h. absurd (cc)), (λ h. absurd (cc)))
+settled_in stages.AwaitRelease s = ((λ h. absurd (cc)), (λ h. absurd (cc)))
+settled_in stages.AwaitDelete s = ((λ h. absurd (cc)), (λ h. absurd (cc)))
+settled_in stages.AwaitSecond s = ((λ h. absurd (cc)), (λ h. absurd (cc)))
+settled_in stages.AwaitSecondModify s = ((λ h. absurd (cc)), (λ h. absurd (cc)))
+settled_in _ s = ((λ h. refl), (λ h. refl))
 
 pub settled_awaits_none : (s : Session) → (settled s ≡ true) ↔ (awaited_by s ≡ [])
-settled_awaits_none s = settled_in s.stage s.side_addr s.side_teid
+settled_awaits_none s = settled_in s.stage s
 
 pub settled_by_step : (row : Subscriber) (s : Session) (input : Input) → 1 ≤ fit_count row s input → (settled (step_of row s input).session ≡ true) ↔ (filter is_awaited (step_of row s input).effects ≡ [])
 settled_by_step row s input fits =

@@ -1,5 +1,5 @@
 -- Worked runs of the machine alone, computed: the cheapest test of the step table.
-use Rattle.std.proofs.Common.{◌≡◌, ℕ, true, false, List, [], ◌∷◌, length, drop, refl}
+use Rattle.std.proofs.Common.{◌≡◌, ℕ, true, false, List, [], ◌∷◌, length, drop, None, refl}
 use Rattle.device_types.specs.declared.cause.CauseCode.{CauseCode}
 use Rattle.device_types.specs.declared.down.Down.TheVariants.{Nas, Setup, Release, Page}
 use Rattle.device_types.specs.declared.down.Accept.TheVariants.{No}
@@ -34,6 +34,8 @@ row = record {
   ambr_dl = 10;
   ambr_ul = 11;
   forbidden = 9 ∷ [];
+  apn2 = None;
+  ip2 = None;
 }
 
 from : ℕ → ℕ → Body → Message
@@ -46,15 +48,15 @@ inactivity = record { group = 0; extended = false; index = 20 }
 attach : List Message
 attach =
     from 1 1 (bodies.Attach 0x02f839 1 224 224 1) ∷ from 2 1 (bodies.Response (3 ∷ 4 ∷ [])) ∷ from 3 1 bodies.Secured
-    ∷ from 4 1 (bodies.ContextDone 12 13) ∷ from 5 1 (bodies.Capability (1 ∷ 2 ∷ [])) ∷ from 6 1 bodies.AttachDone ∷ []
+    ∷ from 4 1 (bodies.ContextDone 12 13 None) ∷ from 5 1 (bodies.Capability (1 ∷ 2 ∷ [])) ∷ from 6 1 bodies.AttachDone ∷ []
 
 -- attach; release; service; release; a tracking area update in a forbidden area; detach
 day : List Message
 day =
     from 1 1 (bodies.Attach 0x02f839 1 224 224 1) ∷ from 2 1 (bodies.Response (3 ∷ 4 ∷ [])) ∷ from 3 1 bodies.Secured
-    ∷ from 4 1 (bodies.ContextDone 12 13) ∷ from 5 1 (bodies.Capability (1 ∷ 2 ∷ [])) ∷ from 6 1 bodies.AttachDone
+    ∷ from 4 1 (bodies.ContextDone 12 13 None) ∷ from 5 1 (bodies.Capability (1 ∷ 2 ∷ [])) ∷ from 6 1 bodies.AttachDone
     ∷ from 7 1 (bodies.ReleaseAsked inactivity) ∷ from 8 1 bodies.Released
-    ∷ from 9 2 bodies.Service ∷ from 10 2 (bodies.ContextDone 14 15) ∷ from 11 2 (bodies.ReleaseAsked inactivity) ∷ from 12 2 bodies.Released
+    ∷ from 9 2 bodies.Service ∷ from 10 2 (bodies.ContextDone 14 15 None) ∷ from 11 2 (bodies.ReleaseAsked inactivity) ∷ from 12 2 bodies.Released
     ∷ from 13 3 (bodies.Area true 0x02f839 9) ∷ from 14 3 bodies.Released
     ∷ from 15 4 (bodies.Detach true false) ∷ from 16 4 bodies.Released ∷ []
 
@@ -71,7 +73,7 @@ waiting : List Message
 waiting =
     notice 1
     ∷ from 2 1 (bodies.Attach 0x02f839 1 224 224 1) ∷ from 3 1 (bodies.Response (3 ∷ 4 ∷ [])) ∷ from 4 1 bodies.Secured
-    ∷ from 5 1 (bodies.ContextDone 12 13) ∷ from 6 1 bodies.AttachDone ∷ notice 7
+    ∷ from 5 1 (bodies.ContextDone 12 13 None) ∷ from 6 1 bodies.AttachDone ∷ notice 7
     ∷ from 8 1 (bodies.ReleaseAsked inactivity) ∷ from 9 1 bodies.Released ∷ notice 10
     ∷ from 11 2 bodies.Service ∷ notice 12 ∷ []
 

@@ -45,6 +45,7 @@ alone_of row messages = alone_to row messages (3 * length messages)
 -- is this the answer to a call that creates?
 abbrev pub is_created : Input → Bool
 is_created (inputs.Answer lane k (answers.Created sgw teid ip)) = true
+is_created (inputs.Answer lane k (answers.SecondCreated sgw teid ip)) = true
 is_created _ = false
 
 -- how many calls that create were answered

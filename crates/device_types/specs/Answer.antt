@@ -1,7 +1,7 @@
 -- The answers of the peers: the ranges of their fields.
 use Rattle.std.specs.Prelude.{◌≡◌, ℕ, ◌^◌, ◌<◌, ◌≤◌, List, length}
 use Rattle.device_types.specs.declared.input.Answer.{Answer}
-use Rattle.device_types.specs.declared.input.Answer.TheVariants.{Vectors, Located, Purged, Created, Modified, Freed, Deleted}
+use Rattle.device_types.specs.declared.input.Answer.TheVariants.{Vectors, Located, Purged, Created, Modified, Freed, Deleted, SecondCreated, SecondModified}
 use Rattle.device_types.specs.Keys.{IsKey}
 use Rattle.device_types.specs.Numbers.{IsBitRate}
 use Rattle.device_types.specs.Octets.{AreOctets}
@@ -25,3 +25,5 @@ IsAnswer (Created sgw teid ip) = (sgw < 2 ^ 32) × (teid < 2 ^ 32) × (ip < 2 ^ 
 IsAnswer Modified = Unit {0}
 IsAnswer Freed = Unit {0}
 IsAnswer Deleted = Unit {0}
+IsAnswer (SecondCreated sgw teid ip) = (sgw < 2 ^ 32) × (teid < 2 ^ 32) × (ip < 2 ^ 32)
+IsAnswer SecondModified = Unit {0}

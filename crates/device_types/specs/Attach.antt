@@ -33,7 +33,7 @@ attach_message row s m (bodies.Response res) =
 attach_message row s m bodies.Secured = rule (here s m && at Securing s) (asks subscriber.Location ∷ enters AwaitLocation ∷ []) ∷ []
 attach_message row s m bodies.SecurityRefused = rule (here s m && at Securing s) (drops_ue unspecified ∷ []) ∷ []
 -- steps 20 to 23: the base station's answer and the device's, in either order
-attach_message row s m (bodies.ContextDone addr teid) =
+attach_message row s m (bodies.ContextDone addr teid second) =
     rule (here s m && at Accepting s) (sets (λ t. record t { side_addr = addr; side_teid = teid }) ∷ enters AcceptingContext ∷ [])
     ∷ rule (here s m && at AcceptingDone s) (sets (λ t. record t { side_addr = addr; side_teid = teid }) ∷ calls (gateway.Modify addr teid) ∷ enters AwaitModify ∷ [])
     ∷ []

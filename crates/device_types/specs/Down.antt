@@ -1,9 +1,10 @@
 -- The messages to a device that can be written.
-use Rattle.std.specs.Prelude.{ℕ, ◌^◌, ◌<◌}
+use Rattle.std.specs.Prelude.{ℕ, ◌^◌, ◌<◌, IsSome}
 use Rattle.device_types.specs.declared.down.Accept.{Accept}
 use Rattle.device_types.specs.declared.down.Accept.TheVariants.{No, Yes}
 use Rattle.device_types.specs.declared.down.Down.{Down}
-use Rattle.device_types.specs.declared.down.Down.TheVariants.{Nas, Setup, Release, Page}
+use Rattle.device_types.specs.declared.down.Down.TheVariants.{Nas, Setup, Release, Page, Erab, SetupTwo}
+use Rattle.device_types.specs.declared.subscriber.Subscriber.{Subscriber}
 use Rattle.device_types.specs.Cause.{IsCauseCode}
 use Rattle.device_types.specs.Keys.{IsKey}
 use Rattle.device_types.specs.Message.{IsArea}
@@ -28,8 +29,11 @@ IsTunnel address teid = (address < 2 ^ 32) × (teid < 2 ^ 32)
 abbrev pub AreAlgorithms : ℕ → ℕ → Type 0
 AreAlgorithms eea eia = (eea < 256) × (eia < 256)
 
-abbrev pub IsDown : Down → Type 0
-IsDown (Nas station enb nas) = IsReceiver station enb × IsNasOut nas × HasNasFields nas
-IsDown (Setup station enb dl ul sgw teid eea eia key accept) = IsReceiver station enb × AreRates dl ul × IsTunnel sgw teid × AreAlgorithms eea eia × IsKey key × IsAccept accept
-IsDown (Release station enb cause) = IsReceiver station enb × IsCauseCode cause
-IsDown (Page plmn tac) = IsArea plmn tac
+-- to the device of a row: a second bearer is of its second access point name
+abbrev pub IsDown : Subscriber → Down → Type 0
+IsDown row (Nas station enb nas) = IsReceiver station enb × IsNasOut nas × HasNasFields nas
+IsDown row (Setup station enb dl ul sgw teid eea eia key accept) = IsReceiver station enb × AreRates dl ul × IsTunnel sgw teid × AreAlgorithms eea eia × IsKey key × IsAccept accept
+IsDown row (Release station enb cause) = IsReceiver station enb × IsCauseCode cause
+IsDown row (Page plmn tac) = IsArea plmn tac
+IsDown row (Erab station enb sgw teid pti ip) = IsReceiver station enb × IsTunnel sgw teid × (pti < 256) × (ip < 2 ^ 32) × IsSome row.apn2
+IsDown row (SetupTwo station enb dl ul sgw teid eea eia key sgw2 teid2) = IsReceiver station enb × AreRates dl ul × IsTunnel sgw teid × AreAlgorithms eea eia × IsKey key × IsTunnel sgw2 teid2

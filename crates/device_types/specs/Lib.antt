@@ -9,6 +9,7 @@ pub mod Detach
 pub mod Down
 pub mod Effect
 pub mod Event
+pub mod Finals
 pub mod Input
 pub mod Journal
 pub mod Keys

@@ -1,7 +1,7 @@
--- The NAS messages of the network that can be written (TS 24.301, 8.2).
+-- The NAS messages of the network that can be written (TS 24.301, 8.2 and 8.3).
 use Rattle.std.specs.Prelude.{◌≡◌, ◌^◌, ◌<◌, ◌≤◌, length}
 use Rattle.device_types.specs.declared.nas_out.NasOut.{NasOut}
-use Rattle.device_types.specs.declared.nas_out.NasOut.TheVariants.{AuthRequest, AuthReject, SecurityCommand, AttachAccept, AttachReject, ServiceReject, AreaReject, AreaAccept, DetachAccept}
+use Rattle.device_types.specs.declared.nas_out.NasOut.TheVariants.{AuthRequest, AuthReject, SecurityCommand, AttachAccept, AttachReject, ServiceReject, AreaReject, AreaAccept, DetachAccept, PdnReject, Activate}
 use Rattle.device_types.specs.Octets.{AreOctets}
 
 -- what a message has to meet: RAND and AUTN of 16 octets, a PLMN identity of three, an access point name of 1 to 30
@@ -15,6 +15,8 @@ IsNasOut (ServiceReject cause) = Unit {0}
 IsNasOut (AreaReject cause) = Unit {0}
 IsNasOut AreaAccept = Unit {0}
 IsNasOut DetachAccept = Unit {0}
+IsNasOut (PdnReject pti cause) = Unit {0}
+IsNasOut (Activate pti apn ip) = (1 ≤ length apn) × (length apn ≤ 30)
 
 -- its fields are in the ranges of their types, and its texts are octets
 abbrev pub HasNasFields : NasOut → Type 0
@@ -27,3 +29,5 @@ HasNasFields (ServiceReject cause) = cause < 256
 HasNasFields (AreaReject cause) = cause < 256
 HasNasFields AreaAccept = Unit {0}
 HasNasFields DetachAccept = Unit {0}
+HasNasFields (PdnReject pti cause) = (pti < 256) × (cause < 256)
+HasNasFields (Activate pti apn ip) = (pti < 256) × AreOctets apn × (ip < 2 ^ 32)

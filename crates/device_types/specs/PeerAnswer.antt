@@ -1,5 +1,5 @@
 -- What a peer answers to a call: a function of the subscriber's row and of the calls on that lane, the asked one last.
-use Rattle.std.specs.Prelude.{ℕ, ◌+◌, ◌-◌, Bool, true, false, List, length, take, slice_get}
+use Rattle.std.specs.Prelude.{ℕ, ◌+◌, ◌-◌, Bool, true, false, List, length, take, slice_get, unwrap_or}
 use Rattle.std.specs.List.{count_by}
 use Rattle.std.specs.Option.{option_map_or}
 use Rattle.device_types.specs.declared.effect.Effect.{Effect}
@@ -14,6 +14,7 @@ use Rattle.device_types.specs.declared.subscriber.Subscriber.{Subscriber}
 
 abbrev pub is_create : Effect → Bool
 is_create (effects.Gateway gateway.Create) = true
+is_create (effects.Gateway gateway.SecondCreate) = true
 is_create _ = false
 
 -- how many sessions these calls create
@@ -26,6 +27,8 @@ gateway_answer row creates gateway.Create = answers.Created row.sgw (row.teid + 
 gateway_answer row creates (gateway.Modify addr teid) = answers.Modified
 gateway_answer row creates gateway.Release = answers.Freed
 gateway_answer row creates gateway.Delete = answers.Deleted
+gateway_answer row creates gateway.SecondCreate = answers.SecondCreated row.sgw (row.teid + creates) (unwrap_or row.ip2 0)
+gateway_answer row creates (gateway.SecondModify addr teid) = answers.SecondModified
 
 -- the subscriber server's
 abbrev pub subscriber_answer : Subscriber → SubCall → Answer

@@ -42,6 +42,8 @@ number stages.AwaitRelease = 12
 number stages.Releasing = 13
 number stages.Idle = 14
 number stages.AwaitDelete = 15
+number stages.AwaitSecond = 16
+number stages.AwaitSecondModify = 17
 
 abbrev pub at : Stage → Session → Bool
 at stage s = number s.stage == number stage
@@ -54,6 +56,8 @@ is_settled stages.AwaitCreate = false
 is_settled stages.AwaitModify = false
 is_settled stages.AwaitRelease = false
 is_settled stages.AwaitDelete = false
+is_settled stages.AwaitSecond = false
+is_settled stages.AwaitSecondModify = false
 is_settled _ = true
 
 abbrev pub settled : Session → Bool

@@ -22,7 +22,7 @@ service_message s m bodies.Service =
     ∷ rule (settled s && not (held s)) (tells_to m.station m.enb (ServiceReject 10) ∷ [])
     ∷ []
 -- steps 7 and 8
-service_message s m (bodies.ContextDone addr teid) =
+service_message s m (bodies.ContextDone addr teid second) =
     rule (here s m && at Connecting s) (sets (λ t. record t { side_addr = addr; side_teid = teid }) ∷ calls (gateway.Modify addr teid) ∷ enters AwaitModify ∷ []) ∷ []
 service_message s m bodies.ContextFailed = rule (here s m && at Connecting s) (frees_bearers unspecified ∷ []) ∷ []
 -- 5.3.4.3, step 3: an idle device is paged

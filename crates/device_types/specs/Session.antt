@@ -1,8 +1,9 @@
 -- The session of a device: that of one never seen, and the ranges of its fields.
-use Rattle.std.specs.Prelude.{◌^◌, ◌<◌, ◌≤◌, false, [], length, replicate}
+use Rattle.std.specs.Prelude.{◌≡◌, ◌^◌, ◌<◌, ◌≤◌, false, [], length, replicate}
 use Rattle.device_types.specs.declared.session.Link.{Link}
 use Rattle.device_types.specs.declared.session.Link.TheVariants.{Off, On}
 use Rattle.device_types.specs.declared.session.Bearer.TheVariants as bearer
+use Rattle.device_types.specs.declared.session.Second.TheVariants as second
 use Rattle.device_types.specs.declared.session.Stage.TheVariants as stage
 use Rattle.device_types.specs.declared.session.Session.{Session}
 use Rattle.device_types.specs.Cause.{IsStoredCause}
@@ -10,6 +11,7 @@ use Rattle.device_types.specs.Keys.{IsKey}
 use Rattle.device_types.specs.Message.{IsArea, IsPair}
 use Rattle.device_types.specs.Numbers.{IsBitRate}
 use Rattle.device_types.specs.Octets.{AreOctets}
+use Rattle.device_types.specs.Rule.{number}
 
 abbrev pub opening : Session
 opening = record {
@@ -34,14 +36,26 @@ opening = record {
   off = false;
   cause = record { group = 0; extended = false; index = 0 };
   radio = 0;
+  second = second.None;
+  pti2 = 0;
+  sgw2 = 0;
+  teid2 = 0;
+  ip2 = 0;
+  side2_addr = 0;
+  side2_teid = 0;
 }
 
 abbrev pub IsLink : Link → Type 0
 IsLink Off = Unit {0}
 IsLink (On station enb) = IsPair station enb
 
--- a session as it is stored
+-- the device has no second connection
+abbrev pub HasNoSecond : Session → Type 0
+HasNoSecond s = (s.second ≡ second.None) × (s.pti2 ≡ 0) × (s.sgw2 ≡ 0) × (s.teid2 ≡ 0) × (s.ip2 ≡ 0) × (s.side2_addr ≡ 0) × (s.side2_teid ≡ 0)
+
+-- a session as it is stored: in a stage below those of a second connection, and without one
 pub record IsSession (s : Session) : Type 0 where
+  pub stage : number s.stage < 16
   pub link : IsLink s.link
   pub area : IsArea s.plmn s.tac
   pub eea : s.eea < 256
@@ -59,3 +73,4 @@ pub record IsSession (s : Session) : Type 0 where
   pub side_teid : s.side_teid < 2 ^ 32
   pub cause : IsStoredCause s.cause
   pub radio : s.radio < 2 ^ 32
+  pub no_second : HasNoSecond s

@@ -1,5 +1,5 @@
 -- Subscribers: the ranges of a row's fields.
-use Rattle.std.specs.Prelude.{◌≡◌, ℕ, ◌^◌, ◌<◌, ◌≤◌, ◌||◌, Bool, length, All}
+use Rattle.std.specs.Prelude.{◌≡◌, ℕ, ◌^◌, ◌<◌, ◌≤◌, ◌||◌, Bool, List, length, All, IfSome}
 use Rattle.std.specs.List.{AllPass}
 use Rattle.std.specs.Char.{is_ascii_digit, is_ascii_lowercase}
 use Rattle.device_types.specs.declared.subscriber.Subscriber.{Subscriber}
@@ -9,8 +9,15 @@ use Rattle.device_types.specs.Octets.{AreOctets}
 abbrev pub is_letter_or_digit : ℕ → Bool
 is_letter_or_digit c = is_ascii_lowercase c || is_ascii_digit c
 
+-- an access point name of one label (TS 23.003, 9.1)
+pub record IsName (apn : List ℕ) : Type 0 where
+  pub least : 1 ≤ length apn
+  pub most : length apn ≤ 30
+  pub characters : AllPass is_letter_or_digit apn
+
 -- IMSI and M-TMSI (3GPP TS 23.003, 2.2 and 2.8), the authentication vector (TS 33.401, 6.1.2), the access point name of one label
--- (TS 23.003, 9.1), the addresses, the gateway's tunnel, the aggregate maximum bit rates (TS 36.413, 9.2.1.20), and the areas (TS 23.003, 19.4.2.3)
+-- (TS 23.003, 9.1), the addresses, the gateway's tunnel, the aggregate maximum bit rates (TS 36.413, 9.2.1.20), the areas (TS 23.003, 19.4.2.3),
+-- and the name and the address of a second connection, where there is one
 pub record IsSubscriber (row : Subscriber) : Type 0 where
   pub imsi : row.imsi < 10 ^ 15
   pub tmsi : row.tmsi < 2 ^ 32
@@ -34,3 +41,5 @@ pub record IsSubscriber (row : Subscriber) : Type 0 where
   pub ambr_ul : row.ambr_ul ≤ 10000000000
   pub forbidden_most : length row.forbidden ≤ 16
   pub forbidden_areas : All (λ area. area < 65536) row.forbidden
+  pub apn2 : IfSome row.apn2 IsName
+  pub ip2 : IfSome row.ip2 (λ ip. ip < 2 ^ 32)

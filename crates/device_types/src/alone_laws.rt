@@ -59,7 +59,7 @@ pub fn alone_is_sound(_row: &Subscriber, _messages: &[Message])
     ensures input { (v : ℕ) (entry : Entry) → slice_get (alone_of _row.now _messages.now) v ≡ Some entry
         → IsInput entry.input }
     ensures writable { (v : ℕ) (entry : Entry) → slice_get (alone_of _row.now _messages.now) v ≡ Some entry
-        → All IsWritable entry.step.effects }
+        → All (IsWritable _row.now) entry.step.effects }
     ensures sent { (v : ℕ) (entry : Entry) → slice_get (alone_of _row.now _messages.now) v ≡ Some entry
         → All IsSent entry.step.effects }
 {}

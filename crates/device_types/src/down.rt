@@ -76,6 +76,47 @@ pub enum Down {
         /// The code of the tracking area.
         tac: u16,
     },
+    /// E-RAB SETUP REQUEST (9.1.3.1) of the second bearer, E-RAB 6, with an ACTIVATE DEFAULT EPS BEARER CONTEXT REQUEST. The
+    /// access point name in it is the subscriber's second.
+    Erab {
+        /// The base station.
+        station: u16,
+        /// The device there.
+        enb: u32,
+        /// The IPv4 address of the serving gateway.
+        sgw: u32,
+        /// The tunnel endpoint identifier of the serving gateway for the second bearer.
+        teid: u32,
+        /// The procedure transaction identity of the request (TS 24.301, 9.4).
+        pti: u8,
+        /// The IPv4 address of the device on the second connection.
+        ip: u32,
+    },
+    /// INITIAL CONTEXT SETUP REQUEST with two bearers, E-RAB 5 and E-RAB 6, and no ATTACH ACCEPT.
+    SetupTwo {
+        /// The base station.
+        station: u16,
+        /// The device there.
+        enb: u32,
+        /// The aggregate maximum bit rate down, at most 10,000,000,000 bit/s (9.2.1.20).
+        dl: u64,
+        /// The aggregate maximum bit rate up, at most 10,000,000,000 bit/s.
+        ul: u64,
+        /// The IPv4 address of the serving gateway for the first bearer.
+        sgw: u32,
+        /// The tunnel endpoint identifier of the serving gateway for the first bearer.
+        teid: u32,
+        /// The encryption algorithms that the device supports, a bit each, as in NAS (TS 24.301, 9.9.3.34).
+        eea: u8,
+        /// The integrity algorithms that the device supports, a bit each, as in NAS.
+        eia: u8,
+        /// The security key (9.2.1.41).
+        key: Key,
+        /// The IPv4 address of the serving gateway for the second bearer.
+        sgw2: u32,
+        /// The tunnel endpoint identifier of the serving gateway for the second bearer.
+        teid2: u32,
+    },
 }
 
 /// By hand, since each field of a derived clone may fail.
@@ -126,6 +167,46 @@ impl Clone for Down {
             Down::Page { plmn, tac } => Ok(Down::Page {
                 plmn: *plmn,
                 tac: *tac,
+            }),
+            Down::Erab {
+                station,
+                enb,
+                sgw,
+                teid,
+                pti,
+                ip,
+            } => Ok(Down::Erab {
+                station: *station,
+                enb: *enb,
+                sgw: *sgw,
+                teid: *teid,
+                pti: *pti,
+                ip: *ip,
+            }),
+            Down::SetupTwo {
+                station,
+                enb,
+                dl,
+                ul,
+                sgw,
+                teid,
+                eea,
+                eia,
+                key,
+                sgw2,
+                teid2,
+            } => Ok(Down::SetupTwo {
+                station: *station,
+                enb: *enb,
+                dl: *dl,
+                ul: *ul,
+                sgw: *sgw,
+                teid: *teid,
+                eea: *eea,
+                eia: *eia,
+                key: key.copy()?,
+                sgw2: *sgw2,
+                teid2: *teid2,
             }),
         }
     }

@@ -15,6 +15,11 @@ pub enum GwCall {
     Release,
     /// Delete the device's session (TS 29.274, 7.2.9.1).
     Delete,
+    /// Create the session of the device's second connection (TS 29.274, 7.2.1).
+    SecondCreate,
+    /// Send downlink data of the second connection to this IPv4 address and tunnel endpoint identifier of the base station
+    /// (TS 29.274, 7.2.7).
+    SecondModify(u32, u32),
 }
 
 impl TryCopy for GwCall {

@@ -25,6 +25,11 @@ pub enum Answer {
     Freed,
     /// The gateway's to `GwCall::Delete` (TS 29.274, 7.2.10.1).
     Deleted,
+    /// The gateway's to `GwCall::SecondCreate`: its IPv4 address, its tunnel endpoint identifier, and the IPv4 address of the
+    /// device on the second connection (TS 29.274, 7.2.2).
+    SecondCreated(u32, u32, u32),
+    /// The gateway's to `GwCall::SecondModify` (TS 29.274, 7.2.8).
+    SecondModified,
 }
 
 impl TryCopy for Answer {

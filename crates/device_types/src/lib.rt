@@ -38,10 +38,10 @@ pub use key::Key;
 pub use laws::one_more_entry;
 pub use list_of::{Areas, ListOf, Octets};
 pub use look::Look;
-pub use message::{Body, Message, Messages};
+pub use message::{Body, Message, Messages, Side};
 pub use nas_out::NasOut;
 pub use no_room::NoRoom;
-pub use session::{Bearer, Link, Session, Stage};
+pub use session::{Bearer, Link, Second, Session, Stage};
 pub use step::{Entry, Reply, Step};
 pub use step_laws::{
     answers_in_range, elsewhere_fits_no_row, listed_areas_are_forbidden, one_row_fits,

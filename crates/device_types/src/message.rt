@@ -5,6 +5,15 @@ use crate::list_of::{ListOf, Octets};
 use crate::try_copy::TryCopy;
 use std::alloc::AllocError;
 
+/// A base station's end of a bearer's tunnel (TS 36.413, 9.2.2.1 and 9.2.2.2).
+#[derive(Clone, Copy, Debug, PartialEq, Eq)]
+pub struct Side {
+    /// Its IPv4 address.
+    pub addr: u32,
+    /// Its tunnel endpoint identifier.
+    pub teid: u32,
+}
+
 /// What a message says. NAS messages are those of 3GPP TS 24.301, and the others those of TS 36.413, but for the gateway's notice.
 #[derive(Debug, Drop)]
 pub enum Body {
@@ -56,6 +65,8 @@ pub enum Body {
         addr: u32,
         /// The base station's tunnel endpoint identifier for it.
         teid: u32,
+        /// The base station's side of the second bearer, E-RAB 6, where the response has it too.
+        second: Option<Side>,
     },
     /// INITIAL CONTEXT SETUP FAILURE (9.1.4.4), or a response without that bearer.
     ContextFailed,
@@ -73,6 +84,22 @@ pub enum Body {
     },
     /// The gateway's notice that data waits for the device (TS 29.274, 7.2.11). It comes from no base station.
     Data,
+    /// PDN CONNECTIVITY REQUEST for a second connection (TS 24.301, 8.3.20).
+    PdnRequest {
+        /// The procedure transaction identity of the request (9.4).
+        pti: u8,
+    },
+    /// ACTIVATE DEFAULT EPS BEARER CONTEXT ACCEPT (8.3.4) of the second connection.
+    PdnAccept,
+    /// E-RAB SETUP RESPONSE with the second bearer, E-RAB 6 (TS 36.413, 9.1.3.2).
+    SecondDone {
+        /// The base station's IPv4 address for the bearer.
+        addr: u32,
+        /// The base station's tunnel endpoint identifier for it.
+        teid: u32,
+    },
+    /// E-RAB SETUP RESPONSE without that bearer.
+    SecondRefused,
 }
 
 /// By hand, since each field of a derived clone may fail.
@@ -110,9 +137,10 @@ impl Clone for Body {
             Body::Secured => Ok(Body::Secured),
             Body::SecurityRefused => Ok(Body::SecurityRefused),
             Body::AttachDone => Ok(Body::AttachDone),
-            Body::ContextDone { addr, teid } => Ok(Body::ContextDone {
+            Body::ContextDone { addr, teid, second } => Ok(Body::ContextDone {
                 addr: *addr,
                 teid: *teid,
+                second: *second,
             }),
             Body::ContextFailed => Ok(Body::ContextFailed),
             Body::ReleaseAsked { cause } => Ok(Body::ReleaseAsked { cause: *cause }),
@@ -121,6 +149,13 @@ impl Clone for Body {
                 octets: octets.copy()?,
             }),
             Body::Data => Ok(Body::Data),
+            Body::PdnRequest { pti } => Ok(Body::PdnRequest { pti: *pti }),
+            Body::PdnAccept => Ok(Body::PdnAccept),
+            Body::SecondDone { addr, teid } => Ok(Body::SecondDone {
+                addr: *addr,
+                teid: *teid,
+            }),
+            Body::SecondRefused => Ok(Body::SecondRefused),
         }
     }
 }

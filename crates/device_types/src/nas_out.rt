@@ -4,7 +4,8 @@ use crate::list_of::{Octets, copy_two};
 use crate::try_copy::TryCopy;
 use std::alloc::AllocError;
 
-/// An EPS mobility management message from the network (3GPP TS 24.301, 8.2), with its mandatory fields.
+/// An EPS mobility management or session management message from the network (3GPP TS 24.301, 8.2 and 8.3), with its mandatory
+/// fields.
 #[derive(Debug, Drop)]
 pub enum NasOut {
     /// AUTHENTICATION REQUEST (8.2.7).
@@ -57,6 +58,22 @@ pub enum NasOut {
     AreaAccept,
     /// DETACH ACCEPT (8.2.10.1).
     DetachAccept,
+    /// PDN CONNECTIVITY REJECT (8.3.19).
+    PdnReject {
+        /// The procedure transaction identity of the request (9.4).
+        pti: u8,
+        /// The ESM cause (9.9.4.4).
+        cause: u8,
+    },
+    /// ACTIVATE DEFAULT EPS BEARER CONTEXT REQUEST (8.3.6) for EPS bearer identity 6, with QCI 9 (9.9.4.3).
+    Activate {
+        /// The procedure transaction identity of the request (9.4).
+        pti: u8,
+        /// The access point name, one label of 1 to 30 octets (9.9.4.1).
+        apn: Octets,
+        /// The device's IPv4 address (9.9.4.9).
+        ip: u32,
+    },
 }
 
 /// By hand, since each field of a derived clone may fail.
@@ -94,6 +111,15 @@ impl Clone for NasOut {
             NasOut::AreaReject { cause } => Ok(NasOut::AreaReject { cause: *cause }),
             NasOut::AreaAccept => Ok(NasOut::AreaAccept),
             NasOut::DetachAccept => Ok(NasOut::DetachAccept),
+            NasOut::PdnReject { pti, cause } => Ok(NasOut::PdnReject {
+                pti: *pti,
+                cause: *cause,
+            }),
+            NasOut::Activate { pti, apn, ip } => Ok(NasOut::Activate {
+                pti: *pti,
+                apn: apn.copy()?,
+                ip: *ip,
+            }),
         }
     }
 }

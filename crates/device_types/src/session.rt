@@ -44,6 +44,10 @@ pub enum Stage {
     Idle,
     /// The gateway is told to delete the device's session.
     AwaitDelete,
+    /// The session of its second connection at the gateway is asked for.
+    AwaitSecond,
+    /// The gateway is told where downlink data of the second connection goes.
+    AwaitSecondModify,
 }
 
 /// The S1 connection of a device.
@@ -68,6 +72,21 @@ pub enum Bearer {
     /// The gateway has it, and no base station.
     Made,
     /// The gateway and a base station have it.
+    Active,
+}
+
+/// The second connection of a device, and its default bearer.
+#[derive(Clone, Copy, Debug, PartialEq, Eq)]
+pub enum Second {
+    /// There is none.
+    None,
+    /// The gateway has it: neither the base station nor the device has answered.
+    Made,
+    /// The base station has its bearer, the device has not answered.
+    Radio,
+    /// The device has accepted it, the base station has not answered.
+    Accepted,
+    /// The gateway, a base station and the device have it.
     Active,
 }
 
@@ -116,6 +135,20 @@ pub struct Session {
     pub cause: CauseCode,
     /// How many octets its radio capability has.
     pub radio: u32,
+    /// Its second connection.
+    pub second: Second,
+    /// The procedure transaction identity of its request for the second connection (TS 24.301, 9.4).
+    pub pti2: u8,
+    /// The IPv4 address of its serving gateway for the second connection.
+    pub sgw2: u32,
+    /// The tunnel endpoint identifier of its serving gateway for the second connection.
+    pub teid2: u32,
+    /// Its own IPv4 address on the second connection.
+    pub ip2: u32,
+    /// The IPv4 address of the base station for its second bearer.
+    pub side2_addr: u32,
+    /// The tunnel endpoint identifier of the base station for its second bearer.
+    pub side2_teid: u32,
 }
 
 impl Session {
@@ -149,6 +182,13 @@ impl Session {
                 index: 0,
             },
             radio: 0,
+            second: Second::None,
+            pti2: 0,
+            sgw2: 0,
+            teid2: 0,
+            ip2: 0,
+            side2_addr: 0,
+            side2_teid: 0,
         }
     }
 
@@ -178,6 +218,13 @@ impl Session {
             off: self.off,
             cause: self.cause,
             radio: self.radio,
+            second: self.second,
+            pti2: self.pti2,
+            sgw2: self.sgw2,
+            teid2: self.teid2,
+            ip2: self.ip2,
+            side2_addr: self.side2_addr,
+            side2_teid: self.side2_teid,
         }
     }
 }

@@ -53,7 +53,9 @@ impl Session {
             | Stage::AwaitCreate
             | Stage::AwaitModify
             | Stage::AwaitRelease
-            | Stage::AwaitDelete => false,
+            | Stage::AwaitDelete
+            | Stage::AwaitSecond
+            | Stage::AwaitSecondModify => false,
             _ => true,
         }
     }

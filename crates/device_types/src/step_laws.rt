@@ -74,7 +74,7 @@ pub fn step_can_be_written(_row: &Subscriber, _session: &Session, _input: &Input
     requires cause { IsCauseCode _session.now.cause }
     requires input { IsInput _input.now }
     ensures cause { IsCauseCode (step_of _row.now _session.now _input.now).session.cause }
-    ensures effects { All IsWritable (step_of _row.now _session.now _input.now).effects }
+    ensures effects { All (IsWritable _row.now) (step_of _row.now _session.now _input.now).effects }
 {}
 
 /// A device that is neither detached nor idle keeps an S1 connection, and each message to it but a paging goes to a base station.

@@ -1,5 +1,5 @@
 //! The subscribers of the core.
-ghost use Rattle.std.specs.Prelude.{◌≡◌, ◌≤◌, ◌-◌};
+ghost use Rattle.std.specs.Prelude.{◌≡◌, ◌≤◌, ◌-◌, IfOk};
 
 use crate::list_of::{Areas, Octets, copy_two};
 use crate::try_copy::TryCopy;
@@ -50,6 +50,20 @@ pub struct Subscriber {
     pub ambr_ul: u64,
     /// The tracking areas where the device is not served, at most 16.
     pub forbidden: Areas,
+    /// The access point name of the second connection, 1 to 30 lower-case letters and digits, where the subscriber has one.
+    pub apn2: Option<Octets>,
+    /// The IPv4 address of the device on its second connection, where the subscriber has one.
+    pub ip2: Option<u32>,
+}
+
+/// Copies a list of octets, where there is one.
+fn copy_option(octets: &Option<Octets>) -> Result<Option<Octets>, AllocError>
+    ensures { IfOk result (λ copy. copy ≡ octets.now) }
+{
+    match octets {
+        None => Ok(None),
+        Some(octets) => Ok(Some(octets.copy()?)),
+    }
 }
 
 impl Subscriber {
@@ -62,9 +76,10 @@ impl Subscriber {
         key: Octets,
         apn: Octets,
         forbidden: Areas,
+        apn2: Option<Octets>,
     ) -> Subscriber
         ensures { result
-            ≡ record self.now { rand = rand; autn = autn; res = res; key = key; apn = apn; forbidden = forbidden } }
+            ≡ record self.now { rand = rand; autn = autn; res = res; key = key; apn = apn; forbidden = forbidden; apn2 = apn2 } }
     {
         Subscriber {
             number: self.number,
@@ -81,11 +96,13 @@ impl Subscriber {
             ambr_dl: self.ambr_dl,
             ambr_ul: self.ambr_ul,
             forbidden,
+            apn2,
+            ip2: self.ip2,
         }
     }
 }
 
-/// The row is copied exactly. By hand, since each field of a derived clone may fail, and only six take memory.
+/// The row is copied exactly. By hand, since each field of a derived clone may fail, and only seven take memory.
 impl Clone for Subscriber {
     ghost use Rattle.std.specs.Prelude.{◌≡◌};
 
@@ -94,8 +111,9 @@ impl Clone for Subscriber {
     fn clone(&self) -> Result<Subscriber, AllocError> {
         let (rand, autn) = copy_two(&self.rand, &self.autn)?;
         let (res, key) = copy_two(&self.res, &self.key)?;
-        let apn = self.apn.copy()?;
-        Ok(self.with_lists(rand, autn, res, key, apn, self.forbidden.copy()?))
+        let (apn, apn2) = (self.apn.copy()?, copy_option(&self.apn2)?);
+        let forbidden = self.forbidden.copy()?;
+        Ok(self.with_lists(rand, autn, res, key, apn, forbidden, apn2))
     }
 }
 

@@ -58,6 +58,7 @@ numbered_can_follow charter d journal entry in_form lawful follows =
     rw (← is.2) (record {
       ready = rw (taken, none, late, past, next) refl;
       session = record {
+        stage = omega arith;
         link = tt;
         area = search rules;
         eea = omega arith;
@@ -75,6 +76,7 @@ numbered_can_follow charter d journal entry in_form lawful follows =
         side_teid = omega arith;
         cause = search rules;
         radio = search rules;
+        no_second = (refl, refl, refl, refl, refl, refl, refl);
       };
       calls = omega arith;
     })

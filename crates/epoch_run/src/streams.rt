@@ -30,7 +30,11 @@ fn begins(message: &Message) -> bool
         | Body::ContextFailed
         | Body::ReleaseAsked { .. }
         | Body::Released
-        | Body::Capability { .. } => false,
+        | Body::Capability { .. }
+        | Body::PdnRequest { .. }
+        | Body::PdnAccept
+        | Body::SecondDone { .. }
+        | Body::SecondRefused => false,
     }
 }
 

@@ -1,7 +1,7 @@
 -- What became of the devices of a settled world is what the machine that never fails makes of them; and where it is, the world is settled.
 use Rattle.std.proofs.Common.{◌≡◌, ℕ, zero, suc, ◌+◌, ◌*◌, ◌-◌, ◌≤◌, ◌<◌, true, Option, Some, None, List, [], ◌∷◌, ◌++◌, length, take, get_or, refl, sym, ap, ◌∙◌, subst, arith, length-append, append-nil}
 use Rattle.std.specs.Prelude.{map, All, cond}
-use Rattle.std.specs.List.{filter_map, cons_option, zip}
+use Rattle.std.specs.List.{AllZip, filter_map, cons_option, zip}
 use Rattle.std.proofs.lemmas.List.{same_lists, get_or-map, length-map, length-take, take_all}
 use Rattle.std.proofs.lemmas.List.Elements.{All-nil, All-cons, All-head, All-tail}
 use Rattle.std.proofs.lemmas.List.FromFn.{length-map-range_with_len, get_or-map-range_with_len}
@@ -22,6 +22,7 @@ use Rattle.device_types.specs.declared.step.Entry.{Entry}
 use Rattle.device_types.specs.declared.subscriber.Subscriber.{Subscriber as SubscriberRow}
 use Rattle.device_types.specs.Alone.{alone_of, messages_in}
 use Rattle.device_types.specs.Alone.{messages_of as messages_taken}
+use Rattle.device_types.specs.Finals.{IsEndOf}
 use Rattle.device_types.specs.Journal.{version_of, session_of, is_message, taken_count, effects_of, pushed_count}
 use Rattle.device_types.specs.Line.{IsLine}
 use Rattle.device_types.specs.Subscriber.{IsSubscriber}
@@ -183,7 +184,6 @@ end_form : (row : SubscriberRow) (ms : List Message) → IsSubscriber row → Is
 end_form row ms r line short =
     let steps = few_entries row ms in
     record {
-      downs = end_written row ms r line.ranges short;
       few_messages = omega arith;
       few_steps = omega arith;
       few_downs = (let n = few_values down_in effects.Down (effects_of Down (alone_of row ms)) (downs_whole (alone_of row ms)) in let most = few_on row ms Down in omega arith);
@@ -199,6 +199,17 @@ ends_form (row ∷ rows) (ms ∷ book) r l few =
     (end_form row ms (All-head IsSubscriber row rows r) (All-head IsLine ms book l) (All-head IsShort ms book few))
     (ends_form rows book (All-tail IsSubscriber row rows r) (All-tail IsLine ms book l) (All-tail IsShort ms book few))
 
+-- the messages of each can be written
+pub ends_written : (rows : List SubscriberRow) (book : List (List Message)) → length book ≡ length rows → All IsSubscriber rows → All IsLine book → All IsShort book → AllZip IsEndOf rows (finals_of rows book)
+ends_written [] [] each r l few = tt
+ends_written [] (ms ∷ book) each r l few = absurd (omega (arith, each))
+ends_written (row ∷ rows) [] each r l few = absurd (omega (arith, each))
+ends_written (row ∷ rows) (ms ∷ book) each r l few =
+    let line = All-head IsLine ms book l in (
+      end_written row ms (All-head IsSubscriber row rows r) line.ranges (All-head IsShort ms book few),
+      ends_written rows book (omega (arith, each)) (All-tail IsSubscriber row rows r) (All-tail IsLine ms book l) (All-tail IsShort ms book few),
+    )
+
 -- of a settled world they are those of an exact floor
 pub ends_on : (w : WorldState) → IsWorld w → IsSettled w → EndsOn w.setting true (finals_in w)
 ends_on w is settled =
@@ -207,5 +218,6 @@ ends_on w is settled =
     record {
       count = length_ends w;
       in_form = subst (All IsEnd) (sym same) (ends_form s.rows s.book is.setting.rows is.setting.lines is.setting.short);
+      written = subst (AllZip IsEndOf s.rows) (sym same) (ends_written s.rows s.book is.setting.each is.setting.rows is.setting.lines is.setting.short);
       definition = λ exact. same;
     }

@@ -1,8 +1,9 @@
 -- Where a schedule is run: what a floor runs on, what it was given, and what it ends with.
 use Rattle.std.specs.Prelude.{◌≡◌, ◌≤◌, Bool, true, List, length, map, reverse, All, Option, Some, None}
+use Rattle.std.specs.List.{AllZip}
 use Rattle.device_types.specs.declared.event.Event.{Event}
 use Rattle.device_types.specs.declared.finals.DeviceEnd.{DeviceEnd}
-use Rattle.device_types.specs.Down.{IsDown}
+use Rattle.device_types.specs.Finals.{IsEndOf}
 use Rattle.device_machine.specs.Ends.{finals_of}
 use Rattle.schedule_laws.specs.Answer.{history, IsEvent}
 use Rattle.schedule_laws.specs.Counts.{Turn}
@@ -26,19 +27,20 @@ abbrev pub IsEventOn : Option Setting → Event → Type 0
 IsEventOn None event = ⊥
 IsEventOn (Some s) event = IsEvent s event
 
--- the messages to the device can be written, and of all there are no more than the machine of a device makes
+-- of all there are no more than the machine of a device makes
 pub record IsEnd (end : DeviceEnd) : Type 0 where
-  pub downs : All IsDown end.downs
   pub few_messages : end.messages ≤ 300000
   pub few_steps : end.steps ≤ 300000
   pub few_downs : length end.downs ≤ 1200000
   pub few_gateway : length end.gateway ≤ 1200000
   pub few_subscriber : length end.subscriber ≤ 1200000
 
--- what became of the devices of a setting: an end for each row; on an exact floor that of the machine that never fails
+-- what became of the devices of a setting: an end for each row, whose messages can be written; on an exact floor that of the machine that
+-- never fails
 pub record EndsOn (s : Setting) (exact : Bool) (ends : List DeviceEnd) : Type 0 where
   pub count : length ends ≡ length s.rows
   pub in_form : All IsEnd ends
+  pub written : AllZip IsEndOf s.rows ends
   pub definition : exact ≡ true → ends ≡ finals_of s.rows s.book
 
 abbrev pub AreEndsOn : Option Setting → Bool → List DeviceEnd → Type 0

@@ -5,7 +5,7 @@
 //! with a plus where it stands behind the extension mark; an effect with a semicolon behind it.
 ghost use Rattle.std.specs.Prelude.{◌≡◌, IfOk};
 
-use device_types::{Areas, Body, CauseCode, Down, Effect, Message, Octets, Subscriber};
+use device_types::{Areas, Body, CauseCode, Down, Effect, Message, Octets, Side, Subscriber};
 use std::alloc::{AllocError, Global};
 use std::test::Fail;
 
@@ -48,6 +48,8 @@ fn subscriber(alloc: Global) -> Result<Subscriber, AllocError>
         teid: 58,
         ip: 59,
         forbidden: Areas::new(alloc),
+        apn2: Some(Octets::new(alloc)),
+        ip2: Some(60),
     };
     fill(&mut row)?;
     Ok(row)
@@ -85,6 +87,15 @@ fn is_off(word: &str) -> Result<bool, Fail> {
     }
 }
 
+/// A context that is set up, with the second bearer's side or without.
+fn context_done(second: Option<Side>) -> Body {
+    Body::ContextDone {
+        addr: 41,
+        teid: 42,
+        second,
+    }
+}
+
 /// A message that is told by its name alone.
 fn bare_body(alloc: Global, name: &str) -> Result<Body, Fail> {
     Ok(match name {
@@ -92,7 +103,8 @@ fn bare_body(alloc: Global, name: &str) -> Result<Body, Fail> {
         "Secured" => Body::Secured,
         "SecurityRefused" => Body::SecurityRefused,
         "AttachDone" => Body::AttachDone,
-        "ContextDone" => Body::ContextDone { addr: 41, teid: 42 },
+        "ContextDone" => context_done(None),
+        "ContextDone second" => context_done(Some(Side { addr: 43, teid: 44 })),
         "ContextFailed" => Body::ContextFailed,
         "ReleaseAsked" => Body::ReleaseAsked { cause: ASKED },
         "Released" => Body::Released,
@@ -100,6 +112,10 @@ fn bare_body(alloc: Global, name: &str) -> Result<Body, Fail> {
             octets: Octets::from(Vec::from_array(alloc, [61, 62, 63])?),
         },
         "Data" => Body::Data,
+        "PdnRequest" => Body::PdnRequest { pti: 45 },
+        "PdnAccept" => Body::PdnAccept,
+        "SecondDone" => Body::SecondDone { addr: 46, teid: 47 },
+        "SecondRefused" => Body::SecondRefused,
         _ => return Err(Fail::new("no such message")),
     })
 }
@@ -190,6 +206,7 @@ fn write_down(text: &mut String, down: &Down) -> Result<(), AllocError> {
             write_cause(text, *cause)
         }
         Down::Page { plmn, tac } => write!(text, " page {plmn} {tac}"),
+        Down::Erab { .. } | Down::SetupTwo { .. } => write!(text, " {down:?}"),
     }
 }
 

@@ -17,7 +17,8 @@ plmn: 194617, tac: 1543, eea: 8, eia: 9, pti: 10, res: ListOf { items: [177, 178
 [192, 193, 194, 195, 196, 197, 198, 199, 200, 201, 202, 203, 204, 205, 206, 207, \
 208, 209, 210, 211, 212, 213, 214, 215, 216, 217, 218, 219, 220, 221, 222, 223] } }, dl: 4328719365, ul: 8640529670, \
 sgw: 3232235521, teid: 185339150, ip: 170721281, side_addr: 3232235522, side_teid: 252711186, bearer: Active, \
-registered: true, off: false, cause: CauseCode { group: 3, extended: true, index: 21 }, radio: 370612249 }";
+registered: true, off: false, cause: CauseCode { group: 3, extended: true, index: 21 }, radio: 370612249, \
+second: None, pti2: 0, sgw2: 0, teid2: 0, ip2: 0, side2_addr: 0, side2_teid: 0 }";
 
 /// Changes of that session: at a place so many octets are taken away and others put there. `kept` says that what comes of it is
 /// read, and written as it was; a number is the place where it is BadSession.
@@ -27,6 +28,7 @@ form 0 1 00 0\n\
 form 0 1 02 0\n\
 stage 1 1 0f kept\n\
 stage 1 1 10 1\n\
+stage 1 1 11 1\n\
 link 2 1 02 2\n\
 link 2 1 00 3\n\
 off 2 7 00000000000000 kept\n\

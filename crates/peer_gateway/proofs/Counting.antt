@@ -36,6 +36,8 @@ creates_one x = by_call x.call x.creates
     by_call (gateway.Modify addr teid) n = search (rules, common_steps)
     by_call gateway.Release n = search (rules, common_steps)
     by_call gateway.Delete n = search (rules, common_steps)
+    by_call gateway.SecondCreate n = search (rules, common_steps)
+    by_call (gateway.SecondModify addr teid) n = search (rules, common_steps)
 
 -- the effects of the calls
 pub same_effects : (xs : List Counted) → map effects.Gateway (map call_in xs) ≡ map effect_in xs

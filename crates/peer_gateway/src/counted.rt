@@ -22,8 +22,9 @@ impl Counted {
         ensures { result ≡ creates_with self }
     {
         match self.call {
-            GwCall::Create => self.creates + 1,
-            GwCall::Modify(_, _) | GwCall::Release | GwCall::Delete => self.creates,
+            GwCall::Create | GwCall::SecondCreate => self.creates + 1,
+            GwCall::Modify(_, _) | GwCall::Release | GwCall::Delete | GwCall::SecondModify(_, _) =>
+                self.creates,
         }
     }
 }
@@ -38,6 +39,10 @@ pub(crate) fn answer(row: &Subscriber, creates: u32, call: GwCall) -> Answer
         GwCall::Modify(_, _) => Answer::Modified,
         GwCall::Release => Answer::Freed,
         GwCall::Delete => Answer::Deleted,
+        GwCall::SecondCreate => {
+            Answer::SecondCreated(row.sgw, row.teid + creates, row.ip2.unwrap_or(0))
+        }
+        GwCall::SecondModify(_, _) => Answer::SecondModified,
     }
 }
 

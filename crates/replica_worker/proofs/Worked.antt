@@ -41,6 +41,8 @@ row number = record {
   ambr_dl = 10;
   ambr_ul = 11;
   forbidden = [];
+  apn2 = None;
+  ip2 = None;
 }
 
 second : DeviceId

@@ -8,8 +8,9 @@ use std::alloc::{AllocError, Global};
 use std::test::Fail;
 
 /// A device, the number of a call, the call, and what the gateway says. Device 1 has the address 10.45.0.1 (170721281) of the gateway
-/// 192.168.0.1 (3232235521) and the tunnel 1, device 2 the address 10.45.0.2 of the gateway 192.168.0.3 and the tunnel 256. Each
-/// session has a tunnel of its own.
+/// 192.168.0.1 (3232235521) and the tunnel 1, and on a second connection the address 10.45.128.1 (170754049); device 2 the address
+/// 10.45.0.2 of the gateway 192.168.0.3 and the tunnel 256, and no second address, which is told as 0. Each session has a tunnel of
+/// its own, a second one too.
 const OFFERS: &str = "\
 1 2 modify Ahead(0)
 1 1 create Accepted(Created(3232235521, 1, 170721281))
@@ -39,15 +40,32 @@ const OFFERS: &str = "\
 1 3 modify Repeat(Freed)
 1 4 release Repeat(Deleted)
 2 7 delete Ahead(3)
+1 7 second-create Accepted(SecondCreated(3232235521, 4, 170754049))
+1 7 second-create Repeat(SecondCreated(3232235521, 4, 170754049))
+1 8 second-modify Accepted(SecondModified)
+1 8 second-modify Repeat(SecondModified)
+1 9 create Accepted(Created(3232235521, 5, 170721281))
+1 11 second-create Ahead(9)
+1 11 second-modify Ahead(9)
+1 7 delete Repeat(SecondCreated(3232235521, 4, 170754049))
+1 8 create Repeat(SecondModified)
+2 4 second-create Accepted(SecondCreated(3232235523, 259, 0))
 ";
 
 /// What was accepted: how many calls of device 1, four of them, and the calls of device 2.
 const ACCEPTED: &str = "\
-6 Some(Create) Some(Modify(3232235522, 2)) Some(Release) Some(Delete) None
-ListOf { items: [Create, Create, Create] }
+9 Some(Create) Some(Modify(3232235522, 2)) Some(Release) Some(Delete) None
+ListOf { items: [Create, Create, Create, SecondCreate] }
 ";
 
-fn subscriber(alloc: Global, number: u32, ip: u32, sgw: u32, teid: u32) -> Subscriber
+fn subscriber(
+    alloc: Global,
+    number: u32,
+    ip: u32,
+    sgw: u32,
+    teid: u32,
+    ip2: Option<u32>,
+) -> Subscriber
     ensures number { result.number ≡ number }
     ensures tunnel { result.teid ≡ teid }
 {
@@ -66,6 +84,8 @@ fn subscriber(alloc: Global, number: u32, ip: u32, sgw: u32, teid: u32) -> Subsc
         ambr_dl: 1000000000,
         ambr_ul: 500000000,
         forbidden: Areas::new(alloc),
+        apn2: None,
+        ip2,
     }
 }
 
@@ -74,9 +94,9 @@ fn row_of(alloc: Global, device: &str) -> Subscriber
     ensures tunnel { result.teid ≤ 4000000000 }
 {
     if device == "1" {
-        return subscriber(alloc, 1, 0x0a2d_0001, 0xc0a8_0001, 1);
+        return subscriber(alloc, 1, 0x0a2d_0001, 0xc0a8_0001, 1, Some(0x0a2d_8001));
     }
-    subscriber(alloc, 2, 0x0a2d_0002, 0xc0a8_0003, 256)
+    subscriber(alloc, 2, 0x0a2d_0002, 0xc0a8_0003, 256, None)
 }
 
 fn call_of(word: &str) -> GwCall {
@@ -84,6 +104,8 @@ fn call_of(word: &str) -> GwCall {
         "create" => GwCall::Create,
         "modify" => GwCall::Modify(0xc0a8_0002, 2),
         "release" => GwCall::Release,
+        "second-create" => GwCall::SecondCreate,
+        "second-modify" => GwCall::SecondModify(0xc0a8_0004, 3),
         _ => GwCall::Delete,
     }
 }
@@ -130,7 +152,7 @@ fn tell_accepted(alloc: Global, gateway: &Gateway, told: &mut String) -> Result<
     let d = DeviceId(1);
     write!(told, "{} {:?} ", gateway.accepted(d), gateway.call(d, 1))?;
     write!(told, "{:?} {:?} ", gateway.call(d, 2), gateway.call(d, 3))?;
-    writeln!(told, "{:?} {:?}", gateway.call(d, 4), gateway.call(d, 7))?;
+    writeln!(told, "{:?} {:?}", gateway.call(d, 4), gateway.call(d, 10))?;
     let calls = gateway.calls(alloc, DeviceId(2))?;
     writeln!(told, "{calls:?}")
 }

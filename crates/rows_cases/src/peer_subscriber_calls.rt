@@ -72,6 +72,8 @@ fn subscriber(
         ambr_dl,
         ambr_ul,
         forbidden: Areas::new(alloc),
+        apn2: None,
+        ip2: None,
     })
 }
 

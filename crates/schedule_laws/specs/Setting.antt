@@ -1,5 +1,5 @@
 -- What a schedule runs on: the subscribers' rows, the messages of each device, and the number of replicas.
-use Rattle.std.specs.Prelude.{ℕ, ◌-◌, List, [], length, slice_index_or}
+use Rattle.std.specs.Prelude.{ℕ, ◌-◌, List, [], length, None, slice_index_or}
 use Rattle.device_types.specs.declared.message.Message.{Message}
 use Rattle.device_types.specs.declared.step.Entry.{Entry}
 use Rattle.device_types.specs.declared.subscriber.Subscriber.{Subscriber}
@@ -17,7 +17,7 @@ window = 4
 
 -- the row where there is none
 abbrev pub no_row : Subscriber
-no_row = record { number = 0; imsi = 0; tmsi = 0; rand = []; autn = []; res = []; key = []; apn = []; ip = 0; sgw = 0; teid = 0; ambr_dl = 0; ambr_ul = 0; forbidden = [] }
+no_row = record { number = 0; imsi = 0; tmsi = 0; rand = []; autn = []; res = []; key = []; apn = []; ip = 0; sgw = 0; teid = 0; ambr_dl = 0; ambr_ul = 0; forbidden = []; apn2 = None; ip2 = None }
 
 -- the row of device d
 abbrev pub row_of : Setting → ℕ → Subscriber

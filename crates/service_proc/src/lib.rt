@@ -1,13 +1,14 @@
 //! The service request, data that waits, and the release of the S1 connection (3GPP TS 23.401, 5.3.4.1, 5.3.4.3 and 5.3.5).
 #![tactic(auto)]
 
-ghost use Rattle.std.specs.Prelude.{◌≡◌, ◌^◌, ◌-◌, ◌∷◌, [], min, length, IfOk};
+ghost use Rattle.std.specs.Prelude.{◌≡◌, ◌^◌, ◌-◌, ◌∷◌, [], min, length, IfOk, Option};
 ghost use Rattle.device_types.specs.Acts.{run, enters, tells_to, sets_up, pages, moves_connection};
 ghost use Rattle.device_types.specs.Rule.{rule, fitting, at};
 ghost use Rattle.device_types.specs.Service.{service_message, service_answer};
 ghost use Rattle.device_types.specs.StepTable.{service_rules};
 ghost use Rattle.device_types.specs.declared.down.Accept.TheVariants.{No};
 ghost use Rattle.device_types.specs.declared.message.Body.TheVariants as bodies;
+ghost use Rattle.device_types.specs.declared.message.Side.{Side};
 ghost use Rattle.device_types.specs.declared.nas_out.NasOut.TheVariants.{ServiceReject};
 ghost use Rattle.device_types.specs.declared.session.Stage.TheVariants.{Connecting, Idle};
 
@@ -36,7 +37,7 @@ fn on_message(session: &Session, message: &Message) -> Result<Option<Step>, Allo
 {
     match &message.body {
         Body::Service => request(session, message),
-        Body::ContextDone { addr, teid } => context_done(session, message, *addr, *teid),
+        Body::ContextDone { addr, teid, .. } => context_done(session, message, *addr, *teid),
         Body::ContextFailed => context_failed(session, message),
         Body::ReleaseAsked { cause } => release_asked(session, message, *cause),
         Body::Released => released(session, message),
@@ -83,14 +84,14 @@ fn reject(session: &Session, message: &Message) -> Result<Step, AllocError>
     with_effect(session.copy()?, effect)
 }
 
-/// The base station has set up the context.
+/// The base station has set up the context, whatever it says of a second bearer.
 fn context_done(
     session: &Session,
     message: &Message,
     addr: u32,
     teid: u32,
 ) -> Result<Option<Step>, AllocError>
-    ensures { IfOk result (λ step. step ≡ fitting (service_message session.now message.now (bodies.ContextDone addr teid)) session.now) }
+    ensures { IfOk result (λ step. (second : Option Side) → step ≡ fitting (service_message session.now message.now (bodies.ContextDone addr teid second)) session.now) }
 {
     if !(session.is_here(message) && session.is_at(Stage::Connecting)) {
         return Ok(None);

@@ -12,7 +12,7 @@ use Rattle.echo_base.specs.Reading.{known}
 use Rattle.echo_base.proofs.Answers.{ok_of, bind, bind_same, bind_assoc, refused_ok, refused_err}
 use Rattle.echo_base.proofs.Formats.{just_exactly, behind, known_exactly}
 use Rattle.session_form.specs.Fields as fields
-use Rattle.session_form.specs.Fields.{Input, bad, Format, Reader, Code, plain, only, listed, number_of, value_of, Field, number, octets, counted, either, also, named, octets_in, from_here, IsNumberOf, number_in, choice_in, format, end_in, format_alone, octets_at, number_at, value_at, choice_at, reading, end_at, reading_alone}
+use Rattle.session_form.specs.Fields.{Input, bad, Format, Reader, Code, plain, only, listed, number_of, value_of, Field, number, always, octets, counted, either, also, named, octets_in, from_here, IsNumberOf, number_in, choice_in, format, end_in, format_alone, octets_at, number_at, value_at, choice_at, reading, end_at, reading_alone}
 
 -- ---- inputs
 
@@ -125,6 +125,7 @@ choice_exactly F f G g p q (suc n) = behind _ _ _ _ q (λ b. just_exactly (inr b
 pub exactly : {A : Type 0} (p : Field A) → IsExactly (format p) (reading p)
 unfolding format reading
 exactly (number code n least most fits) = value_exactly code n least most
+exactly (always a) = just_exactly a
 exactly (octets n) = octets_exactly n
 exactly (counted most fits) = behind _ _ _ _ (plain_exactly 1 0 most) octets_exactly
 exactly (either p q) = behind _ _ _ _ (plain_exactly 1 0 1) (choice_exactly _ _ _ _ (exactly p) (exactly q))

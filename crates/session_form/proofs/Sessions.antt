@@ -13,7 +13,7 @@ use Rattle.echo_base.specs.Reading as readings
 use Rattle.echo_base.specs.Reading.{Read, GivesTaking}
 use Rattle.echo_base.proofs.Answers.{ok_of, ok_err, ok_is, err_is}
 use Rattle.echo_base.proofs.Formats.{value_ok, value_err}
-use Rattle.session_form.specs.Fields.{Input, Format, Code, plain, Field, number, octets, counted, either, also, named, number_in, choice_in, format, format_alone, reading_alone, run, InRange}
+use Rattle.session_form.specs.Fields.{Input, Format, Code, plain, Field, number, always, octets, counted, either, also, named, number_in, choice_in, format, format_alone, reading_alone, run, InRange}
 use Rattle.session_form.specs.Form.{session_field, start, form_of, IsFormOf, IsWrongAt, TakesMemory, session_at, session_in}
 use Rattle.session_form.proofs.Exact.{alone_exactly}
 use Rattle.session_form.proofs.Spelled.{spelled, written}
@@ -60,6 +60,7 @@ choice_due F G f g (suc n) at e h = elim h [
 due : {A : Type 0} (p : Field A) → IsDue (format p)
 unfolding format
 due (number code n least most fits) at e h = number_due code n least most at e h
+due (always a) at e h = absurd h
 due (octets n) at e h = ap (λ (d : Refusal). d.reason) h.1
 due (counted most fits) at e h = elim h [
   | inl first ↦ number_due plain 1 0 most at e first

@@ -6,7 +6,7 @@ use Rattle.std.proofs.lemmas.List.Elements.{All-nil, All-cons, All-head, All-tai
 use Rattle.byteorder.specs.Endian.{big_number, big_bytes}
 use Rattle.byteorder.specs.Numbers.{big_number-reads_back, length-bytes_high_first}
 use Rattle.device_types.specs.Octets.{AreOctets}
-use Rattle.session_form.specs.Fields.{Input, Format, Code, plain, number_of, Field, number, octets, counted, either, also, named, is_most, number_in, choice_in, format, number_run, run, written_onto, InRange}
+use Rattle.session_form.specs.Fields.{Input, Format, Code, plain, number_of, Field, number, always, octets, counted, either, also, named, is_most, number_in, choice_in, format, number_run, run, written_onto, InRange}
 use Rattle.session_form.proofs.Octets.{octets_back}
 
 -- ---- a run behind what stands in front of it
@@ -14,6 +14,7 @@ use Rattle.session_form.proofs.Octets.{octets_back}
 pub onto_is : {A : Type 0} (p : Field A) (v : A) (front : List ℕ) → written_onto p v front ≡ front ++ run p v
 unfolding run written_onto
 onto_is (number code n least most fits) v front = refl
+onto_is (always a) v front = sym (append-nil front)
 onto_is (octets n) v front = refl
 onto_is (counted most fits) v front = append_assoc front (number_run 1 (length v)) v
 onto_is (either p q) (inl a) front = onto_is p a (front ++ number_run 1 0) ∙ append_assoc front (number_run 1 0) (run p a)
@@ -63,6 +64,7 @@ at_end F v front back place rest h =
 pub spelled : {A : Type 0} (p : Field A) (v : A) → InRange p v → IsSpelled (format p) v (run p v)
 unfolding format run
 spelled (number code n least most fits) v r place rest = number_spelled code n least most fits v r.0 r.1 place rest
+spelled (always a) v r place rest = (let here : place ≡ place + 0 = omega arith in (r, ap (λ (p : ℕ). (let at : Input = record { place = p; left = rest } in at)) here))
 spelled (octets n) v r place rest = (refl, r.0, ap (λ (m : ℕ). place + m) r.0)
 spelled (counted most fits) v r place rest =
     let front = number_run 1 (length v) in (
@@ -140,6 +142,7 @@ choice_written p q (suc n) at v rest f g one are s =
 pub written : {A : Type 0} (p : Field A) (at : Input) (v : A) (rest : Input) → AreOctets at.left → (format p).Stands at v rest → IsWritten p at v rest
 unfolding format run
 written (number code n least most fits) at v rest are s = (let w = number_written code n least most at v rest are s in ((w.0, w.1), w.2))
+written (always a) at v rest are s = (s.0, ap (λ (i : Input). i.left) s.1)
 written (octets n) at v rest are s = ((s.1, octets_in_front v rest.left (subst AreOctets s.0 are)), s.0)
 written (counted most fits) at v rest are s =
     let n = s.0 in

@@ -70,6 +70,8 @@ is_most n most = nat_lt most (256 ^ n)
 pub data Field : Type 0 → Type 1 where
   -- a value by its number in n octets, the highest first, from least to most
   number : {A : Type 0} → Code A → (n least most : ℕ) → is_most n most ≡ true → Field A
+  -- no octets: always the same value
+  always : {A : Type 0} → A → Field A
   -- n octets
   octets : ℕ → Field (List ℕ)
   -- octets behind an octet that says how many they are, at most so many
@@ -157,6 +159,7 @@ choice_in F G (suc n) = formats.◌>>=◌ G (λ b. just (inr b))
 
 unfoldable pub format : {A : Type 0} → Field A → Format A
 format (number code n least most fits) = number_in code n least most
+format (always a) = just a
 format (octets n) = octets_in n
 format (counted most fits) = formats.◌>>=◌ (number_in plain 1 0 most) octets_in
 format (either p q) = formats.◌>>=◌ (number_in plain 1 0 1) (choice_in (format p) (format q))
@@ -197,6 +200,7 @@ counted_at most = readings.◌>>=◌ (number_at 1 0 most) octets_at
 
 unfoldable pub reading : {A : Type 0} → Field A → Reader A
 reading (number code n least most fits) = value_at code n least most
+reading (always a) = done a
 reading (octets n) = octets_at n
 reading (counted most fits) = counted_at most
 reading (either p q) = readings.◌>>=◌ (number_at 1 0 1) (choice_at (reading p) (reading q))
@@ -217,6 +221,7 @@ number_run n v = big_bytes n v
 
 unfoldable pub run : {A : Type 0} → Field A → A → List ℕ
 run (number code n least most fits) v = number_run n (number_of code v)
+run (always a) v = []
 run (octets n) v = v
 run (counted most fits) v = number_run 1 (length v) ++ v
 run (either p q) (inl a) = number_run 1 0 ++ run p a
@@ -227,6 +232,7 @@ run (named same p) v = run p (same.parts v)
 -- what stands in front of it, and behind that the run
 unfoldable pub written_onto : {A : Type 0} → Field A → A → List ℕ → List ℕ
 written_onto (number code n least most fits) v front = front ++ number_run n (number_of code v)
+written_onto (always a) v front = front
 written_onto (octets n) v front = front ++ v
 written_onto (counted most fits) v front = (front ++ number_run 1 (length v)) ++ v
 written_onto (either p q) (inl a) front = written_onto p a (front ++ number_run 1 0)
@@ -238,6 +244,7 @@ written_onto (named same p) v front = written_onto p (same.parts v) front
 
 abbrev pub InRange : {A : Type 0} → Field A → A → Type 0
 InRange (number code n least most fits) v = (least ≤ number_of code v) × (number_of code v ≤ most)
+InRange (always a) v = v ≡ a
 InRange (octets n) v = (length v ≡ n) × AreOctets v
 InRange (counted most fits) v = (length v ≤ most) × AreOctets v
 InRange (either p q) (inl a) = InRange p a

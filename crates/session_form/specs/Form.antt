@@ -6,19 +6,21 @@ use Rattle.device_types.specs.declared.session.Link.{Link}
 use Rattle.device_types.specs.declared.session.Link.TheVariants.{Off, On}
 use Rattle.device_types.specs.declared.session.Bearer.{Bearer}
 use Rattle.device_types.specs.declared.session.Bearer.TheVariants as bearer
+use Rattle.device_types.specs.declared.session.Second.{Second}
+use Rattle.device_types.specs.declared.session.Second.TheVariants as second
 use Rattle.device_types.specs.declared.session.Stage.{Stage}
 use Rattle.device_types.specs.declared.session.Stage.TheVariants as stage
 use Rattle.device_types.specs.declared.session.Session.{Session}
 use Rattle.device_types.specs.Rule.{number as stage_number}
 use Rattle.echo_base.specs.declared.refusal.Refusal.{Refusal}
 use Rattle.echo_base.specs.Reading.{value_of}
-use Rattle.session_form.specs.Fields.{Input, Reader, plain, only, listed, is_most, Field, number, octets, counted, either, also, named, Row, Rows, last, ◌▸◌, section, taken, Table, whole, format_alone, reading_alone, run, InRange}
+use Rattle.session_form.specs.Fields.{Input, Reader, plain, only, listed, is_most, Field, number, always, octets, counted, either, also, named, Row, Rows, last, ◌▸◌, section, taken, Table, whole, format_alone, reading_alone, run, InRange}
 
 -- ---- values by their numbers
 
 -- the stages in the order of their numbers, from 0
 abbrev pub stages : List Stage
-stages = stage.Detached ∷ stage.AwaitVectors ∷ stage.Authenticating ∷ stage.Securing ∷ stage.AwaitLocation ∷ stage.AwaitCreate ∷ stage.Accepting ∷ stage.AcceptingContext ∷ stage.AcceptingDone ∷ stage.AwaitModify ∷ stage.Connecting ∷ stage.Connected ∷ stage.AwaitRelease ∷ stage.Releasing ∷ stage.Idle ∷ stage.AwaitDelete ∷ []
+stages = stage.Detached ∷ stage.AwaitVectors ∷ stage.Authenticating ∷ stage.Securing ∷ stage.AwaitLocation ∷ stage.AwaitCreate ∷ stage.Accepting ∷ stage.AcceptingContext ∷ stage.AcceptingDone ∷ stage.AwaitModify ∷ stage.Connecting ∷ stage.Connected ∷ stage.AwaitRelease ∷ stage.Releasing ∷ stage.Idle ∷ stage.AwaitDelete ∷ stage.AwaitSecond ∷ stage.AwaitSecondModify ∷ []
 
 -- the states of the default bearer
 abbrev pub bearers : List Bearer
@@ -51,6 +53,7 @@ each_truth true = refl
 
 -- ---- kinds of fields
 
+-- a stage, but for those of a second connection
 abbrev pub stage_field : Field Stage
 stage_field = number (listed stages stage_number each_stage refl) 1 0 15 refl
 
@@ -128,6 +131,17 @@ service =
     row (λ s. s.cause.index) (up_to 1 63 refl) ▸
     last (row (λ s. s.radio) (up_to 4 4294967295 refl))
 
+-- its second connection, of which the form has no octets: there is none
+abbrev pub no_second : Rows Session (Second × (ℕ × (ℕ × (ℕ × (ℕ × (ℕ × ℕ))))))
+no_second =
+    row (λ s. s.second) (always second.None) ▸
+    row (λ s. s.pti2) (always 0) ▸
+    row (λ s. s.sgw2) (always 0) ▸
+    row (λ s. s.teid2) (always 0) ▸
+    row (λ s. s.ip2) (always 0) ▸
+    row (λ s. s.side2_addr) (always 0) ▸
+    last (row (λ s. s.side2_teid) (always 0))
+
 -- form 1: which form it is, and each field of a session in its order, with its octets and its greatest number
 abbrev pub form_1 : Table Session
 form_1 = record {
@@ -138,11 +152,13 @@ form_1 = record {
       row (λ s. s.res) (counted 16 refl) ▸
       row (λ s. s.key) (octets 32) ▸
       section tunnel ▸
-      last (section service);
-  make = λ form in_front res key in_tunnel in_service.
+      section service ▸
+      last (section no_second);
+  make = λ form in_front res key in_tunnel in_service in_second.
       taken front (λ stage link plmn tac eea eia pti.
       taken tunnel (λ dl ul sgw teid ip side_addr side_teid.
-      taken service (λ bearer registered off group extended index radio. record {
+      taken service (λ bearer registered off group extended index radio.
+      taken no_second (λ second pti2 sgw2 teid2 ip2 side2_addr side2_teid. record {
         stage = stage;
         link = link;
         plmn = plmn;
@@ -164,7 +180,14 @@ form_1 = record {
         off = off;
         cause = record { group = group; extended = extended; index = index };
         radio = radio;
-      }) in_service) in_tunnel) in_front;
+        second = second;
+        pti2 = pti2;
+        sgw2 = sgw2;
+        teid2 = teid2;
+        ip2 = ip2;
+        side2_addr = side2_addr;
+        side2_teid = side2_teid;
+      }) in_second) in_service) in_tunnel) in_front;
   back = λ parts. refl;
   again = λ s. refl;
 }

@@ -29,7 +29,7 @@ impl<'a> Model for FormReader<'a> {
 }
 
 /// The stages, in the order of their numbers.
-static STAGES: [Stage; 16] = [
+static STAGES: [Stage; 18] = [
     Stage::Detached,
     Stage::AwaitVectors,
     Stage::Authenticating,
@@ -46,6 +46,8 @@ static STAGES: [Stage; 16] = [
     Stage::Releasing,
     Stage::Idle,
     Stage::AwaitDelete,
+    Stage::AwaitSecond,
+    Stage::AwaitSecondModify,
 ];
 
 impl<'a> FormReader<'a> {
@@ -115,7 +117,7 @@ impl<'a> FormReader<'a> {
         Ok(())
     }
 
-    /// A stage, by its number.
+    /// A stage, by its number, but for those of a second connection.
     #[inline(always)]
     #[tactic(auto, unfolding(crate::specs::Fields::reading, crate::specs::Fields::value_at))]
     pub fn stage(&mut self) -> Result<Stage, Refusal>

@@ -9,7 +9,7 @@ ghost use Rattle.session_form.specs.Fields.{fields_of, reading};
 ghost use Rattle.session_form.specs.Form.{front, tunnel, service, session_at, IsFormOf, IsWrongAt, TakesMemory};
 
 use crate::reader::FormReader;
-use device_types::{Bearer, CauseCode, Key, Link, Octets, Session, Stage};
+use device_types::{Bearer, CauseCode, Key, Link, Octets, Second, Session, Stage};
 use echo_base::{Bad, OutOfMemory, Refusal};
 use std::alloc::Global;
 
@@ -99,7 +99,7 @@ fn read_service(
     ))
 }
 
-/// Reads all fields in their order, and keeps them.
+/// Reads all fields in their order, and keeps them. There is no second connection.
 #[tactic(auto, unfolding(crate::specs::Form::session_at, crate::specs::Fields::reading_alone, crate::specs::Fields::reading, crate::specs::Fields::value_at))]
 fn read_fields(alloc: Global, r: &mut FormReader) -> Result<Session, Bad>
     ensures { GivesTaking TakesMemory result r.new (session_at r.old) }
@@ -137,6 +137,13 @@ fn read_fields(alloc: Global, r: &mut FormReader) -> Result<Session, Bad>
             index,
         },
         radio,
+        second: Second::None,
+        pti2: 0,
+        sgw2: 0,
+        teid2: 0,
+        ip2: 0,
+        side2_addr: 0,
+        side2_teid: 0,
     })
 }
 

@@ -1,9 +1,9 @@
 -- What becomes of devices that are alone with their messages: it can be printed, and is not too much to be added up.
 use Rattle.std.proofs.Common.{◌≡◌, ◌≤◌, ℕ, ◌*◌, List, [], ◌∷◌, length, sym, ap, ◌∙◌, subst, arith}
 use Rattle.std.specs.Prelude.{All, map, Option}
-use Rattle.std.specs.List.{filter_map, zip}
+use Rattle.std.specs.List.{AllZip, filter_map, zip}
 use Rattle.std.proofs.lemmas.List.{length-map}
-use Rattle.std.proofs.lemmas.List.Elements.{All-nil, All-cons, All-head, All-tail, All-weaker}
+use Rattle.std.proofs.lemmas.List.Elements.{All-nil, All-cons, All-head, All-tail}
 use Rattle.std.proofs.lemmas.Slice.Zip.{length-zip}
 use Rattle.device_types.specs.declared.effect.Effect.{Effect}
 use Rattle.device_types.specs.declared.effect.Effect.TheVariants as effects
@@ -13,15 +13,16 @@ use Rattle.device_types.specs.declared.finals.DeviceEnd.{DeviceEnd}
 use Rattle.device_types.specs.declared.message.Message.{Message}
 use Rattle.device_types.specs.declared.subscriber.Subscriber.{Subscriber}
 use Rattle.device_types.specs.Alone.{alone_of}
-use Rattle.device_types.specs.Down.{IsDown}
+use Rattle.device_types.specs.Finals.{IsEndOf}
 use Rattle.device_types.specs.Journal.{effects_of, pushed_count}
 use Rattle.device_types.specs.Line.{IsLine}
 use Rattle.device_types.specs.Subscriber.{IsSubscriber}
 use Rattle.device_types.proofs.Courses.{few_entries, few_pushed}
 use Rattle.device_machine.specs.Ends.{down_in, gateway_in, subscriber_in, end_of, finals_of}
-use Rattle.device_machine.proofs.Gathered.{downs_whole, gateway_whole, subscriber_whole, end_written}
+use Rattle.device_machine.proofs.Gathered.{downs_whole, gateway_whole, subscriber_whole}
 use Rattle.link_schedule.specs.Floor.{IsEnd}
 use Rattle.link_schedule.specs.World.{IsShort}
+use Rattle.link_schedule.proofs.Ends.{ends_written}
 use Rattle.report_text.specs.Final.{AreEnds}
 
 -- ---- of one device
@@ -43,7 +44,6 @@ end_in_form row messages in_ranges line short =
     let gateway = few_on row messages Gateway gateway_in effects.Gateway (gateway_whole journal) in
     let subscriber = few_on row messages Server subscriber_in effects.Subscriber (subscriber_whole journal) in
     record {
-      downs = end_written row messages in_ranges line.ranges short;
       few_messages = omega arith;
       few_steps = omega arith;
       few_downs = omega arith;
@@ -67,5 +67,5 @@ ends_count rows book same = let pairs = length-zip rows book in length-map (zip 
 pub are_ends : (rows : List Subscriber) (book : List (List Message)) (finals : List DeviceEnd) → length book ≡ length rows → All IsSubscriber rows → All IsLine book → All IsShort book → finals ≡ finals_of rows book → AreEnds rows finals
 are_ends rows book finals each in_ranges lines short are = record {
   count = ap length are ∙ ends_count rows book each;
-  downs = subst (All (λ (end : DeviceEnd). All IsDown end.downs)) (sym are) (All-weaker IsEnd (λ (end : DeviceEnd). All IsDown end.downs) (λ end form. form.downs) (finals_of rows book) (ends_in_form rows book in_ranges lines short));
+  downs = subst (AllZip IsEndOf rows) (sym are) (ends_written rows book each in_ranges lines short);
 }

@@ -12,7 +12,7 @@ pub returns-in-SecurityRefused : goal.returns-in-SecurityRefused
 returns-in-SecurityRefused c = rw c.in-SecurityRefused.is (IfOk-weaker c.security_refused.result _ _ (λ step each. each c.args.row.now) c.security_refused.ensures)
 
 pub returns-in-ContextDone : goal.returns-in-ContextDone
-returns-in-ContextDone c = rw c.in-ContextDone.is (IfOk-weaker c.context_done.result _ _ (λ step each. each c.args.row.now) c.context_done.ensures)
+returns-in-ContextDone c = rw c.in-ContextDone.is (IfOk-weaker c.context_done.result _ _ (λ step each. each c.args.row.now c.in-ContextDone.second) c.context_done.ensures)
 
 pub returns-in-AttachDone : goal.returns-in-AttachDone
 returns-in-AttachDone c = rw c.in-AttachDone.is (IfOk-weaker c.attach_done.result _ _ (λ step each. each c.args.row.now) c.attach_done.ensures)

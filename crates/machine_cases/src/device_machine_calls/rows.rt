@@ -7,7 +7,7 @@
 use super::{message, octets, pair, subscriber, write_cause, write_effects};
 use device_machine::step;
 use device_types::{
-    Answer, Bearer, CauseCode, Input, Key, Lane, Link, Session, Stage, Step, Subscriber,
+    Answer, Bearer, CauseCode, Input, Key, Lane, Link, Second, Session, Stage, Step, Subscriber,
 };
 use std::alloc::{AllocError, Global};
 use std::fmt::Debug;
@@ -17,7 +17,7 @@ use std::test::Fail;
 /// detach (5.3.8.2), row by row: the subscriber is not served in the areas 8 and 9, and is in area 7. Then what fits no row:
 /// messages on the session's own connection that its stage does not take, and those that it would take on others (another number at
 /// its base station, and its number at another one); each kind of message while an answer is awaited; a notice in each stage but
-/// one; and answers that are not awaited, in each stage.
+/// one; answers that are not awaited, in each stage; and the messages and answers of a second connection.
 const STEPS: &str = "\
 Detached none None | 2/5 Attach 9 | stage=Releasing link=2/5 cause=2/0 | nas 2/5 AttachReject { cause: 12 }; release 2/5 2/0;
 Securing 1/3 None | 1/3 Attach 9 | stage=Releasing cause=2/0 | nas 1/3 AttachReject { cause: 12 }; release 1/3 2/0;
@@ -48,7 +48,9 @@ Securing 1/3 Made | 1/3 SecurityRefused | stage=AwaitDelete off=true cause=2/3 |
 AwaitLocation 1/3 None | answer Located | stage=AwaitCreate rates=(55, 56) | gateway Create;
 AwaitCreate 1/3 None | answer Created | stage=Accepting bearer=Made tunnel=(57, 58) ip=59 | setup 1/3 18 19 57 58 13 14 [17] Yes { plmn: 11, tac: 12, pti: 15, ip: 59 };
 Accepting 1/3 Made | 1/3 ContextDone | stage=AcceptingContext side=(41, 42) |
+Accepting 1/3 Made | 1/3 ContextDone second | stage=AcceptingContext side=(41, 42) |
 AcceptingDone 1/3 Made | 1/3 ContextDone | stage=AwaitModify side=(41, 42) | gateway Modify(41, 42);
+AcceptingDone 1/3 Made | 1/3 ContextDone second | stage=AwaitModify side=(41, 42) | gateway Modify(41, 42);
 Accepting 1/3 Made | 1/3 AttachDone | stage=AcceptingDone |
 AcceptingContext 1/3 Made | 1/3 AttachDone | stage=AwaitModify | gateway Modify(23, 24);
 Accepting 1/3 Made | 1/3 ContextFailed | stage=AwaitDelete off=true cause=2/3 | gateway Delete;
@@ -71,6 +73,7 @@ Accepting 1/3 Made | 2/5 Service | | nas 2/5 ServiceReject { cause: 10 };
 AcceptingContext 1/3 Made | 2/5 Service | | nas 2/5 ServiceReject { cause: 10 };
 AcceptingDone 1/3 Made | 2/5 Service | | nas 2/5 ServiceReject { cause: 10 };
 Connecting 1/3 Made registered | 1/3 ContextDone | stage=AwaitModify side=(41, 42) | gateway Modify(41, 42);
+Connecting 1/3 Made registered | 1/3 ContextDone second | stage=AwaitModify side=(41, 42) | gateway Modify(41, 42);
 Connecting 1/3 Active registered | 1/3 ContextDone | stage=AwaitModify side=(41, 42) | gateway Modify(41, 42);
 AwaitModify 1/3 Made registered | answer Modified | stage=Connected bearer=Active |
 Connecting 1/3 Made registered | 1/3 ContextFailed | stage=Releasing cause=2/3 | release 1/3 2/3;
@@ -215,6 +218,49 @@ Connected 1/3 Active registered | answer Vectors, answer Located, answer Created
 Releasing 1/3 Made registered | answer Vectors, answer Located, answer Created, answer Modified, answer Freed, answer Deleted, answer Purged | |
 Releasing 1/3 None | answer Vectors, answer Located, answer Created, answer Modified, answer Freed, answer Deleted, answer Purged | |
 Idle none Made registered | answer Vectors, answer Located, answer Created, answer Modified, answer Freed, answer Deleted, answer Purged | |
+Detached none None | 1/3 PdnRequest, 1/3 PdnAccept, 1/3 SecondDone, 1/3 SecondRefused | |
+Authenticating 1/3 None | 1/3 PdnRequest, 1/3 PdnAccept, 1/3 SecondDone, 1/3 SecondRefused | |
+Securing 1/3 None | 1/3 PdnRequest, 1/3 PdnAccept, 1/3 SecondDone, 1/3 SecondRefused | |
+Accepting 1/3 Made | 1/3 PdnRequest, 1/3 PdnAccept, 1/3 SecondDone, 1/3 SecondRefused | |
+AcceptingContext 1/3 Made | 1/3 PdnRequest, 1/3 PdnAccept, 1/3 SecondDone, 1/3 SecondRefused | |
+AcceptingDone 1/3 Made | 1/3 PdnRequest, 1/3 PdnAccept, 1/3 SecondDone, 1/3 SecondRefused | |
+Connecting 1/3 Made registered | 1/3 PdnRequest, 1/3 PdnAccept, 1/3 SecondDone, 1/3 SecondRefused | |
+Connected 1/3 Active registered | 1/3 PdnRequest, 1/3 PdnAccept, 1/3 SecondDone, 1/3 SecondRefused | |
+Releasing 1/3 Made registered | 1/3 PdnRequest, 1/3 PdnAccept, 1/3 SecondDone, 1/3 SecondRefused | |
+Releasing 1/3 None | 1/3 PdnRequest, 1/3 PdnAccept, 1/3 SecondDone, 1/3 SecondRefused | |
+Idle none Made registered | 1/3 PdnRequest, 1/3 PdnAccept, 1/3 SecondDone, 1/3 SecondRefused | |
+AwaitVectors 1/3 None | 1/3 PdnRequest, 1/3 PdnAccept, 1/3 SecondDone, 1/3 SecondRefused | |
+AwaitLocation 1/3 None | 1/3 PdnRequest, 1/3 PdnAccept, 1/3 SecondDone, 1/3 SecondRefused | |
+AwaitCreate 1/3 None | 1/3 PdnRequest, 1/3 PdnAccept, 1/3 SecondDone, 1/3 SecondRefused | |
+AwaitModify 1/3 Made | 1/3 PdnRequest, 1/3 PdnAccept, 1/3 SecondDone, 1/3 SecondRefused | |
+AwaitModify 1/3 Active registered | 1/3 PdnRequest, 1/3 PdnAccept, 1/3 SecondDone, 1/3 SecondRefused | |
+AwaitRelease 1/3 Active registered | 1/3 PdnRequest, 1/3 PdnAccept, 1/3 SecondDone, 1/3 SecondRefused | |
+AwaitDelete 1/3 Made | 1/3 PdnRequest, 1/3 PdnAccept, 1/3 SecondDone, 1/3 SecondRefused | |
+Connected 1/3 Active registered | 1/4 PdnRequest, 2/3 PdnRequest, 1/4 PdnAccept, 2/3 PdnAccept, 1/4 SecondDone, 2/3 SecondDone, 1/4 SecondRefused, 2/3 SecondRefused | |
+AwaitSecond 1/3 Active registered | 1/3 Attach 7, 2/5 Attach 9, 1/4 Service, 2/5 Area first 7, 1/3 Area first 9, 2/3 Detach first, 1/3 Detach first off, 0/0 Data | |
+AwaitSecond 1/3 Active registered | 1/3 Response 16, 1/3 Secured, 1/3 SecurityRefused, 1/3 AttachDone, 1/3 ContextDone, 1/3 ContextFailed, 1/3 ReleaseAsked, 1/3 Released, 1/3 Capability, 1/3 Area later 7, 1/3 Detach later | |
+AwaitSecond 1/3 Active registered | 1/3 PdnRequest, 1/3 PdnAccept, 1/3 SecondDone, 1/3 SecondRefused | |
+AwaitSecondModify 1/3 Active registered | 1/3 Attach 7, 2/5 Attach 9, 1/4 Service, 2/5 Area first 7, 1/3 Area first 9, 2/3 Detach first, 1/3 Detach first off, 0/0 Data | |
+AwaitSecondModify 1/3 Active registered | 1/3 Response 16, 1/3 Secured, 1/3 SecurityRefused, 1/3 AttachDone, 1/3 ContextDone, 1/3 ContextFailed, 1/3 ReleaseAsked, 1/3 Released, 1/3 Capability, 1/3 Area later 7, 1/3 Detach later | |
+AwaitSecondModify 1/3 Active registered | 1/3 PdnRequest, 1/3 PdnAccept, 1/3 SecondDone, 1/3 SecondRefused | |
+Detached none None | answer SecondCreated, answer SecondModified | |
+Authenticating 1/3 None | answer SecondCreated, answer SecondModified | |
+Securing 1/3 None | answer SecondCreated, answer SecondModified | |
+Accepting 1/3 Made | answer SecondCreated, answer SecondModified | |
+AcceptingContext 1/3 Made | answer SecondCreated, answer SecondModified | |
+AcceptingDone 1/3 Made | answer SecondCreated, answer SecondModified | |
+Connecting 1/3 Made registered | answer SecondCreated, answer SecondModified | |
+Connected 1/3 Active registered | answer SecondCreated, answer SecondModified | |
+Releasing 1/3 Made registered | answer SecondCreated, answer SecondModified | |
+Releasing 1/3 None | answer SecondCreated, answer SecondModified | |
+Idle none Made registered | answer SecondCreated, answer SecondModified | |
+AwaitVectors 1/3 None | answer SecondCreated, answer SecondModified | |
+AwaitLocation 1/3 None | answer SecondCreated, answer SecondModified | |
+AwaitCreate 1/3 None | answer SecondCreated, answer SecondModified | |
+AwaitModify 1/3 Made | answer SecondCreated, answer SecondModified | |
+AwaitModify 1/3 Active registered | answer SecondCreated, answer SecondModified | |
+AwaitRelease 1/3 Active registered | answer SecondCreated, answer SecondModified | |
+AwaitDelete 1/3 Made | answer SecondCreated, answer SecondModified | |
 ";
 
 fn stage(word: &str) -> Result<Stage, Fail> {
@@ -235,6 +281,8 @@ fn stage(word: &str) -> Result<Stage, Fail> {
         "Releasing" => Stage::Releasing,
         "Idle" => Stage::Idle,
         "AwaitDelete" => Stage::AwaitDelete,
+        "AwaitSecond" => Stage::AwaitSecond,
+        "AwaitSecondModify" => Stage::AwaitSecondModify,
         _ => return Err(Fail::new("no such stage")),
     })
 }
@@ -299,6 +347,13 @@ fn session(alloc: Global, words: &str) -> Result<Session, Fail> {
             index: 5,
         },
         radio: 25,
+        second: Second::None,
+        pti2: 26,
+        sgw2: 27,
+        teid2: 28,
+        ip2: 29,
+        side2_addr: 30,
+        side2_teid: 31,
     })
 }
 
@@ -315,6 +370,8 @@ fn answer(alloc: Global, word: &str) -> Result<Answer, Fail> {
         "Modified" => Answer::Modified,
         "Freed" => Answer::Freed,
         "Deleted" => Answer::Deleted,
+        "SecondCreated" => Answer::SecondCreated(65, 66, 67),
+        "SecondModified" => Answer::SecondModified,
         "Purged" => Answer::Purged,
         _ => return Err(Fail::new("no such answer")),
     })
@@ -359,6 +416,9 @@ fn write_changes(text: &mut String, old: &Session, new: &Session) -> Result<(), 
     write_change(text, "ip", &old.ip, &new.ip)?;
     write_change(text, "side", &side(old), &side(new))?;
     write_change(text, "radio", &old.radio, &new.radio)?;
+    write_change(text, "second", &second(old), &second(new))?;
+    write_change(text, "tunnel2", &tunnel2(old), &tunnel2(new))?;
+    write_change(text, "side2", &side2(old), &side2(new))?;
     if old.cause != new.cause {
         text.push_str(" cause=")?;
         write_cause(text, new.cause)?;
@@ -372,6 +432,19 @@ fn vector(session: &Session) -> (&[u8], &[u8]) {
 
 fn side(session: &Session) -> (u32, u32) {
     (session.side_addr, session.side_teid)
+}
+
+/// The second connection: whether there is one, the transaction that asked for it, and the device's address there.
+fn second(session: &Session) -> (Second, u8, u32) {
+    (session.second, session.pti2, session.ip2)
+}
+
+fn tunnel2(session: &Session) -> (u32, u32) {
+    (session.sgw2, session.teid2)
+}
+
+fn side2(session: &Session) -> (u32, u32) {
+    (session.side2_addr, session.side2_teid)
 }
 
 fn write_link(text: &mut String, old: Link, new: Link) -> Result<(), AllocError> {
