@@ -10,11 +10,11 @@ mod s1ap_ies_tables;
 #[cfg(test)]
 mod s1ap_ies_values;
 #[cfg(test)]
+mod s1ap_messages_changed;
+#[cfg(test)]
 mod s1ap_messages_long;
 #[cfg(test)]
 mod s1ap_messages_orders;
-#[cfg(test)]
-mod s1ap_messages_paging;
 #[cfg(test)]
 mod s1ap_messages_refused;
 #[cfg(test)]

@@ -232,3 +232,32 @@ pub(crate) const ERABS_TO_SETUP: &str = "
 # of all three, and behind them 402a
 2520097d000000074001aa000000074001bb0f80c0a8000100000001000000074001cc402a ErabToSetup { id: 5, qci: 9, arp: 61, address: 3232235521, teid: 1, nas: None } as 0500093d0f80c0a8000100000001, then Ok(Mme(42))
 ";
+
+// e o e 0110 e is 0c; o o p(6) is 00; QCI 09; e o 100000 is 20; e 00011111 p(7) is 0f 80; then the address and the TEID, aligned as they
+// stand, and the NAS-PDU behind its length
+pub(crate) const ERABS_TO_ADD: &str = "
+0c0009200f80c0a8000100000002020746 ErabToAdd { id: 6, qci: 9, arp: 32, address: 3232235521, teid: 2, nas: ListOf { items: [7, 70] } }
+# e o e 1111 e is 1e; a NAS-PDU of no octets
+1e00053d0f800a0000010000010200 ErabToAdd { id: 15, qci: 5, arp: 61, address: 167772161, teid: 258, nas: ListOf { items: [] } }
+8c00 7 SequenceExtension at 0
+2c00 5 OutOfRange at 0
+0d00 7 SequenceExtension at 0
+0c80 5 OutOfRange at 1
+0c0109 3 NonZeroPadding at 1
+0c000980 7 SequenceExtension at 3
+0c0009208000 5 OutOfRange at 4
+# without a NAS-PDU; one of two octets of which there is one; one of 2,049 octets
+0c0009200f80c0a8000100000002 1 Truncated at 14
+0c0009200f80c0a80001000000020207 1 Truncated at 14
+0c0009200f80c0a80001000000028801 6 TooLong at 14
+# iE-Extensions of the priority: 01 100000 is 60, and behind it one entry: 0000; 7, ignore, aa
+0c000960000000074001aa0f80c0a80001000000020107 ErabToAdd { id: 6, qci: 9, arp: 32, address: 3232235521, teid: 2, nas: ListOf { items: [7] } } as 0c0009200f80c0a80001000000020107
+# of the QoS: 01 p(6) is 40, behind the priority
+0c400920000000074001aa0f80c0a80001000000020107 ErabToAdd { id: 6, qci: 9, arp: 32, address: 3232235521, teid: 2, nas: ListOf { items: [7] } } as 0c0009200f80c0a80001000000020107
+# of the item: 01 0 0110 0 is 4c, behind the NAS-PDU
+4c0009200f80c0a80001000000020107000000074001aa ErabToAdd { id: 6, qci: 9, arp: 32, address: 3232235521, teid: 2, nas: ListOf { items: [7] } } as 0c0009200f80c0a80001000000020107
+# of all three, and behind them 402a
+4c400960000000074001aa000000074001bb0f80c0a80001000000020107000000074001cc402a ErabToAdd { id: 6, qci: 9, arp: 32, address: 3232235521, teid: 2, nas: ListOf { items: [7] } } as 0c0009200f80c0a80001000000020107, then Ok(Mme(42))
+# the item of an INITIAL CONTEXT SETUP REQUEST, a bit longer in front: the last bit of 0000 0101 is the extension bit of the QoS
+0500093d0f80c0a8000100000001 7 SequenceExtension at 0
+";

@@ -4,13 +4,15 @@ ghost use Rattle.std.specs.Prelude.{IfOk};
 ghost use Rattle.aper_fields.specs.Asn1.{IsSound, CanBeWritten};
 
 use crate::s1ap_ies_tables::{
-    BIT_RATES, CAUSES, CGIS, ERABS_DONE, ERABS_TO_SETUP, SEC_CAPS, STMSIS, TAIS, UE_IDS,
+    BIT_RATES, CAUSES, CGIS, ERABS_DONE, ERABS_TO_ADD, ERABS_TO_SETUP, SEC_CAPS, STMSIS, TAIS,
+    UE_IDS,
 };
 use crate::tables::{is_case, octets_of};
 use aper_fields::{BitReader, BitWriter, end};
 use echo_base::{Bad, OutOfMemory};
 use s1ap_ies::{
-    BitRates, Cause, Cgi, ErabDone, ErabToSetup, OwnedValue, PlainValue, SecCaps, Stmsi, Tai, UeIds,
+    BitRates, Cause, Cgi, ErabDone, ErabToAdd, ErabToSetup, OwnedValue, PlainValue, SecCaps, Stmsi,
+    Tai, UeIds,
 };
 use std::alloc::Global;
 use std::fmt::Debug;
@@ -136,6 +138,7 @@ fn wanted(alloc: Global) -> Result<String, OutOfMemory> {
         UE_IDS,
         ERABS_DONE,
         ERABS_TO_SETUP,
+        ERABS_TO_ADD,
     ] {
         text.push_str(table)?;
     }
@@ -152,7 +155,8 @@ fn tell_all(alloc: Global, text: &mut String) -> Result<(), Fail> {
     tell_each::<Cause>(alloc, text, CAUSES)?;
     tell_each::<UeIds>(alloc, text, UE_IDS)?;
     tell_each::<ErabDone>(alloc, text, ERABS_DONE)?;
-    tell_each::<ErabToSetup>(alloc, text, ERABS_TO_SETUP)
+    tell_each::<ErabToSetup>(alloc, text, ERABS_TO_SETUP)?;
+    tell_each::<ErabToAdd>(alloc, text, ERABS_TO_ADD)
 }
 
 #[test]

@@ -1,4 +1,4 @@
-//! Long fields and lists: NAS-PDUs, radio capabilities, tracking areas. Of each line: octets, how many times other octets stand behind
+//! Long fields and lists: NAS-PDUs, radio capabilities, tracking areas, E-RABs. Of each line: octets, how many times other octets stand behind
 //! them, these, and those behind all; and how many are written for what they are read as, or why they are refused.
 
 ghost use Rattle.s1ap_pdu.specs.Run.{IsRight};
@@ -30,6 +30,18 @@ const MESSAGES: &str = "
 000a408a1e000004005040020040002b4006001000000001006d400100002e408a01ff 256 002f40060002f8390001 : 2595 alike
 # to 255 as if they were 256: 2,551, 89f7; 2,580, 8a14. The item that is lacking would stand behind all 2,585 octets
 000a408a14000004005040020040002b4006001000000001006d400100002e4089f7ff 255 002f40060002f8390001 : 1 Truncated at 2585
+# an E-RAB SETUP REQUEST with a NAS-PDU of 2,048 octets, 8800; the item's 14 octets before it make 2,064: 8810; the list of one item 2,070:
+# 8816; all IEs 2,090: 882a; and with one of 2,049, whose length stands in octet 45
+000500882a00000300000002000100080002000100100088160000110088100c0009200f80c0a80001000000028800 2048 ab : 2095 alike
+000500882b00000300000002000100080002000100100088170000110088110c0009200f80c0a80001000000028801 2049 ab : 6 TooLong at 45
+# one with 256 items of 19 octets, so ff: with the count 4,865, 9301; all IEs 4,885, 9315; with a 257th 4,884, 9314; 4,904, 9328
+00050093150000030000000200010008000200010010009301ff 256 0011000f0c0009200f80c0a800010000000200 : 4890 alike
+00050093280000030000000200010008000200010010009314ff 257 0011000f0c0009200f80c0a800010000000200 : 13 TrailingBytes at 4890
+# an E-RAB SETUP RESPONSE with 256 items of 14 octets: 3,585, 8e01; 3,605, 8e15; with 257: 3,599, 8e0f; 3,619, 8e23; and with 255 as if they
+# were 256: 3,571, 8df3; 3,591, 8e07
+2005008e15000003000040020001000840020001001c408e01ff 256 0027400a0c1fc0a8000200000003 : 3610 alike
+2005008e23000003000040020001000840020001001c408e0fff 257 0027400a0c1fc0a8000200000003 : 13 TrailingBytes at 3610
+2005008e07000003000040020001000840020001001c408df3ff 255 0027400a0c1fc0a8000200000003 : 1 Truncated at 3596
 ";
 
 /// Puts the octets of the digits behind the octets.

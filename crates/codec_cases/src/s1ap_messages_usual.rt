@@ -81,9 +81,9 @@ fn each_kind(rt: HostRuntime) -> Result<(), Fail> {
 }
 
 /// An INITIAL UE MESSAGE without an S-TMSI, and with one; the other kinds, the release command with both identities and with
-/// one; a cause of each group; numbers of two, three and four octets; a DOWNLINK NAS TRANSPORT with 128 octets of NAS-PDU; and a
-/// PAGING. A failure, a release command with one identity and a PAGING are rare, and go piece by piece, as does to read a cause
-/// of transport.
+/// one; a cause of each group; numbers of two, three and four octets; a DOWNLINK NAS TRANSPORT with 128 octets of NAS-PDU; a
+/// PAGING; and an E-RAB SETUP REQUEST and RESPONSE. These three, a failure and a release command with one identity are rare, and
+/// go piece by piece, as does to read a cause of transport.
 const KINDS: &str = "\
 000c403e000005000800020001001a00161507417108298039000000001002e0e000040201d011004300060002f8390001006440080002f839000000100086400130 read written alike
 000c4037000006000800020001001a000504c7000000004300060002f8390001006440080002f83900000010008640014000600006004000000001 read written alike
@@ -106,4 +106,6 @@ const KINDS: &str = "\
 2017001300000200004004800100000008400480ffffff read written alike
 000b408096000003000000020001000800020001001a0080828080abababababababababababababababababababababababababababababababababababababababababababababababababababababababababababababababababababababababababababababababababababababababababababababababababababababababababababababababababababababababababababababababab read written alike
 000a4027000004005040020040002b4006001000000001006d400100002e400b00002f40060002f8390001 alike
+0005003700000300000002000100080002000100100024000011001f0c0009200f80c0a8000100000002106202c101090403696d7305010a2d8001 alike
+20050022000003000040020001000840020001001c400f000027400a0c1fc0a8000200000003 alike
 ";

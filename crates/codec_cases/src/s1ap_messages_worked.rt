@@ -96,7 +96,7 @@ fn has_the_elements_of_the_standard(rt: HostRuntime) -> Result<(), Fail> {
     Ok(())
 }
 
-const KINDS: [MessageKind; 11] = [
+const KINDS: [MessageKind; 13] = [
     MessageKind::InitialUeMessage,
     MessageKind::UplinkNasTransport,
     MessageKind::DownlinkNasTransport,
@@ -108,6 +108,8 @@ const KINDS: [MessageKind; 11] = [
     MessageKind::UeContextReleaseComplete,
     MessageKind::UeCapabilityInfoIndication,
     MessageKind::Paging,
+    MessageKind::ErabSetupRequest,
+    MessageKind::ErabSetupResponse,
 ];
 
 const LINES: &str = "\
@@ -123,6 +125,8 @@ UeContextReleaseCommand UEContextReleaseCommand 99:0 2:1
 UeContextReleaseComplete UEContextReleaseComplete 0:1 8:1
 UeCapabilityInfoIndication UECapabilityInfoIndication 0:0 8:0 74:1
 Paging Paging 80:1 43:1 109:1 46:1
+ErabSetupRequest ErabSetupRequest 0:0 8:0 66:0? 16:0
+ErabSetupResponse ErabSetupResponse 0:1 8:1 28:1?
 ";
 
 const MESSAGES: &str = "
@@ -259,4 +263,38 @@ const MESSAGES: &str = "
 000a4027000004005040020040002b4006001000000001006d400100002e400b00002f80060002f8390001 000a4027000004005040020040002b4006001000000001006d400100002e400b00002f40060002f8390001 Paging { index: 1, id: Stmsi { mmec: 1, tmsi: 1 }, cs: false, tais: ListOf { items: [Tai { plmn: 194617, tac: 1 }] } }
 # with the IE 75, which is passed over
 000a402f000005005040020040002b4006001000000001004b000400000000006d400100002e400b00002f40060002f8390001 000a4027000004005040020040002b4006001000000001006d400100002e400b00002f40060002f8390001 Paging { index: 1, id: Stmsi { mmec: 1, tmsi: 1 }, cs: false, tais: ListOf { items: [Tai { plmn: 194617, tac: 1 }] } }
+
+# ---- E-RAB setups: 000500 the header of a request, and 200500 that of a response
+# the IEs 0, 8, 16: one E-RAB, so 00; the item 17 of 31 octets: e o e 0110 e is 0c; o o p(6), QCI, 0009; e o 1000 0 0, e 00011111 p(7), 200f80;
+# address, TEID; 16 octets of NAS-PDU
+0005003700000300000002000100080002000100100024000011001f0c0009200f80c0a8000100000002106202c101090403696d7305010a2d8001 = ErabSetupRequest { mme: 1, enb: 1, rates: None, bearers: ListOf { items: [ErabToAdd { id: 6, qci: 9, arp: 32, address: 3232235521, teid: 2, nas: ListOf { items: [98, 2, 193, 1, 9, 4, 3, 105, 109, 115, 5, 1, 10, 45, 128, 1] } }] } }
+# with the IE 66 in front, 1dcd6500 is 500000000; e o e 0111 e is 0e; QCI 05; e o 101001 is 29; the address c0a80003, the TEID 516; all differ
+000500370000040000000200020008000200030042000a183b9aca00601dcd65000010001600001100110e0005290f80c0a8000300000204020746 = ErabSetupRequest { mme: 2, enb: 3, rates: Some(BitRates { dl: 1000000000, ul: 500000000 }), bearers: ListOf { items: [ErabToAdd { id: 7, qci: 5, arp: 41, address: 3232235523, teid: 516, nas: ListOf { items: [7, 70] } }] } }
+# two of them: the count less 1, and items of 16 and of 17 octets with the E-RABs 6 and 15, e o e 1111 e is 1e; e o 1111 0 0 is 3c
+0005003d0000030000000200010008000200010010002a01001100100c00053c0f800a000001000001020107001100111e0009200f80c0a8000100000002020746 = ErabSetupRequest { mme: 1, enb: 1, rates: None, bearers: ListOf { items: [ErabToAdd { id: 6, qci: 5, arp: 60, address: 167772161, teid: 258, nas: ListOf { items: [7] } }, ErabToAdd { id: 15, qci: 9, arp: 32, address: 3232235521, teid: 2, nas: ListOf { items: [7, 70] } }] } }
+# the IEs the other way round
+000500370000040010001600001100110e0005290f80c0a80003000002040207460042000a183b9aca00601dcd6500000800020003000000020002 000500370000040000000200020008000200030042000a183b9aca00601dcd65000010001600001100110e0005290f80c0a8000300000204020746 ErabSetupRequest { mme: 2, enb: 3, rates: Some(BitRates { dl: 1000000000, ul: 500000000 }), bearers: ListOf { items: [ErabToAdd { id: 7, qci: 5, arp: 41, address: 3232235523, teid: 516, nas: ListOf { items: [7, 70] } }] } }
+# with other criticalities: its own, those of the IEs, and that of the item
+0005403700000300008002000100084002000100104024000011401f0c0009200f80c0a8000100000002106202c101090403696d7305010a2d8001 0005003700000300000002000100080002000100100024000011001f0c0009200f80c0a8000100000002106202c101090403696d7305010a2d8001 ErabSetupRequest { mme: 1, enb: 1, rates: None, bearers: ListOf { items: [ErabToAdd { id: 6, qci: 9, arp: 32, address: 3232235521, teid: 2, nas: ListOf { items: [98, 2, 193, 1, 9, 4, 3, 105, 109, 115, 5, 1, 10, 45, 128, 1] } }] } }
+000500370000040000000200020008000200030042400a183b9aca00601dcd65000010801600001180110e0005290f80c0a8000300000204020746 000500370000040000000200020008000200030042000a183b9aca00601dcd65000010001600001100110e0005290f80c0a8000300000204020746 ErabSetupRequest { mme: 2, enb: 3, rates: Some(BitRates { dl: 1000000000, ul: 500000000 }), bearers: ListOf { items: [ErabToAdd { id: 7, qci: 5, arp: 41, address: 3232235523, teid: 516, nas: ListOf { items: [7, 70] } }] } }
+# with the IE 75, which is passed over
+0005003f000004000000020001000800020001004b00040000000000100024000011001f0c0009200f80c0a8000100000002106202c101090403696d7305010a2d8001 0005003700000300000002000100080002000100100024000011001f0c0009200f80c0a8000100000002106202c101090403696d7305010a2d8001 ErabSetupRequest { mme: 1, enb: 1, rates: None, bearers: ListOf { items: [ErabToAdd { id: 6, qci: 9, arp: 32, address: 3232235521, teid: 2, nas: ListOf { items: [98, 2, 193, 1, 9, 4, 3, 105, 109, 115, 5, 1, 10, 45, 128, 1] } }] } }
+# the IEs 0, 8, 28: one E-RAB, so 00; the item 39: e o e 0110 e is 0c, and 00011111 is 1f
+20050022000003000040020001000840020001001c400f000027400a0c1fc0a8000200000003 = ErabSetupResponse { mme: 1, enb: 1, done: Some(ListOf { items: [ErabDone { id: 6, address: 3232235522, teid: 3 }] }) }
+20050022000003000040020002000840020003001c400f000027400a0e1fc0a8000300000204 = ErabSetupResponse { mme: 2, enb: 3, done: Some(ListOf { items: [ErabDone { id: 7, address: 3232235523, teid: 516 }] }) }
+# without the IE 28
+2005000f000002000040020001000840020001 = ErabSetupResponse { mme: 1, enb: 1, done: None }
+# two of them
+20050030000003000040020001000840020001001c401d010027400a0a1fc0a80002000000020027400a0c1fc0a8000300000003 = ErabSetupResponse { mme: 1, enb: 1, done: Some(ListOf { items: [ErabDone { id: 5, address: 3232235522, teid: 2 }, ErabDone { id: 6, address: 3232235523, teid: 3 }] }) }
+# the IEs the other way round; with other criticalities, as of a request; and with iE-Extensions in its item, 01 0 0110 0 is 4c
+20050022000003001c400f000027400a0e1fc0a8000300000204000840020003000040020002 20050022000003000040020002000840020003001c400f000027400a0e1fc0a8000300000204 ErabSetupResponse { mme: 2, enb: 3, done: Some(ListOf { items: [ErabDone { id: 7, address: 3232235523, teid: 516 }] }) }
+20054022000003000000020001000880020001001c000f000027000a0c1fc0a8000200000003 20050022000003000040020001000840020001001c400f000027400a0c1fc0a8000200000003 ErabSetupResponse { mme: 1, enb: 1, done: Some(ListOf { items: [ErabDone { id: 6, address: 3232235522, teid: 3 }] }) }
+20050022000003000040020001000840020001001c800f000027800a0c1fc0a8000200000003 20050022000003000040020001000840020001001c400f000027400a0c1fc0a8000200000003 ErabSetupResponse { mme: 1, enb: 1, done: Some(ListOf { items: [ErabDone { id: 6, address: 3232235522, teid: 3 }] }) }
+20050029000003000040020001000840020001001c401600002740114c1fc0a8000200000003000000074001aa 20050022000003000040020001000840020001001c400f000027400a0c1fc0a8000200000003 ErabSetupResponse { mme: 1, enb: 1, done: Some(ListOf { items: [ErabDone { id: 6, address: 3232235522, teid: 3 }] }) }
+# a failure: the IE 29, a list of one item 35 with an E-RAB ID and a cause, is passed over; and so is the list 51 of another response
+2005001b000003000040020001000840020001001d400800002340030c0000 2005000f000002000040020001000840020001 ErabSetupResponse { mme: 1, enb: 1, done: None }
+200500220000030000400200010008400200010033400f000032400a0a1fc0a8000200000002 2005000f000002000040020001000840020001 ErabSetupResponse { mme: 1, enb: 1, done: None }
+# uplink NAS transports around it: a PDN connectivity request, and an accept of the bearer
+000d4034000005000000020001000800020001001a000b0a2700000000030202d011006440080002f83900000010004340060002f8390001 = UplinkNasTransport { mme: 1, enb: 1, nas: ListOf { items: [39, 0, 0, 0, 0, 3, 2, 2, 208, 17] }, cgi: Cgi { plmn: 194617, cell: 1 }, tai: Tai { plmn: 194617, tac: 1 } }
+000d4033000005000000020001000800020001001a000a092700000000046200c2006440080002f83900000010004340060002f8390001 = UplinkNasTransport { mme: 1, enb: 1, nas: ListOf { items: [39, 0, 0, 0, 0, 4, 98, 0, 194] }, cgi: Cgi { plmn: 194617, cell: 1 }, tai: Tai { plmn: 194617, tac: 1 } }
 ";

@@ -5,7 +5,7 @@ use Rattle.s1ap_ies.specs.declared.erab_done.ErabDone.{ErabDone}
 use Rattle.std.specs.List.{AllByRecursion}
 use Rattle.aper_fields.specs.Asn1.{AsnType, Fits, CanBeWritten, run}
 use Rattle.s1ap_ies.specs.Types.{IsItemSound}
-use Rattle.s1ap_ies.specs.Values.{erab_id, address, arp, qos, erab_done, erab_to_setup, erabs_done, erabs_to_setup}
+use Rattle.s1ap_ies.specs.Values.{erab_done, erab_to_setup, erabs_done, erabs_to_setup}
 use Rattle.s1ap_ies.specs.Run.{IsNas, IsErabDone, IsErabToSetup}
 use Rattle.aper_fields.proofs.Types.{each_of}
 use Rattle.aper_fields.proofs.Sizes.{takes}
@@ -30,15 +30,15 @@ few_of S (Some nas) both = both.0
 
 pub setup_fits : (S : List ℕ → Type 0) (v : ErabToSetup) → IsErabToSetup v → IfSome v.nas S → Fits S erab_to_setup v
 unfolding erab_to_setup
-setup_fits S v right strings = (omega (arith, right.0), ((omega (arith, right.1), (right.2, tt)), ((tt, right.3), (right.4, both_of S v.nas right.5 strings))))
+setup_fits S v right strings = ((omega (arith, right.0), ((omega (arith, right.1), (right.2, tt)), ((tt, right.3), right.4))), both_of S v.nas right.5 strings)
 
 pub setup_right : (S : List ℕ → Type 0) (v : ErabToSetup) → Fits S erab_to_setup v → IsErabToSetup v
 unfolding erab_to_setup
 setup_right S v fits =
-    let quality = fits.1.0 in
-    let endpoint = fits.1.1.0 in
-    let behind = fits.1.1.1 in
-    (omega (arith, fits.0), omega (arith, quality.0), quality.1.0, endpoint.1, behind.0, few_of S v.nas behind.1)
+    let bearer = fits.0 in
+    let quality = bearer.1.0 in
+    let endpoint = bearer.1.1 in
+    (omega (arith, bearer.0), omega (arith, quality.0), quality.1.0, endpoint.0.1, endpoint.1, few_of S v.nas fits.1)
 
 -- ---- lists
 

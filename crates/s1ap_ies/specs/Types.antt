@@ -1,5 +1,5 @@
 -- What is asked of a type of ASN.1, beside what aper_fields says of it.
-use Rattle.std.specs.Prelude.{◌≡◌, ◌*◌, ◌≤◌, ℕ, Bool, true, false}
+use Rattle.std.specs.Prelude.{◌≡◌, ◌*◌, ◌≤◌, Bool, true, false}
 use Rattle.aper_fields.specs.Asn1.{AsnType, octet_string, fixed_octets, sequence_of, variant, named, most_bits, takes_some, IsSound}
 
 -- whether its values take memory where they are read: strings and lists

@@ -4,7 +4,7 @@ use Rattle.std.proofs.lemmas.Bool.{leb-true}
 use Rattle.echo_base.specs.declared.reason.Reason.TheVariants as reasons
 use Rattle.device_types.specs.Cause.{cause_roots}
 use Rattle.aper_fields.specs.declared.enumerated.EnumValue.{EnumValue}
-use Rattle.aper_fields.specs.Asn1.{Same, AsnType, bit_string, integer, only, octet_string, enumerated, choice_index, one_bit, extensible, on, choice, sequence, needed, optional, absent, also, named, container, sequence_of, is_head, IsSound}
+use Rattle.aper_fields.specs.Asn1.{Same, AsnType, Fields, bit_string, integer, only, octet_string, enumerated, choice_index, one_bit, extensible, on, choice, sequence, needed, optional, absent, also, named, container, sequence_of, is_head, IsSound}
 use Rattle.aper_types.specs.declared.choice.Either.{Either}
 use Rattle.aper_types.specs.declared.choice.Either.TheVariants.{First, Second}
 use Rattle.aper_types.specs.Choices.{either_same}
@@ -23,6 +23,7 @@ use Rattle.s1ap_ies.specs.declared.ue_ids.UeIds.TheVariants.{Pair, Mme}
 use Rattle.s1ap_ies.specs.declared.bearer.Qos.{Qos}
 use Rattle.s1ap_ies.specs.declared.erab_done.ErabDone.{ErabDone}
 use Rattle.s1ap_ies.specs.declared.erab_to_setup.ErabToSetup.{ErabToSetup}
+use Rattle.s1ap_ies.specs.declared.erab_to_add.ErabToAdd.{ErabToAdd}
 
 -- a SEQUENCE of two BIT STRINGs of fixed sizes
 abbrev pub two_bit_strings : ℕ → ℕ → AsnType (ℕ × ℕ)
@@ -158,14 +159,27 @@ done_sound = (refl, leb-true _ _ refl, (tt, ((tt, λ size. (refl, leb-true 39 39
 abbrev pub nas_pdu : AsnType (List ℕ)
 nas_pdu = octet_string names.MOST_OCTETS_OF_NAS refl
 
+-- what the items of requests begin with: E-RAB ID, QoS parameters, transport layer address, GTP-TEID of 4 octets
+abbrev pub bearer : Fields (Unit {0} × (Unit {0} × (Unit {0} × Unit {0}))) (ℕ × (Qos × (ℕ × ℕ)))
+bearer = also (needed erab_id) (also (needed qos) (also (needed address) (needed (bit_string 32))))
+
 -- E-RAB to Be Setup Item of a request (9.1.4.1): the NAS-PDU is optional
 unfoldable pub erab_to_setup : AsnType ErabToSetup
-erab_to_setup = named (record { make = λ v. record { id = v.0; qci = v.1.0.qci; arp = v.1.0.arp; address = v.1.1.0; teid = v.1.1.1.0; nas = v.1.1.1.1 }; parts = λ v. (v.id, (record { qci = v.qci; arp = v.arp }, (v.address, (v.teid, v.nas)))); back = λ v. refl; again = λ v. refl })
-    (sequence (also (needed erab_id) (also (needed qos) (also (needed address) (also (needed (bit_string 32)) (optional nas_pdu))))))
+erab_to_setup = named (record { make = λ v. record { id = v.0.0; qci = v.0.1.0.qci; arp = v.0.1.0.arp; address = v.0.1.1.0; teid = v.0.1.1.1; nas = v.1 }; parts = λ v. ((v.id, (record { qci = v.qci; arp = v.arp }, (v.address, v.teid))), v.nas); back = λ v. refl; again = λ v. refl })
+    (sequence (also bearer (optional nas_pdu)))
 
 pub setup_sound : IsItemSound erab_to_setup
 unfolding erab_to_setup
-setup_sound = (refl, leb-true _ _ refl, (tt, ((tt, (refl, tt)), ((tt, λ size. (refl, leb-true 39 39 refl)), (refl, tt)))))
+setup_sound = (refl, leb-true _ _ refl, ((tt, ((tt, (refl, tt)), ((tt, λ size. (refl, leb-true 39 39 refl)), refl))), tt))
+
+-- E-RAB to Be Setup Item of bearers that are added (9.1.3.1): the NAS-PDU is always there
+unfoldable pub erab_to_add : AsnType ErabToAdd
+erab_to_add = named (record { make = λ v. record { id = v.0.0; qci = v.0.1.0.qci; arp = v.0.1.0.arp; address = v.0.1.1.0; teid = v.0.1.1.1; nas = v.1 }; parts = λ v. ((v.id, (record { qci = v.qci; arp = v.arp }, (v.address, v.teid))), v.nas); back = λ v. refl; again = λ v. refl })
+    (sequence (also bearer (needed nas_pdu)))
+
+pub add_sound : IsItemSound erab_to_add
+unfolding erab_to_add
+add_sound = (refl, leb-true _ _ refl, ((tt, ((tt, (refl, tt)), ((tt, λ size. (refl, leb-true 39 39 refl)), refl))), tt))
 
 -- E-RAB to Be Setup List (9.1.4.1)
 abbrev pub erabs_to_setup : AsnType (List ErabToSetup)
@@ -174,6 +188,14 @@ erabs_to_setup = list_of names.ERAB_TO_SETUP_ITEM reject refl erab_to_setup
 -- E-RAB Setup List (9.1.4.3)
 abbrev pub erabs_done : AsnType (List ErabDone)
 erabs_done = list_of names.ERAB_SETUP_ITEM ignore refl erab_done
+
+-- E-RAB to be Setup List of bearers that are added (9.1.3.1)
+abbrev pub erabs_to_add : AsnType (List ErabToAdd)
+erabs_to_add = list_of names.ERAB_TO_ADD_ITEM reject refl erab_to_add
+
+-- E-RAB Setup List of bearers that were added (9.1.3.2)
+abbrev pub erabs_added : AsnType (List ErabDone)
+erabs_added = list_of names.ERAB_ADDED_ITEM ignore refl erab_done
 
 -- UE Identity Index Value (9.2.3.10)
 abbrev pub ue_index : AsnType ℕ

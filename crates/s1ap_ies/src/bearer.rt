@@ -1,10 +1,18 @@
 //! The pieces of E-RAB items.
 
 ghost use Rattle.std.specs.Prelude.{◌≡◌, ◌<◌, ◌≤◌, ◌^◌, IfOk, OnOk, OnErr};
-ghost use Rattle.s1ap_ies.specs.Values.{address};
+ghost use Rattle.echo_base.specs.Reading.{GivesBy};
+ghost use Rattle.aper_fields.specs.Run.{then_written};
+ghost use Rattle.aper_fields.specs.Kept.{Keeps};
+ghost use Rattle.aper_fields.specs.Asn1.{fields_at, fields_run};
+ghost use Rattle.aper_types.specs.Types.{CanBe};
+ghost use Rattle.s1ap_ies.specs.Values.{address, bearer};
+ghost use Rattle.s1ap_ies.specs.Lent.{bearer_parts};
 
 use aper_fields::{BitReader, BitWriter, Ranged, read_bits_fixed, read_zero_bit, write_bits_fixed};
-use aper_types::{Absent, BitString, Coding, Extensible, Integer, Named, Needed, Sequence};
+use aper_types::{
+    Absent, BitString, Coding, Components, Extensible, Integer, Made, Named, Needed, Sequence,
+};
 use echo_base::{OutOfMemory, Reason, Refusal};
 
 /// E-RAB ID (TS 36.413, 9.2.1.2).
@@ -79,4 +87,56 @@ impl Named for Qos {
     ghost made = { made_of _ qos_same };
 
     ghost right = { Prim.search rules };
+}
+
+/// What stands in front of the NAS-PDU in the items of requests (TS 36.413, 9.1.3.1 and 9.1.4.1): E-RAB ID, QoS, transport layer
+/// address, TEID.
+type Fields = (
+    Needed<ErabId>,
+    (Needed<Made<Qos>>, (Needed<Address>, Needed<BitString<32>>)),
+);
+
+/// An E-RAB that is to be set up, without its NAS-PDU.
+#[derive(Clone, Copy)]
+pub struct Bearer {
+    /// The E-RAB ID.
+    pub id: u8,
+    /// The QoS.
+    pub qos: Qos,
+    /// The IPv4 address of the serving gateway.
+    pub address: u32,
+    /// The tunnel endpoint identifier of the serving gateway.
+    pub teid: u32,
+}
+
+impl Bearer {
+    /// Reads what stands in front of the NAS-PDU.
+    pub fn read(r: &mut BitReader) -> Result<Bearer, Refusal>
+        ensures { GivesBy bearer_parts result r.old r.new (fields_at bearer (tt, (tt, (tt, tt))) r.old) }
+    {
+        let (id, (qos, (address, teid))) = Fields::read_fields(r, ((), ((), ((), ()))))?;
+        Ok(Bearer {
+            id: id as u8,
+            qos,
+            address: address as u32,
+            teid: teid as u32,
+        })
+    }
+
+    /// Writes what stands in front of the NAS-PDU. Where memory runs out, what was written before still stands in front.
+    pub fn write(self, w: &mut BitWriter) -> Result<(), OutOfMemory>
+        requires { CanBe bearer (bearer_parts self) }
+        ensures ok { OnOk result (w.new ≡ then_written w.old (fields_run bearer (bearer_parts self))) }
+        ensures kept { OnErr result (Keeps w.old w.new) }
+    {
+        Fields::write_fields(w, self.parts())
+    }
+
+    /// The values of these fields.
+    fn parts(self) -> (u64, (Qos, (u64, u64)))
+        ensures { result ≡ bearer_parts self }
+    {
+        let endpoint = (u64::from(self.address), u64::from(self.teid));
+        (u64::from(self.id), (self.qos, endpoint))
+    }
 }

@@ -2,20 +2,20 @@
 
 ghost use Rattle.std.specs.Prelude.{◌≡◌, IfOk, IfSome, OnOk, OnErr, option_map, length};
 ghost use Rattle.echo_base.specs.Reading.{GivesBy};
-ghost use Rattle.aper_fields.specs.Run.{then_written, ◌▸◌, fixed_bits_run};
+ghost use Rattle.aper_fields.specs.Run.{then_written};
 ghost use Rattle.aper_fields.specs.Kept.{Keeps};
-ghost use Rattle.aper_fields.specs.Asn1.{reading, run, fields_at, fields_run, FieldsFit, CanBeWritten, optional};
-ghost use Rattle.s1ap_ies.specs.Values.{erab_to_setup, qos, address, nas_pdu};
+ghost use Rattle.aper_fields.specs.Asn1.{reading, fields_at, fields_run, FieldsFit, optional};
+ghost use Rattle.s1ap_ies.specs.Values.{erab_to_setup, nas_pdu};
 ghost use Rattle.s1ap_ies.specs.Lent.{item_of};
 
-use crate::bearer::{Address, ErabId, Qos};
+use crate::bearer::{Bearer, Qos};
 use crate::list::Item;
 use crate::names::MOST_OCTETS_OF_NAS;
 use aper_fields::{
-    BitReader, BitWriter, read_bits_fixed, read_octet_string, read_present, read_zero_bit,
-    skip_extensions, write_bits_fixed, write_octet_string, write_present,
+    BitReader, BitWriter, read_octet_string, read_present, read_zero_bit, skip_extensions,
+    write_bits_fixed, write_octet_string, write_present,
 };
-use aper_types::{Coding, Made, OwnedValue};
+use aper_types::OwnedValue;
 use device_types::Octets;
 use echo_base::{Bad, OutOfMemory, Reason, Refusal};
 use std::alloc::{AllocError, Global};
@@ -40,10 +40,7 @@ pub struct ErabToSetup {
 /// The fields, with the NAS-PDU where it lies in what is read.
 #[derive(Drop)]
 struct Parts<'a> {
-    id: u8,
-    qos: Qos,
-    address: u32,
-    teid: u32,
+    bearer: Bearer,
     nas: Option<&'a [u8]>,
 }
 
@@ -70,20 +67,11 @@ fn read_parts<'a>(r: &mut BitReader<'a>) -> Result<Parts<'a>, Refusal>
     read_zero_bit(&mut ahead, Reason::SequenceExtension)?;
     let with_nas = read_present(&mut ahead)?;
     let more = read_present(&mut ahead)?;
-    let id = ErabId::read(&mut ahead)?;
-    let qos = Made::<Qos>::read(&mut ahead)?;
-    let address = Address::read(&mut ahead)?;
-    let teid = read_bits_fixed(&mut ahead, 32)?;
+    let bearer = Bearer::read(&mut ahead)?;
     let nas = read_nas(&mut ahead, with_nas)?;
     skip_extensions(&mut ahead, more)?;
     *r = ahead;
-    Ok(Parts {
-        id: id as u8,
-        qos,
-        address: address as u32,
-        teid: teid as u32,
-        nas,
-    })
+    Ok(Parts { bearer, nas })
 }
 
 /// The octets in memory of their own.
@@ -109,22 +97,21 @@ fn write_nas(w: &mut BitWriter, nas: &Option<Octets>) -> Result<(), OutOfMemory>
     }
 }
 
-/// Writes what stands behind the E-RAB ID (TS 36.413, 9.1.4.1): QoS parameters, transport layer address, TEID and, where
-/// there is one, the NAS-PDU. Where memory runs out, what was written before still stands in front.
-#[tactic(auto, unfolding(crate::specs::Values::erab_to_setup))]
-fn write_bearer(w: &mut BitWriter, erab: &ErabToSetup) -> Result<(), OutOfMemory>
-    requires { CanBeWritten erab_to_setup erab.now }
-    ensures ok { OnOk result (w.new ≡ then_written w.old (run qos (record { qci = erab.now.qci; arp = erab.now.arp }) ▸ run address erab.now.address ▸ fixed_bits_run 32 erab.now.teid ▸ fields_run (optional nas_pdu) erab.now.nas)) }
-    ensures kept { OnErr result (Keeps w.old w.new) }
-{
-    let qos = Qos {
-        qci: erab.qci,
-        arp: erab.arp,
-    };
-    Made::<Qos>::write(w, qos)?;
-    Address::write(w, u64::from(erab.address))?;
-    write_bits_fixed(w, u64::from(erab.teid), 32)?;
-    write_nas(w, &erab.nas)
+impl ErabToSetup {
+    /// The E-RAB without its NAS-PDU.
+    fn bearer(&self) -> Bearer
+        ensures { result ≡ record { id = self.now.id; qos = record { qci = self.now.qci; arp = self.now.arp }; address = self.now.address; teid = self.now.teid } }
+    {
+        Bearer {
+            id: self.id,
+            qos: Qos {
+                qci: self.qci,
+                arp: self.arp,
+            },
+            address: self.address,
+            teid: self.teid,
+        }
+    }
 }
 
 impl OwnedValue for ErabToSetup {
@@ -142,12 +129,18 @@ impl OwnedValue for ErabToSetup {
         let parts = read_parts(&mut ahead)?;
         let nas = own(alloc, parts.nas)?;
         *r = ahead;
+        let Bearer {
+            id,
+            qos,
+            address,
+            teid,
+        } = parts.bearer;
         Ok(ErabToSetup {
-            id: parts.id,
-            qci: parts.qos.qci,
-            arp: parts.qos.arp,
-            address: parts.address,
-            teid: parts.teid,
+            id,
+            qci: qos.qci,
+            arp: qos.arp,
+            address,
+            teid,
             nas,
         })
     }
@@ -162,8 +155,8 @@ impl OwnedValue for ErabToSetup {
         write_bits_fixed(w, 0, 1)?;
         write_present(w, self.nas.is_some())?;
         write_bits_fixed(w, 0, 1)?;
-        ErabId::write(w, u64::from(self.id))?;
-        write_bearer(w, self)
+        self.bearer().write(w)?;
+        write_nas(w, &self.nas)
     }
 }
 

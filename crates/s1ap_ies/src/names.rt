@@ -9,11 +9,17 @@ pub const CAUSE: u16 = 2;
 /// The id of the IE eNB UE S1AP ID (9.2.3.4).
 pub const ENB_UE_S1AP_ID: u16 = 8;
 
+/// The id of the IE E-RAB to be Setup List of bearers that are added (9.1.3.1).
+pub const ERABS_TO_ADD: u16 = 16;
+
 /// The id of the IE E-RAB to Be Setup List (9.1.4.1).
 pub const ERABS_TO_SETUP: u16 = 24;
 
 /// The id of the IE NAS-PDU (9.2.3.5).
 pub const NAS_PDU: u16 = 26;
+
+/// The id of the IE E-RAB Setup List of bearers that were added (9.1.3.2).
+pub const ERABS_ADDED: u16 = 28;
 
 /// The id of the IE UE Paging Identity (9.2.3.13).
 pub const PAGING_ID: u16 = 43;
@@ -57,6 +63,12 @@ pub const CN_DOMAIN: u16 = 109;
 /// The id of the IE RRC Establishment Cause (9.2.1.3a).
 pub const RRC_CAUSE: u16 = 134;
 
+/// The id of an item of an E-RAB to be Setup List of bearers that are added (9.1.3.1).
+pub const ERAB_TO_ADD_ITEM: u16 = 17;
+
+/// The id of an item of an E-RAB Setup List of bearers that were added (9.1.3.2).
+pub const ERAB_ADDED_ITEM: u16 = 39;
+
 /// The id of an item of a List of TAIs (9.1.6).
 pub const TAI_ITEM: u16 = 47;
 
@@ -65,6 +77,9 @@ pub const ERAB_SETUP_ITEM: u16 = 50;
 
 /// The id of an item of an E-RAB to Be Setup List (9.1.4.1).
 pub const ERAB_TO_SETUP_ITEM: u16 = 52;
+
+/// The procedure code of an E-RAB setup (9.3.6).
+pub const ERAB_SETUP: u8 = 5;
 
 /// The procedure code of paging (9.3.6).
 pub const PAGING: u8 = 10;
@@ -103,8 +118,11 @@ pub const MOST_BIT_RATE: u64 = 10_000_000_000;
 pub const MOST_ITEMS: u64 = 256;
 
 /// The E-RAB ID (9.2.1.2) of a device's default bearer: the least EPS bearer identity that a network gives (3GPP TS 24.007,
-/// 11.2.3.1.5), and the only bearer of a device here.
+/// 11.2.3.1.5).
 pub const DEFAULT_ERAB: u8 = 5;
+
+/// The E-RAB ID of the bearer of a device's second connection: the next one.
+pub const SECOND_ERAB: u8 = 6;
 
 /// How many root values an RRC Establishment Cause has (9.2.1.3a).
 pub const RRC_CAUSE_ROOTS: u32 = 5;

@@ -24,7 +24,7 @@ outcome_index Unsuccessful = 2
 pub record Message : Type 1 where
   -- the values of its fields
   pub Fields : Type 0
-  -- its name, as the standard spells it (9.3.3)
+  -- its name, as the standard spells it (9.3.3), with Erab for E-RAB
   pub name : List ℕ
   -- which alternative of S1AP-PDU it is
   pub outcome : Outcome
@@ -246,6 +246,43 @@ paging = record {
   part = elim [ pdus.Paging index id cs tais ↦ Some (index, (id, (cs, (tais, tt)))) | _ ↦ None ];
 }
 
+-- E-RAB SETUP REQUEST (9.1.3.1)
+abbrev pub erab_setup_request : Message
+erab_setup_request = record {
+  Fields = _;
+  name = codes "ErabSetupRequest";
+  outcome = Initiating;
+  code = names.ERAB_SETUP;
+  criticality = Reject;
+  downlink = true;
+  rows =
+      must names.MME_UE_S1AP_ID Reject ▸
+      must names.ENB_UE_S1AP_ID Reject ▸
+      may names.BIT_RATES Reject ▸
+      must names.ERABS_TO_ADD Reject ▸
+      last;
+  make = pdus.ErabSetupRequest;
+  part = elim [ pdus.ErabSetupRequest mme enb rates bearers ↦ Some (mme, (enb, (rates, (bearers, tt)))) | _ ↦ None ];
+}
+
+-- E-RAB SETUP RESPONSE (9.1.3.2)
+abbrev pub erab_setup_response : Message
+erab_setup_response = record {
+  Fields = _;
+  name = codes "ErabSetupResponse";
+  outcome = Successful;
+  code = names.ERAB_SETUP;
+  criticality = Reject;
+  downlink = false;
+  rows =
+      must names.MME_UE_S1AP_ID Ignore ▸
+      must names.ENB_UE_S1AP_ID Ignore ▸
+      may names.ERABS_ADDED Ignore ▸
+      last;
+  make = pdus.ErabSetupResponse;
+  part = elim [ pdus.ErabSetupResponse mme enb added ↦ Some (mme, (enb, (added, tt))) | _ ↦ None ];
+}
+
 -- what holds of the message of a kind
 abbrev pub by_kind {ℓ} : {B : Type ℓ} → (Message → B) → MessageKind → B
 by_kind f kind.InitialUeMessage = f initial_ue_message
@@ -259,12 +296,14 @@ by_kind f kind.UeContextReleaseCommand = f ue_context_release_command
 by_kind f kind.UeContextReleaseComplete = f ue_context_release_complete
 by_kind f kind.UeCapabilityInfoIndication = f ue_capability_info_indication
 by_kind f kind.Paging = f paging
+by_kind f kind.ErabSetupRequest = f erab_setup_request
+by_kind f kind.ErabSetupResponse = f erab_setup_response
 
 abbrev pub message_of : MessageKind → Message
 message_of kind = by_kind (λ m. m) kind
 
 abbrev pub kinds : List MessageKind
-kinds = kind.InitialUeMessage ∷ kind.UplinkNasTransport ∷ kind.DownlinkNasTransport ∷ kind.InitialContextSetupRequest ∷ kind.InitialContextSetupResponse ∷ kind.InitialContextSetupFailure ∷ kind.UeContextReleaseRequest ∷ kind.UeContextReleaseCommand ∷ kind.UeContextReleaseComplete ∷ kind.UeCapabilityInfoIndication ∷ kind.Paging ∷ []
+kinds = kind.InitialUeMessage ∷ kind.UplinkNasTransport ∷ kind.DownlinkNasTransport ∷ kind.InitialContextSetupRequest ∷ kind.InitialContextSetupResponse ∷ kind.InitialContextSetupFailure ∷ kind.UeContextReleaseRequest ∷ kind.UeContextReleaseCommand ∷ kind.UeContextReleaseComplete ∷ kind.UeCapabilityInfoIndication ∷ kind.Paging ∷ kind.ErabSetupRequest ∷ kind.ErabSetupResponse ∷ []
 
 -- the kind of a message
 abbrev pub kind_of : Pdu → MessageKind
@@ -279,6 +318,8 @@ kind_of (pdus.UeContextReleaseCommand ids cause) = kind.UeContextReleaseCommand
 kind_of (pdus.UeContextReleaseComplete mme enb) = kind.UeContextReleaseComplete
 kind_of (pdus.UeCapabilityInfoIndication mme enb radio) = kind.UeCapabilityInfoIndication
 kind_of (pdus.Paging index id cs tais) = kind.Paging
+kind_of (pdus.ErabSetupRequest mme enb rates bearers) = kind.ErabSetupRequest
+kind_of (pdus.ErabSetupResponse mme enb added) = kind.ErabSetupResponse
 
 abbrev pub header_of : MessageKind → Header
 header_of kind = by_kind (λ m. record { outcome = m.outcome; code = m.code; criticality = m.criticality }) kind

@@ -17,6 +17,10 @@ ignore id = record { id = id; criticality = Ignore; needed = true }
 abbrev pub optional : ℕ → IeRow
 optional id = record { id = id; criticality = Reject; needed = false }
 
+-- an element that may be absent, whose criticality is ignore
+abbrev pub optional_ignore : ℕ → IeRow
+optional_ignore id = record { id = id; criticality = Ignore; needed = false }
+
 -- the row behind the last element
 abbrev pub no_row : IeRow
 no_row = record { id = 0; criticality = Reject; needed = false }

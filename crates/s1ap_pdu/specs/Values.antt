@@ -2,6 +2,7 @@
 use Rattle.std.specs.Borrow.{Bor}
 use Rattle.std.specs.Prelude.{◌≡◌, ℕ, ◌==◌, Bool, true, false, refl, List, [], ◌∷◌, map, Option, Some, None, option_map, IfSome}
 use Rattle.s1ap_ies.specs.declared.erab_to_setup.ErabToSetup.{ErabToSetup}
+use Rattle.s1ap_ies.specs.declared.erab_to_add.ErabToAdd.{ErabToAdd}
 use Rattle.s1ap_ies.specs.declared.erab_done.ErabDone.{ErabDone}
 use Rattle.s1ap_ies.specs.declared.tai.Tai.{Tai}
 use Rattle.aper_fields.specs.Asn1.{AsnType, Variant, integer, enumerated, octet_string, fixed_octets, by_test, variant, format, takes_some, IsSound}
@@ -12,19 +13,21 @@ use Rattle.s1ap_pdu.specs.declared.value.IeValue.TheVariants as value
 
 -- the value of an IE
 abbrev pub FieldValue : Type 0
-FieldValue = declared.IeValue (List ℕ) (List ErabToSetup) (List ErabDone) (List Tai)
+FieldValue = declared.IeValue (List ℕ) (List ErabToSetup) (List ErabDone) (List Tai) (List ErabToAdd)
 
 -- ---- values that are lent, as they are seen
 
 abbrev pub LentValue : Type 0
-LentValue = declared.IeValue (Bor (List ℕ)) (Bor (List ErabToSetup)) (Bor (List ErabDone)) (Bor (List Tai))
+LentValue = declared.IeValue (Bor (List ℕ)) (Bor (List ErabToSetup)) (Bor (List ErabDone)) (Bor (List Tai)) (Bor (List ErabToAdd))
 
 abbrev pub seen : LentValue → FieldValue
 seen (value.Mme mme) = value.Mme mme
 seen (value.Cause cause) = value.Cause cause
 seen (value.Enb enb) = value.Enb enb
+seen (value.ToAdd bearers) = value.ToAdd bearers.now
 seen (value.Bearers bearers) = value.Bearers bearers.now
 seen (value.Nas nas) = value.Nas nas.now
+seen (value.Added done) = value.Added done.now
 seen (value.Paging stmsi) = value.Paging stmsi
 seen (value.Tais tais) = value.Tais tais.now
 seen (value.Done done) = value.Done done.now
@@ -79,6 +82,10 @@ cause = ie_type names.CAUSE types.cause value.Cause (elim [ value.Cause v ↦ So
 abbrev pub enb : IeType
 enb = ie_type names.ENB_UE_S1AP_ID (integer 0 names.MOST_ENB_UE_S1AP_ID refl) value.Enb (elim [ value.Enb v ↦ Some v | _ ↦ None ]) (λ v. refl) (elim [ value.Enb v ↦ refl | _ ↦ tt ]) tt refl
 
+-- E-RAB to be Setup List of bearers that are added (9.1.3.1)
+abbrev pub erabs_to_add : IeType
+erabs_to_add = ie_type names.ERABS_TO_ADD types.erabs_to_add value.ToAdd (elim [ value.ToAdd v ↦ Some v | _ ↦ None ]) (λ v. refl) (elim [ value.ToAdd v ↦ refl | _ ↦ tt ]) types.add_sound refl
+
 -- E-RAB to Be Setup List (9.1.4.1)
 abbrev pub erabs_to_setup : IeType
 erabs_to_setup = ie_type names.ERABS_TO_SETUP types.erabs_to_setup value.Bearers (elim [ value.Bearers v ↦ Some v | _ ↦ None ]) (λ v. refl) (elim [ value.Bearers v ↦ refl | _ ↦ tt ]) types.setup_sound refl
@@ -86,6 +93,10 @@ erabs_to_setup = ie_type names.ERABS_TO_SETUP types.erabs_to_setup value.Bearers
 -- NAS-PDU (9.2.3.5)
 abbrev pub nas_pdu : IeType
 nas_pdu = ie_type names.NAS_PDU types.nas_pdu value.Nas (elim [ value.Nas v ↦ Some v | _ ↦ None ]) (λ v. refl) (elim [ value.Nas v ↦ refl | _ ↦ tt ]) tt refl
+
+-- E-RAB Setup List of bearers that were added (9.1.3.2)
+abbrev pub erabs_added : IeType
+erabs_added = ie_type names.ERABS_ADDED types.erabs_added value.Added (elim [ value.Added v ↦ Some v | _ ↦ None ]) (λ v. refl) (elim [ value.Added v ↦ refl | _ ↦ tt ]) types.done_sound refl
 
 -- UE Paging Identity (9.2.3.13)
 abbrev pub paging_id : IeType
@@ -148,8 +159,10 @@ abbrev pub by_ie {ℓ} : {B : Type ℓ} → (IeType → B) → FieldValue → B
 by_ie f (value.Mme v) = f mme
 by_ie f (value.Cause v) = f cause
 by_ie f (value.Enb v) = f enb
+by_ie f (value.ToAdd v) = f erabs_to_add
 by_ie f (value.Bearers v) = f erabs_to_setup
 by_ie f (value.Nas v) = f nas_pdu
+by_ie f (value.Added v) = f erabs_added
 by_ie f (value.Paging v) = f paging_id
 by_ie f (value.Tais v) = f tais
 by_ie f (value.Done v) = f erabs_done
@@ -208,8 +221,10 @@ ies_before_last =
     listed mme (λ a at run s. s) (λ a. refl) ∷
     listed cause (λ a at run s. s) (λ a. refl) ∷
     listed enb (λ a at run s. s) (λ a. refl) ∷
+    listed erabs_to_add (λ a at run s. s) (λ a. refl) ∷
     listed erabs_to_setup (λ a at run s. s) (λ a. refl) ∷
     listed nas_pdu (λ a at run s. s) (λ a. refl) ∷
+    listed erabs_added (λ a at run s. s) (λ a. refl) ∷
     listed paging_id (λ a at run s. s) (λ a. refl) ∷
     listed tais (λ a at run s. s) (λ a. refl) ∷
     listed erabs_done (λ a at run s. s) (λ a. refl) ∷

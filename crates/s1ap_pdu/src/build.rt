@@ -1,7 +1,7 @@
 //! Messages of the values that were read: memory is taken here alone.
 
 ghost use Rattle.std.specs.Prelude.{◌≡◌, IsOk, Ok};
-ghost use Rattle.s1ap_pdu.specs.Messages.{initial_ue_message, uplink_nas_transport, downlink_nas_transport, initial_context_setup_request, initial_context_setup_response, initial_context_setup_failure, ue_context_release_request, ue_context_release_command, ue_context_release_complete, ue_capability_info_indication, paging, made_from, message_from};
+ghost use Rattle.s1ap_pdu.specs.Messages.{initial_ue_message, uplink_nas_transport, downlink_nas_transport, initial_context_setup_request, initial_context_setup_response, initial_context_setup_failure, ue_context_release_request, ue_context_release_command, ue_context_release_complete, ue_capability_info_indication, paging, erab_setup_request, erab_setup_response, made_from, message_from};
 ghost use Rattle.s1ap_pdu.specs.Memory.{IsMade};
 
 use crate::pdu::Pdu;
@@ -204,6 +204,41 @@ fn paging(alloc: Global, slots: &Slots) -> Result<Pdu, OutOfMemory>
     })
 }
 
+#[tactic(auto, unfolding(crate::specs::Rows::fields_from))]
+fn erab_setup_request(alloc: Global, slots: &Slots) -> Result<Pdu, OutOfMemory>
+    requires { IsOk (made_from erab_setup_request slots.now) }
+    ensures { IsMade (made_from erab_setup_request slots.now) result }
+{
+    find_id!(slots, 0, mme);
+    find_id!(slots, 1, enb);
+    find!(slots, 3, ToAdd(bearers));
+    let rates = match slots.at(2) {
+        Some(IeValue::Rates(rates)) => Some(*rates),
+        _ => None,
+    };
+    let bearers = bearers.own(alloc)?;
+    Ok(Pdu::ErabSetupRequest {
+        mme,
+        enb,
+        rates,
+        bearers,
+    })
+}
+
+#[tactic(auto, unfolding(crate::specs::Rows::fields_from))]
+fn erab_setup_response(alloc: Global, slots: &Slots) -> Result<Pdu, OutOfMemory>
+    requires { IsOk (made_from erab_setup_response slots.now) }
+    ensures { IsMade (made_from erab_setup_response slots.now) result }
+{
+    find_id!(slots, 0, mme);
+    find_id!(slots, 1, enb);
+    let done = match slots.at(2) {
+        Some(IeValue::Added(done)) => Some(done.own(alloc)?),
+        _ => None,
+    };
+    Ok(Pdu::ErabSetupResponse { mme, enb, done })
+}
+
 /// The message of that kind with the values in the slots, none of which is missing, its octets and lists in memory of their own.
 #[tactic(auto, unfolding(crate::specs::Messages::message_from))]
 pub fn message(alloc: Global, kind: MessageKind, slots: &Slots) -> Result<Pdu, OutOfMemory>
@@ -222,5 +257,7 @@ pub fn message(alloc: Global, kind: MessageKind, slots: &Slots) -> Result<Pdu, O
         MessageKind::UeContextReleaseComplete => Ok(ue_context_release_complete(slots)),
         MessageKind::UeCapabilityInfoIndication => ue_capability_info_indication(alloc, slots),
         MessageKind::Paging => paging(alloc, slots),
+        MessageKind::ErabSetupRequest => erab_setup_request(alloc, slots),
+        MessageKind::ErabSetupResponse => erab_setup_response(alloc, slots),
     }
 }

@@ -1,4 +1,4 @@
-//! Eleven messages of S1AP (3GPP TS 36.413, 9.1) in aligned PER (ITU-T X.691), piece by piece: read exactly, refusals included,
+//! Thirteen messages of S1AP (3GPP TS 36.413, 9.1) in aligned PER (ITU-T X.691), piece by piece: read exactly, refusals included,
 //! and written in one way.
 #![tactic(auto)]
 
@@ -14,7 +14,7 @@ mod writing;
 
 pub use header::{Header, Outcome};
 pub use laws::{one_answer, small_is_right, spelled_is_right, written_is_spelled};
-pub use pdu::{ErabsDone, ErabsToSetup, Pdu, Tais};
+pub use pdu::{ErabsDone, ErabsToAdd, ErabsToSetup, Pdu, Tais};
 pub use reading::{read_pieces, receive_pieces};
 pub use tables::{
     IeRow, IeTable, MessageKind, header_of, ies_of, is_downlink, kind_with, message_name,

@@ -2,17 +2,23 @@
 
 ghost use Rattle.std.specs.Prelude.{◌≡◌, ◌∷◌, [], Some, None, option_map};
 ghost use Rattle.s1ap_pdu.specs.declared.value.IeValue.TheVariants as value;
+ghost use Rattle.s1ap_pdu.specs.Values.{seen};
 
 use crate::tables::MessageKind;
 use crate::value::{IeValue, LentValue};
 use aper_fields::EnumValue;
 use device_types::{ListOf, Octets};
-use s1ap_ies::{BitRates, Cause, Cgi, ErabDone, ErabToSetup, SecCaps, Stmsi, Tai, UeIds};
+use s1ap_ies::{
+    BitRates, Cause, Cgi, ErabDone, ErabToAdd, ErabToSetup, SecCaps, Stmsi, Tai, UeIds,
+};
 
 /// E-RABs that are to be set up, 1 to 256 of them (TS 36.413, 9.1.4.1).
 pub type ErabsToSetup = ListOf<ErabToSetup>;
 
-/// E-RABs that were set up, 1 to 256 of them (TS 36.413, 9.1.4.3).
+/// E-RABs that are added to a context, 1 to 256 of them (TS 36.413, 9.1.3.1).
+pub type ErabsToAdd = ListOf<ErabToAdd>;
+
+/// E-RABs that were set up, 1 to 256 of them (TS 36.413, 9.1.3.2 and 9.1.4.3).
 pub type ErabsDone = ListOf<ErabDone>;
 
 /// Tracking area identities, 1 to 256 of them (TS 36.413, 9.1.6).
@@ -135,6 +141,26 @@ pub enum Pdu {
         /// The tracking areas.
         tais: Tais,
     },
+    /// E-RAB SETUP REQUEST (9.1.3.1), from the MME.
+    ErabSetupRequest {
+        /// MME UE S1AP ID.
+        mme: u32,
+        /// eNB UE S1AP ID.
+        enb: u32,
+        /// UE Aggregate Maximum Bit Rate, where it changes.
+        rates: Option<BitRates>,
+        /// The E-RABs that are added.
+        bearers: ErabsToAdd,
+    },
+    /// E-RAB SETUP RESPONSE (9.1.3.2), from the base station.
+    ErabSetupResponse {
+        /// MME UE S1AP ID.
+        mme: u32,
+        /// eNB UE S1AP ID.
+        enb: u32,
+        /// The E-RABs that were added, where there are some.
+        done: Option<ErabsDone>,
+    },
 }
 
 /// The values of a message of both identities and at most one IE more.
@@ -157,6 +183,26 @@ fn stmsi_value<'a>(stmsi: &Option<Stmsi>) -> Option<LentValue<'a>>
 {
     match stmsi {
         Some(stmsi) => Some(IeValue::Stmsi(*stmsi)),
+        None => None,
+    }
+}
+
+/// The value of bit rates, where there are some.
+fn rates_value<'a>(rates: &Option<BitRates>) -> Option<LentValue<'a>>
+    ensures { result ≡ option_map value.Rates rates.now }
+{
+    match rates {
+        Some(rates) => Some(IeValue::Rates(*rates)),
+        None => None,
+    }
+}
+
+/// The value of a list of E-RABs that were added, where there is one.
+fn added_value<'a>(done: &'a Option<ErabsDone>) -> Option<LentValue<'a>>
+    ensures { option_map seen result ≡ option_map value.Added done.now }
+{
+    match done {
+        Some(done) => Some(IeValue::Added(done)),
         None => None,
     }
 }
@@ -196,6 +242,10 @@ impl Pdu {
             Pdu::Paging { index, id, cs, tais } => {
                 [Some(Index(*index)), Some(Paging(*id)), Some(Domain(*cs)), Some(Tais(tais)), None, None]
             }
+            Pdu::ErabSetupRequest { mme, enb, rates, bearers } => {
+                [Some(Mme(*mme)), Some(Enb(*enb)), rates_value(rates), Some(ToAdd(bearers)), None, None]
+            }
+            Pdu::ErabSetupResponse { mme, enb, done } => with_ids(*mme, *enb, added_value(done)),
         }
     }
 
@@ -215,6 +265,8 @@ impl Pdu {
             Pdu::UeContextReleaseComplete { .. } => MessageKind::UeContextReleaseComplete,
             Pdu::UeCapabilityInfoIndication { .. } => MessageKind::UeCapabilityInfoIndication,
             Pdu::Paging { .. } => MessageKind::Paging,
+            Pdu::ErabSetupRequest { .. } => MessageKind::ErabSetupRequest,
+            Pdu::ErabSetupResponse { .. } => MessageKind::ErabSetupResponse,
         }
     }
 }

@@ -3,7 +3,7 @@
 
 ghost use Rattle.std.specs.Prelude.{◌≡◌, ◌≤◌, ◌-◌, ◌++◌, map, length, replicate, eqb};
 ghost use Rattle.std.specs.List.{IsDistinct};
-ghost use Rattle.s1ap_pdu.specs.Tables.{reject, ignore, optional, no_row, by_mme};
+ghost use Rattle.s1ap_pdu.specs.Tables.{reject, ignore, optional, optional_ignore, no_row, by_mme};
 ghost use Rattle.s1ap_pdu.specs.Messages.{outcome_index, rows_of, header_of, is_downlink, name_of};
 ghost use Rattle.s1ap_pdu.specs.Grammar.{kind_with};
 
@@ -35,6 +35,10 @@ pub enum MessageKind {
     UeCapabilityInfoIndication,
     /// PAGING (9.1.6).
     Paging,
+    /// E-RAB SETUP REQUEST (9.1.3.1).
+    ErabSetupRequest,
+    /// E-RAB SETUP RESPONSE (9.1.3.2).
+    ErabSetupResponse,
 }
 
 /// An information element that a message has.
@@ -90,6 +94,16 @@ const fn optional(id: u16) -> IeRow
     }
 }
 
+/// An element that may be absent, whose criticality is ignore.
+const fn optional_ignore(id: u16) -> IeRow
+    ensures { result ≡ optional_ignore id }
+{
+    IeRow {
+        criticality: Criticality::Ignore,
+        ..optional(id)
+    }
+}
+
 /// The row behind the last element.
 const NO_ROW: IeRow = IeRow {
     id: 0,
@@ -137,7 +151,7 @@ impl Sender {
 /// What the program keeps of a kind of message.
 #[derive(Clone, Copy)]
 struct MessageRow {
-    /// Its name, as 3GPP TS 36.413, 9.3.3 spells it.
+    /// Its name, as 3GPP TS 36.413, 9.3.3 spells it, with Erab for E-RAB.
     name: &'static str,
     /// Whether an MME sends it, and does not receive it.
     downlink: bool,
@@ -200,6 +214,8 @@ fn row_of(kind: MessageKind) -> MessageRow
         UeContextReleaseComplete => row("UEContextReleaseComplete", Up, Successful, names::UE_CONTEXT_RELEASE, Reject, table!(ignore(names::MME_UE_S1AP_ID), ignore(names::ENB_UE_S1AP_ID))),
         UeCapabilityInfoIndication => row("UECapabilityInfoIndication", Up, Initiating, names::UE_CAPABILITY_INFO_INDICATION, Ignore, table!(reject(names::MME_UE_S1AP_ID), reject(names::ENB_UE_S1AP_ID), ignore(names::RADIO_CAPABILITY))),
         Paging => row("Paging", Down, Initiating, names::PAGING, Ignore, table!(ignore(names::UE_INDEX), ignore(names::PAGING_ID), ignore(names::CN_DOMAIN), ignore(names::TAIS))),
+        ErabSetupRequest => row("ErabSetupRequest", Down, Initiating, names::ERAB_SETUP, Reject, table!(reject(names::MME_UE_S1AP_ID), reject(names::ENB_UE_S1AP_ID), optional(names::BIT_RATES), reject(names::ERABS_TO_ADD))),
+        ErabSetupResponse => row("ErabSetupResponse", Up, Successful, names::ERAB_SETUP, Reject, table!(ignore(names::MME_UE_S1AP_ID), ignore(names::ENB_UE_S1AP_ID), optional_ignore(names::ERABS_ADDED))),
     }
 }
 
@@ -239,6 +255,8 @@ pub fn kind_with(outcome: Outcome, code: u8) -> Option<MessageKind>
         (Successful, names::UE_CONTEXT_RELEASE) => Some(MessageKind::UeContextReleaseComplete),
         (Initiating, names::UE_CAPABILITY_INFO_INDICATION) => Some(MessageKind::UeCapabilityInfoIndication),
         (Initiating, names::PAGING) => Some(MessageKind::Paging),
+        (Initiating, names::ERAB_SETUP) => Some(MessageKind::ErabSetupRequest),
+        (Successful, names::ERAB_SETUP) => Some(MessageKind::ErabSetupResponse),
         _ => None,
     }
 }
@@ -250,7 +268,7 @@ pub fn is_downlink(kind: MessageKind) -> bool
     row_of(kind).downlink
 }
 
-/// The name of a message, as 3GPP TS 36.413, 9.3.3 spells it.
+/// The name of a message, as 3GPP TS 36.413, 9.3.3 spells it, with Erab for E-RAB.
 pub fn message_name(kind: MessageKind) -> &'static str
     ensures { result.now ≡ name_of kind }
 {

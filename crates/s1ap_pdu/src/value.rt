@@ -8,7 +8,7 @@ ghost use Rattle.s1ap_pdu.specs.Values.{value_type, among, later_ies, last_ie, s
 ghost use Rattle.aper_fields.specs.Run.{then_written};
 ghost use Rattle.s1ap_pdu.specs.Run.{value_run, IsRightValue};
 
-use crate::pdu::{ErabsDone, ErabsToSetup, Tais};
+use crate::pdu::{ErabsDone, ErabsToAdd, ErabsToSetup, Tais};
 use aper_fields::{
     BitReader, BitWriter, EnumValue, Ranged, read_bits_fixed, read_enum, read_octet_string,
     read_octets_fixed, read_present, write_bits_fixed, write_enum, write_octet_string,
@@ -17,8 +17,8 @@ use aper_fields::{
 use device_types::Octets;
 use echo_base::{OutOfMemory, Refusal};
 use s1ap_ies::{
-    BitRates, Cause, Cgi, Criticality, ErabDone, ErabToSetup, FoundList, PlainValue, SecCaps,
-    Stmsi, Tai, UeIds, find_list, names, read_paging_id, write_list, write_paging_id,
+    BitRates, Cause, Cgi, Criticality, ErabDone, ErabToAdd, ErabToSetup, FoundList, PlainValue,
+    SecCaps, Stmsi, Tai, UeIds, find_list, names, read_paging_id, write_list, write_paging_id,
 };
 use std::alloc::Global;
 use std::marker::Model;
@@ -26,17 +26,21 @@ use std::marker::Model;
 /// The value of an IE that a message has (TS 36.413, 9.2). Octets and lists lie in what is read where they were found, and are
 /// lent where they are written.
 #[derive(Drop)]
-pub enum IeValue<O, S, D, T> {
+pub enum IeValue<O, S, D, T, A> {
     /// MME UE S1AP ID (9.2.3.3), the IE 0.
     Mme(u32),
     /// Cause (9.2.1.3), the IE 2.
     Cause(Cause),
     /// eNB UE S1AP ID (9.2.3.4), the IE 8.
     Enb(u32),
+    /// E-RAB to be Setup List of bearers that are added (9.1.3.1), the IE 16.
+    ToAdd(A),
     /// E-RAB to Be Setup List (9.1.4.1), the IE 24.
     Bearers(S),
     /// NAS-PDU (9.2.3.5), the IE 26.
     Nas(O),
+    /// E-RAB Setup List of bearers that were added (9.1.3.2), the IE 28.
+    Added(D),
     /// UE Paging Identity (9.2.3.13), the IE 43.
     Paging(Stmsi),
     /// List of TAIs (9.1.6), the IE 46.
@@ -96,10 +100,17 @@ pub type FoundValue<'a> = IeValue<
     FoundList<'a, ErabToSetup>,
     FoundList<'a, ErabDone>,
     FoundList<'a, Tai>,
+    FoundList<'a, ErabToAdd>,
 >;
 
 /// A value as it is written.
-pub type LentValue<'a> = IeValue<&'a Octets, &'a ErabsToSetup, &'a ErabsDone, &'a Tais>;
+pub type LentValue<'a> = IeValue<
+    &'a Octets,
+    &'a ErabsToSetup,
+    &'a ErabsDone,
+    &'a Tais,
+    &'a ErabsToAdd,
+>;
 
 /// Finds an octet string of at most so many octets.
 fn find_text<'a>(r: &mut BitReader<'a>, most: usize) -> Result<FoundOctets<'a>, Refusal>
@@ -150,8 +161,10 @@ pub fn find_value<'a>(r: &mut BitReader<'a>, id: u16) -> Result<FoundValue<'a>, 
         names::ENB_UE_S1AP_ID => Ok(IeValue::Enb(
             Ranged::<0, { names::MOST_ENB_UE_S1AP_ID }>::read(r)? as u32,
         )),
+        names::ERABS_TO_ADD => Ok(IeValue::ToAdd(find_list(r, names::ERAB_TO_ADD_ITEM)?)),
         names::ERABS_TO_SETUP => Ok(IeValue::Bearers(find_list(r, names::ERAB_TO_SETUP_ITEM)?)),
         names::NAS_PDU => Ok(IeValue::Nas(find_text(r, names::MOST_OCTETS_OF_NAS)?)),
+        names::ERABS_ADDED => Ok(IeValue::Added(find_list(r, names::ERAB_ADDED_ITEM)?)),
         names::PAGING_ID => Ok(IeValue::Paging(read_paging_id(r)?)),
         names::TAIS => Ok(IeValue::Tais(find_list(r, names::TAI_ITEM)?)),
         names::ERABS_DONE => Ok(IeValue::Done(find_list(r, names::ERAB_SETUP_ITEM)?)),
@@ -171,10 +184,14 @@ pub fn write_value(w: &mut BitWriter, value: &LentValue) -> Result<(), OutOfMemo
         IeValue::Mme(mme) => Ranged::<0, { names::MOST_MME_UE_S1AP_ID }>::write(w, u64::from(*mme)),
         IeValue::Cause(cause) => cause.write(w),
         IeValue::Enb(enb) => Ranged::<0, { names::MOST_ENB_UE_S1AP_ID }>::write(w, u64::from(*enb)),
+        IeValue::ToAdd(bearers) => {
+            write_list(w, names::ERAB_TO_ADD_ITEM, Criticality::Reject, bearers)
+        }
         IeValue::Bearers(bearers) => {
             write_list(w, names::ERAB_TO_SETUP_ITEM, Criticality::Reject, bearers)
         }
         IeValue::Nas(nas) => write_octet_string(w, nas.items()),
+        IeValue::Added(done) => { write_list(w, names::ERAB_ADDED_ITEM, Criticality::Ignore, done) }
         IeValue::Paging(stmsi) => write_paging_id(w, *stmsi),
         IeValue::Tais(tais) => write_list(w, names::TAI_ITEM, Criticality::Ignore, tais),
         IeValue::Done(done) => { write_list(w, names::ERAB_SETUP_ITEM, Criticality::Ignore, done) }
