@@ -2,7 +2,7 @@
 use Rattle.std.proofs.Common.{◌≤◌, length, arith}
 use Rattle.std.proofs.lemmas.List.{length-append}
 use Rattle.device_types.specs.declared.nas_out.NasOut.{NasOut}
-use Rattle.device_types.specs.declared.nas_out.NasOut.TheVariants.{AuthRequest, AuthReject, SecurityCommand, AttachAccept, AttachReject, ServiceReject, AreaReject, AreaAccept, DetachAccept}
+use Rattle.device_types.specs.declared.nas_out.NasOut.TheVariants.{AuthRequest, AuthReject, SecurityCommand, AttachAccept, AttachReject, ServiceReject, AreaReject, AreaAccept, DetachAccept, PdnReject, Activate}
 use Rattle.device_types.specs.Nas.{IsNasOut}
 use Rattle.nas_kinds.specs.Written.{nas_written}
 
@@ -18,3 +18,5 @@ length_written (ServiceReject cause) h = omega arith
 length_written (AreaReject cause) h = omega arith
 length_written AreaAccept h = omega arith
 length_written DetachAccept h = omega arith
+length_written (PdnReject pti cause) h = omega arith
+length_written (Activate pti apn ip) h = simp length-append (omega (arith, h.1))

@@ -1,5 +1,5 @@
 -- Reading a NAS message from left to right: a value and what is left, or the refusal of the first field that is wrong.
-use Rattle.std.specs.Prelude.{ℕ, ◌+◌, ◌*◌, ◌/◌, ◌%◌, ◌==◌, nat_lt, List, [], ◌∷◌, length, drop, Option, Some, None, Result, if◌then◌else◌}
+use Rattle.std.specs.Prelude.{ℕ, ◌+◌, ◌*◌, ◌/◌, ◌%◌, ◌==◌, ◌&&◌, nat_lt, List, [], ◌∷◌, length, drop, Option, Some, None, option_map, Result, if◌then◌else◌}
 use Rattle.std.specs.Int.{w32, from_be_bytes}
 use Rattle.echo_base.specs.declared.reason.Reason.TheVariants as reasons
 use Rattle.echo_base.specs.declared.identity.Identity.{Identity}
@@ -12,8 +12,12 @@ use Rattle.nas_kinds.specs.declared.kind.Header.{Header}
 use Rattle.nas_kinds.specs.declared.kind.Header.TheVariants.{Plain, Protected, Service}
 use Rattle.nas_kinds.specs.declared.kind.Kind.{Kind}
 use Rattle.nas_kinds.specs.declared.kind.Kind.TheVariants as kinds
+use Rattle.nas_kinds.specs.declared.kind.Protocol.{Protocol}
+use Rattle.nas_kinds.specs.declared.kind.Protocol.TheVariants.{Mobility, Session}
+use Rattle.nas_kinds.specs.declared.kind.SessionKind.{SessionKind}
+use Rattle.nas_kinds.specs.declared.kind.SessionKind.TheVariants as session_kinds
 use Rattle.nas_kinds.specs.declared.nas_in.NasIn.{NasIn}
-use Rattle.nas_kinds.specs.declared.nas_in.NasIn.TheVariants.{AttachRequest, AttachComplete, DetachRequest, AreaRequest, AuthResponse, SecurityComplete, SecurityReject, ServiceRequest}
+use Rattle.nas_kinds.specs.declared.nas_in.NasIn.TheVariants.{AttachRequest, AttachComplete, DetachRequest, AreaRequest, AuthResponse, SecurityComplete, SecurityReject, ServiceRequest, PdnRequest, PdnAccept}
 use Rattle.nas_kinds.specs.Identity.{halves}
 use Rattle.nas_kinds.specs.Kinds.{short}
 
@@ -134,32 +138,69 @@ kind_at = do
   octet ← octet_at short
   known (kind_of octet) (refused (reasons.NasKind octet))
 
-unfoldable pub message_at : Reader NasIn
-message_at = kind_at >>= fields_at
+unfoldable pub mobility_at : Reader NasIn
+mobility_at = kind_at >>= fields_at
+
+-- the message of session management of that type, for that bearer
+unfoldable pub session_kind_of : ℕ → ℕ → Option SessionKind
+session_kind_of bearer octet = if octet == 0xd0 then Some session_kinds.PdnRequest else (if octet == 0xc2 && bearer == 6 then Some session_kinds.PdnAccept else None)
+
+unfoldable pub session_kind_at : ℕ → Reader SessionKind
+session_kind_at bearer = do
+  octet ← octet_at short
+  known (session_kind_of bearer octet) (refused (reasons.NasKind octet))
+
+unfoldable pub pdn_request_at : ℕ → Reader NasIn
+pdn_request_at pti = do
+  types ← octet_at short
+  done (PdnRequest pti)
+
+abbrev pub session_fields_at : ℕ → SessionKind → Reader NasIn
+session_fields_at pti session_kinds.PdnRequest = pdn_request_at pti
+session_fields_at pti session_kinds.PdnAccept = done PdnAccept
+
+unfoldable pub session_at : ℕ → Reader NasIn
+session_at bearer = do
+  pti ← octet_at short
+  kind ← session_kind_at bearer
+  session_fields_at pti kind
+
+abbrev pub message_at : Protocol → Reader NasIn
+message_at Mobility = mobility_at
+message_at (Session bearer) = session_at bearer
 
 -- ---- the first octet
 
+-- what the first octet of a plain message says
+unfoldable pub protocol_of : ℕ → Option Protocol
+protocol_of octet = if octet == 0x07 then Some Mobility else (if octet % 16 == 2 then Some (Session (octet / 16)) else None)
+
+unfoldable pub protocol_at : Reader Protocol
+protocol_at = do
+  octet ← octet_at short
+  known (protocol_of octet) (refused reasons.NasDiscriminator)
+
 -- what a first octet says
 unfoldable pub header_of : ℕ → Option Header
-header_of octet = if octet == 0x07 then Some Plain else (if octet == 0x17 then Some Protected else (if octet == 0x27 then Some Protected else (if octet == 0x37 then Some Protected else (if octet == 0x47 then Some Protected else (if octet == 0xc7 then Some Service else None)))))
+header_of octet = if octet == 0x17 then Some Protected else (if octet == 0x27 then Some Protected else (if octet == 0x37 then Some Protected else (if octet == 0x47 then Some Protected else (if octet == 0xc7 then Some Service else option_map Plain (protocol_of octet)))))
 
 unfoldable pub header_at : Reader Header
 header_at = do
   octet ← octet_at short
   known (header_of octet) (refused reasons.NasDiscriminator)
 
--- what is in front of the message type in a protected message
+-- what is in front of the plain message in a protected one
 unfoldable pub security_at : Reader (Unit {0})
 security_at = do
   code ← octets_at short 4
   number ← octet_at short
-  inner ← octet_at short
-  known (if inner == 0x07 then Some tt else None) (refused reasons.NasDiscriminator)
+  done tt
 
 unfoldable pub protected_at : Reader NasIn
 protected_at = do
   security ← security_at
-  message_at
+  protocol ← protocol_at
+  message_at protocol
 
 unfoldable pub service_at : Reader NasIn
 service_at = do
@@ -167,7 +208,7 @@ service_at = do
   done ServiceRequest
 
 abbrev pub behind_at : Header → Reader NasIn
-behind_at Plain = message_at
+behind_at (Plain protocol) = message_at protocol
 behind_at Protected = protected_at
 behind_at Service = service_at
 

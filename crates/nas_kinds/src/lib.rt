@@ -1,5 +1,5 @@
-//! The messages of EPS mobility management (3GPP TS 24.301): those of a device, each read exactly, refusals included, and
-//! those of the network, each written in one way.
+//! The messages of EPS mobility management and session management (3GPP TS 24.301): those of a device, each read exactly, refusals
+//! included, and those of the network, each written in one way.
 #![tactic(auto)]
 
 mod identity;

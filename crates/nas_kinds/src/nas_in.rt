@@ -6,7 +6,8 @@ ghost use Rattle.nas_kinds.specs.Kinds.{type_of};
 use device_types::Octets;
 use echo_base::Identity;
 
-/// An EPS mobility management message from a device (3GPP TS 24.301, 8.2), with what is used of its mandatory fields.
+/// An EPS mobility management or session management message from a device (3GPP TS 24.301, 8.2 and 8.3), with what is used of its
+/// mandatory fields.
 #[derive(Debug, Drop)]
 pub enum NasIn {
     /// ATTACH REQUEST (8.2.4).
@@ -48,6 +49,13 @@ pub enum NasIn {
     },
     /// SERVICE REQUEST (8.2.25).
     ServiceRequest,
+    /// PDN CONNECTIVITY REQUEST (8.3.20).
+    PdnRequest {
+        /// The procedure transaction identity (9.4).
+        pti: u8,
+    },
+    /// ACTIVATE DEFAULT EPS BEARER CONTEXT ACCEPT (8.3.4) for EPS bearer identity 6.
+    PdnAccept,
 }
 
 impl NasIn {
@@ -64,6 +72,8 @@ impl NasIn {
             NasIn::SecurityComplete => 0x5e,
             NasIn::SecurityReject { .. } => 0x5f,
             NasIn::ServiceRequest => 0xc7,
+            NasIn::PdnRequest { .. } => 0xd0,
+            NasIn::PdnAccept => 0xc2,
         }
     }
 }

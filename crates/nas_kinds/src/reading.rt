@@ -1,16 +1,19 @@
 //! Reading whole messages.
 
 ghost use Rattle.std.specs.Prelude.{◌≡◌, Err, ⊤};
+ghost use Rattle.echo_base.specs.declared.reason.Reason.TheVariants.{NasKind};
 ghost use Rattle.echo_base.specs.declared.refusal.Refusal.{Refusal};
 ghost use Rattle.echo_base.specs.declared.refusal.Bad.TheVariants.{Refused};
-ghost use Rattle.echo_base.specs.Answer.{Answers, IsAnswerTaking};
+ghost use Rattle.echo_base.specs.Answer.{refused, Answers, IsAnswerTaking};
 ghost use Rattle.echo_base.specs.Reading.{GivesOrEnds, GivesTaking};
 ghost use Rattle.nas_kinds.specs.declared.nas_in.NasIn.{NasIn};
-ghost use Rattle.nas_kinds.specs.Reading.{identity_at, capability_at, container_at, attach_request_at, attach_complete_at, detach_request_at, area_request_at, security_reject_at, auth_response_at, kind_at, fields_at, message_at, security_at, behind_at, header_at, service_at, nas_at, nas_of};
+ghost use Rattle.nas_kinds.specs.Reading.{identity_at, capability_at, container_at, attach_request_at, attach_complete_at, detach_request_at, area_request_at, security_reject_at, auth_response_at, kind_at, fields_at, mobility_at, session_kind_at, pdn_request_at, session_fields_at, session_at, message_at, security_at, protected_at, behind_at, protocol_at, header_at, service_at, nas_at, nas_of};
 ghost use Rattle.nas_kinds.specs.Kinds.{NasSpells, NasRefuses, IsResponse, SpellsResponse};
 
 use crate::identity::identity_of;
-use crate::kind::{Header, Kind, header_of, kind_of};
+use crate::kind::{
+    Header, Kind, Protocol, SessionKind, header_of, kind_of, protocol_of, session_kind_of,
+};
 use crate::nas_in::NasIn;
 use crate::reader::NasReader;
 use device_types::Octets;
@@ -134,40 +137,116 @@ fn read_fields(alloc: Global, r: &mut NasReader, kind: Kind) -> Result<NasIn, Ba
     }
 }
 
-/// The message type (9.8).
+/// The refusal of a message type that is none of the table's.
+fn no_kind(octet: u8) -> Refusal
+    ensures { result ≡ refused (NasKind octet) }
+{
+    refused(Reason::NasKind(octet))
+}
+
+/// The message type of a message of mobility management (9.8).
 #[tactic(auto, unfolding(crate::specs::Reading::kind_at))]
 fn read_kind(r: &mut NasReader) -> Result<Kind, Refusal>
     ensures { GivesOrEnds result r.new (kind_at r.old) }
 {
     let octet = r.octet()?;
     let Some(kind) = kind_of(octet) else {
-        return Err(refused(Reason::NasKind(octet)));
+        return Err(no_kind(octet));
     };
     Ok(kind)
 }
 
-/// A message type, and the fields of its message.
-#[tactic(auto, unfolding(crate::specs::Reading::message_at))]
-fn read_message(alloc: Global, r: &mut NasReader) -> Result<NasIn, Bad>
-    ensures { GivesTaking IsResponse result r.new (message_at r.old) }
+/// What is behind the first octet of a message of mobility management: a message type, and the fields of its message.
+#[tactic(auto, unfolding(crate::specs::Reading::mobility_at))]
+fn read_mobility(alloc: Global, r: &mut NasReader) -> Result<NasIn, Bad>
+    ensures { GivesTaking IsResponse result r.new (mobility_at r.old) }
 {
     let kind = read_kind(r)?;
     read_fields(alloc, r, kind)
 }
 
-/// What is in front of the message type in a protected message (8.2.23): a message authentication code, a sequence number,
-/// and the first octet of a plain message.
+/// The message type of a message of session management for that bearer.
+#[tactic(auto, unfolding(crate::specs::Reading::session_kind_at))]
+fn read_session_kind(r: &mut NasReader, bearer: u8) -> Result<SessionKind, Refusal>
+    ensures { GivesOrEnds result r.new (session_kind_at bearer r.old) }
+{
+    let octet = r.octet()?;
+    let Some(kind) = session_kind_of(bearer, octet) else {
+        return Err(no_kind(octet));
+    };
+    Ok(kind)
+}
+
+/// The fields of a PDN CONNECTIVITY REQUEST (8.3.20).
+#[tactic(auto, unfolding(crate::specs::Reading::pdn_request_at))]
+fn read_pdn_request(r: &mut NasReader, pti: u8) -> Result<NasIn, Refusal>
+    ensures { GivesOrEnds result r.new (pdn_request_at pti r.old) }
+{
+    r.octet()?;
+    Ok(NasIn::PdnRequest { pti })
+}
+
+/// The mandatory fields of a message of session management.
+fn read_session_fields(r: &mut NasReader, pti: u8, kind: SessionKind) -> Result<NasIn, Refusal>
+    ensures { GivesOrEnds result r.new (session_fields_at pti kind r.old) }
+{
+    match kind {
+        SessionKind::PdnRequest => read_pdn_request(r, pti),
+        SessionKind::PdnAccept => Ok(NasIn::PdnAccept),
+    }
+}
+
+/// What is behind the first octet of a message of session management: a procedure transaction identity, a message type, and the
+/// fields of its message.
+#[tactic(auto, unfolding(crate::specs::Reading::session_at))]
+fn read_session(r: &mut NasReader, bearer: u8) -> Result<NasIn, Refusal>
+    ensures { GivesOrEnds result r.new (session_at bearer r.old) }
+{
+    let pti = r.octet()?;
+    let kind = read_session_kind(r, bearer)?;
+    read_session_fields(r, pti, kind)
+}
+
+/// What is behind the first octet of a plain message.
+fn read_message(alloc: Global, r: &mut NasReader, protocol: Protocol) -> Result<NasIn, Bad>
+    ensures { GivesTaking IsResponse result r.new (message_at protocol r.old) }
+{
+    match protocol {
+        Protocol::Mobility => read_mobility(alloc, r),
+        Protocol::Session { bearer } => Ok(read_session(r, bearer)?),
+    }
+}
+
+/// The first octet of a plain message.
+#[tactic(auto, unfolding(crate::specs::Reading::protocol_at))]
+fn read_protocol(r: &mut NasReader) -> Result<Protocol, Refusal>
+    ensures { GivesOrEnds result r.new (protocol_at r.old) }
+{
+    let octet = r.octet()?;
+    let Some(protocol) = protocol_of(octet) else {
+        return Err(refused(Reason::NasDiscriminator));
+    };
+    Ok(protocol)
+}
+
+/// What is in front of the plain message in a protected one (8.2.23): a message authentication code and a sequence number.
 #[tactic(auto, unfolding(crate::specs::Reading::security_at))]
 fn skip_security(r: &mut NasReader) -> Result<(), Refusal>
     ensures { GivesOrEnds result r.new (security_at r.old) }
 {
     r.octets(4)?;
     r.octet()?;
-    let inner = r.octet()?;
-    if inner != 0x07 {
-        return Err(refused(Reason::NasDiscriminator));
-    }
     Ok(())
+}
+
+/// What is behind the first octet of a protected message.
+#[tactic(auto, unfolding(crate::specs::Reading::protected_at))]
+fn read_protected(alloc: Global, r: &mut NasReader) -> Result<NasIn, Bad>
+    ensures { GivesTaking IsResponse result r.new (protected_at r.old) }
+{
+    skip_security(r)?;
+    let protocol = read_protocol(r)?;
+    read_message(alloc, r, protocol)
 }
 
 /// The fields of a SERVICE REQUEST (8.2.25).
@@ -180,16 +259,12 @@ fn read_service(r: &mut NasReader) -> Result<NasIn, Refusal>
 }
 
 /// What is behind the first octet.
-#[tactic(auto, unfolding(crate::specs::Reading::protected_at))]
 fn read_behind(alloc: Global, r: &mut NasReader, header: Header) -> Result<NasIn, Bad>
     ensures { GivesTaking IsResponse result r.new (behind_at header r.old) }
 {
     match header {
-        Header::Plain => read_message(alloc, r),
-        Header::Protected => {
-            skip_security(r)?;
-            read_message(alloc, r)
-        }
+        Header::Plain(protocol) => read_message(alloc, r, protocol),
+        Header::Protected => read_protected(alloc, r),
         Header::Service => Ok(read_service(r)?),
     }
 }
@@ -218,8 +293,8 @@ fn read_whole(alloc: Global, r: &mut NasReader) -> Result<NasIn, Bad>
 /// Reads the message that the octets begin with; what follows its mandatory fields is passed over. It is refused for the
 /// first field that is wrong: NasShort where a field is not whole, or too short for what is used of it; NasDiscriminator
 /// for the first octet, and for that of the plain message in a protected one; NasKind, with the octet, for a message type
-/// that is none of the table's; NasIdentity for an identity that is neither an IMSI of 15 digits nor a GUTI. Only RES takes
-/// memory.
+/// that is none of the table's, or is not read for its bearer; NasIdentity for an identity that is neither an IMSI of 15 digits
+/// nor a GUTI. Only RES takes memory.
 ///
 /// ```rust
 /// let message = read_nas(alloc, b"\x07\x5f\x17")?;

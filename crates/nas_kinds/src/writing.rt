@@ -5,7 +5,7 @@ ghost use Rattle.std.specs.Int.{w32, to_be_bytes};
 ghost use Rattle.echo_base.specs.Field.{counted_run, long_counted_run};
 ghost use Rattle.device_types.specs.Nas.{IsNasOut};
 ghost use Rattle.nas_kinds.specs.Written.{area, activate_request, nas_written};
-ghost use Rattle.device_types.specs.declared.nas_out.NasOut.TheVariants.{AuthRequest, AttachAccept};
+ghost use Rattle.device_types.specs.declared.nas_out.NasOut.TheVariants.{AuthRequest, AttachAccept, Activate};
 
 use device_types::{NasOut, Octets};
 use echo_base::OutOfMemory;
@@ -59,23 +59,24 @@ fn write_auth_request(alloc: Global, rand: &Octets, autn: &Octets) -> Result<Oct
     Ok(Octets::from(out))
 }
 
-/// ACTIVATE DEFAULT EPS BEARER CONTEXT REQUEST (8.3.6).
+/// ACTIVATE DEFAULT EPS BEARER CONTEXT REQUEST (8.3.6), by its first octet, which has the EPS bearer identity.
 fn write_activate_request(
     alloc: Global,
+    first: u8,
     pti: u8,
     apn: &Octets,
     ip: u32,
 ) -> Result<Vec<u8>, OutOfMemory>
     requires { length apn.now ≤ 30 }
-    ensures { IfOk result (λ octets. octets.items ≡ activate_request pti apn.now ip) }
+    ensures { IfOk result (λ octets. octets.items ≡ activate_request first pti apn.now ip) }
 {
     let mut label = Vec::new(alloc);
     put_counted(&mut label, apn.items())?;
-    let [first, second, third, fourth] = ip.to_be_bytes();
+    let [a, b, c, d] = ip.to_be_bytes();
     let mut out = Vec::new(alloc);
-    out.extend_from_slice(&[0x52, pti, 0xc1, 1, 9])?;
+    out.extend_from_slice(&[first, pti, 0xc1, 1, 9])?;
     put_counted(&mut out, &label)?;
-    put_counted(&mut out, &[1, first, second, third, fourth])?;
+    put_counted(&mut out, &[1, a, b, c, d])?;
     Ok(out)
 }
 
@@ -92,12 +93,21 @@ fn write_attach_accept(
     requires { length apn.now ≤ 30 }
     ensures { IfOk result (λ octets. octets ≡ nas_written (AttachAccept plmn tac pti apn.now ip)) }
 {
-    let request = write_activate_request(alloc, pti, apn, ip)?;
+    let request = write_activate_request(alloc, 0x52, pti, apn, ip)?;
     let mut out = Vec::new(alloc);
     out.extend_from_slice(&[0x07, 0x42, 0x01, 0xe0, 6, 0x00])?;
     out.extend_from_slice(&area_octets(plmn, tac))?;
     put_long_counted(&mut out, &request)?;
     Ok(Octets::from(out))
+}
+
+/// ACTIVATE DEFAULT EPS BEARER CONTEXT REQUEST for EPS bearer identity 6.
+#[tactic(auto, unfolding(crate::specs::Written::nas_written))]
+fn write_activate(alloc: Global, pti: u8, apn: &Octets, ip: u32) -> Result<Octets, OutOfMemory>
+    requires { length apn.now ≤ 30 }
+    ensures { IfOk result (λ octets. octets ≡ nas_written (Activate pti apn.now ip)) }
+{
+    Ok(Octets::from(write_activate_request(alloc, 0x62, pti, apn, ip)?))
 }
 
 /// Writes the message, with fixed values in the fields that it does not name. It has at most 56 octets.
@@ -125,5 +135,7 @@ pub fn write_nas(alloc: Global, message: &NasOut) -> Result<Octets, OutOfMemory>
         NasOut::AreaReject { cause } => owned(alloc, &[0x07, 0x4b, *cause]),
         NasOut::AreaAccept => owned(alloc, &[0x07, 0x49, 0x00]),
         NasOut::DetachAccept => owned(alloc, &[0x07, 0x46]),
+        NasOut::PdnReject { pti, cause } => owned(alloc, &[0x02, *pti, 0xd1, *cause]),
+        NasOut::Activate { pti, apn, ip } => write_activate(alloc, *pti, apn, *ip),
     }
 }

@@ -29,14 +29,50 @@ c7000000 c7 ServiceRequest\n\
 470000000000075e 5e SecurityComplete\n\
 ";
 
+/// Messages of session management (9.2: the bearer identity and 2): a PDN CONNECTIVITY REQUEST with each bearer identity, an ACTIVATE
+/// DEFAULT EPS BEARER CONTEXT ACCEPT for bearer 6, and both behind each security header type.
+const SESSION: &str = "\
+0201d011 d0 PdnRequest { pti: 1 }\n\
+1202d012 d0 PdnRequest { pti: 2 }\n\
+2203d013 d0 PdnRequest { pti: 3 }\n\
+3204d021 d0 PdnRequest { pti: 4 }\n\
+4205d022 d0 PdnRequest { pti: 5 }\n\
+5206d023 d0 PdnRequest { pti: 6 }\n\
+6207d031 d0 PdnRequest { pti: 7 }\n\
+7208d032 d0 PdnRequest { pti: 8 }\n\
+8209d033 d0 PdnRequest { pti: 9 }\n\
+920ad041 d0 PdnRequest { pti: 10 }\n\
+a20bd042 d0 PdnRequest { pti: 11 }\n\
+b20cd043 d0 PdnRequest { pti: 12 }\n\
+c20dd000 d0 PdnRequest { pti: 13 }\n\
+d2fed0ff d0 PdnRequest { pti: 254 }\n\
+e2ffd0d0 d0 PdnRequest { pti: 255 }\n\
+f200d0c2 d0 PdnRequest { pti: 0 }\n\
+6204c2 c2 PdnAccept\n\
+62c2c2 c2 PdnAccept\n\
+17a1a2a3a4a50211d031 d0 PdnRequest { pti: 17 }\n\
+2700000000030202d011 d0 PdnRequest { pti: 2 }\n\
+37070707070f2212d0ff d0 PdnRequest { pti: 18 }\n\
+4702020202020213d011 d0 PdnRequest { pti: 19 }\n\
+17c2c2c2c2c26200c2 c2 PdnAccept\n\
+2700000000046200c2 c2 PdnAccept\n\
+37626262626262ffc2 c2 PdnAccept\n\
+47d0d0d0d0d06201c2 c2 PdnAccept\n\
+";
+
 /// Octets that are no message: their first octets, message types, identities, capabilities and containers.
 const REFUSED: &str = "\
 570000000000075e 16 NasDiscriminator\n\
-02 16 NasDiscriminator\n\
+03 16 NasDiscriminator\n\
 c8000000 16 NasDiscriminator\n\
 270000000000175e 16 NasDiscriminator\n\
+270000000000c2 15 NasShort\n\
+2700000000006301c2 16 NasDiscriminator\n\
 0742 17 NasKind 42\n\
 27000000000007c7 17 NasKind c7\n\
+07d011 17 NasKind d0\n\
+07c2 17 NasKind c2\n\
+270000000000079901c2 17 NasKind 99\n\
 07487008a980390000000010 18 NasIdentity\n\
 07487008298a390000000010 18 NasIdentity\n\
 0748700829a0390000000010 18 NasIdentity\n\
@@ -61,7 +97,38 @@ c8000000 16 NasDiscriminator\n\
 07417108298039000000001002e0f001030207d011 15 NasShort\n\
 ";
 
-/// First octets whose security header type (9.3.1) is none that is read: reserved, or a message of its own.
+/// Messages of session management that are not read: an accept for another bearer than 6, and the message types beside those that are
+/// read, of the network's answers, of mobility management, and of none.
+const OTHERS: &str = "\
+0204c2 17 NasKind c2\n\
+1204c2 17 NasKind c2\n\
+2204c2 17 NasKind c2\n\
+3204c2 17 NasKind c2\n\
+4204c2 17 NasKind c2\n\
+5204c2 17 NasKind c2\n\
+7204c2 17 NasKind c2\n\
+8204c2 17 NasKind c2\n\
+9204c2 17 NasKind c2\n\
+a204c2 17 NasKind c2\n\
+b204c2 17 NasKind c2\n\
+c204c2 17 NasKind c2\n\
+d204c2 17 NasKind c2\n\
+e204c2 17 NasKind c2\n\
+f206c2 17 NasKind c2\n\
+2700000000055206c2 17 NasKind c2\n\
+6204c1 17 NasKind c1\n\
+6204c3 17 NasKind c3\n\
+0201cf11 17 NasKind cf\n\
+0201d111 17 NasKind d1\n\
+0201d2 17 NasKind d2\n\
+620141 17 NasKind 41\n\
+020607 17 NasKind 07\n\
+62d000 17 NasKind 00\n\
+27000000000602d0c6 17 NasKind c6\n\
+";
+
+/// First octets whose security header type (9.3.1) is none that is read, reserved or a message of its own, or whose protocol
+/// discriminator (9.2) is none of the two.
 const HEADERS: &str = "\
 57 16 NasDiscriminator\n\
 67 16 NasDiscriminator\n\
@@ -73,6 +140,19 @@ b7 16 NasDiscriminator\n\
 d7 16 NasDiscriminator\n\
 e7 16 NasDiscriminator\n\
 f7 16 NasDiscriminator\n\
+00 16 NasDiscriminator\n\
+61 16 NasDiscriminator\n\
+64 16 NasDiscriminator\n\
+05 16 NasDiscriminator\n\
+16 16 NasDiscriminator\n\
+28 16 NasDiscriminator\n\
+39 16 NasDiscriminator\n\
+4a 16 NasDiscriminator\n\
+5b 16 NasDiscriminator\n\
+6c 16 NasDiscriminator\n\
+7d 16 NasDiscriminator\n\
+ce 16 NasDiscriminator\n\
+6f 16 NasDiscriminator\n\
 ";
 
 /// Writes what is read, as the tables have it.
@@ -115,6 +195,21 @@ fn tell_cuts(
     Ok(())
 }
 
+/// The same for each message of a table.
+fn tell_beginnings(
+    alloc: Global,
+    text: &mut String,
+    wanted: &mut String,
+    table: &str,
+) -> Result<(), Fail> {
+    for line in table.lines() {
+        let (digits, _) = line.split_once(' ').ok_or("no answer")?;
+        let octets = hex::decode(alloc, digits)?;
+        tell_cuts(alloc, text, wanted, &octets)?;
+    }
+    Ok(())
+}
+
 #[test]
 fn reads_messages(rt: HostRuntime) -> Result<(), Fail> {
     assert_eq!(rt; told(rt.alloc(), MESSAGES, &[])?.as_str(), MESSAGES);
@@ -125,16 +220,21 @@ fn reads_messages(rt: HostRuntime) -> Result<(), Fail> {
     Ok(())
 }
 
+#[test]
+fn reads_session_management(rt: HostRuntime) -> Result<(), Fail> {
+    assert_eq!(rt; told(rt.alloc(), SESSION, &[])?.as_str(), SESSION);
+    assert_eq!(rt; told(rt.alloc(), SESSION, &[0x07])?.as_str(), SESSION);
+    assert_eq!(rt; told(rt.alloc(), OTHERS, &[])?.as_str(), OTHERS);
+    Ok(())
+}
+
 /// A message that is cut anywhere before its end is short.
 #[test]
 fn reads_no_beginnings(rt: HostRuntime) -> Result<(), Fail> {
     let mut text = String::new(rt.alloc());
     let mut wanted = String::new(rt.alloc());
-    for line in MESSAGES.lines() {
-        let (digits, _) = line.split_once(' ').ok_or("no answer")?;
-        let octets = hex::decode(rt.alloc(), digits)?;
-        tell_cuts(rt.alloc(), &mut text, &mut wanted, &octets)?;
-    }
+    tell_beginnings(rt.alloc(), &mut text, &mut wanted, MESSAGES)?;
+    tell_beginnings(rt.alloc(), &mut text, &mut wanted, SESSION)?;
     assert_eq!(rt; text.as_str(), wanted.as_str());
     Ok(())
 }

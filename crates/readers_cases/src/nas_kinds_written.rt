@@ -19,7 +19,8 @@ fn tell(alloc: Global, text: &mut String, message: &NasOut) -> Result<(), OutOfM
 }
 
 /// AUTHENTICATION REJECT; SECURITY MODE COMMAND; the rejects of an attach, a service and an update, with their causes; TRACKING AREA UPDATE
-/// ACCEPT; DETACH ACCEPT.
+/// ACCEPT; DETACH ACCEPT; PDN CONNECTIVITY REJECT for no bearer, with the procedure transaction identities 2 and 7 and the causes 27 and
+/// 26.
 const PLAIN: &str = "\
 0754
 075d000002e070
@@ -28,6 +29,8 @@ const PLAIN: &str = "\
 074b0c
 074900
 0746
+0202d11b
+0207d11a
 ";
 
 #[test]
@@ -45,6 +48,8 @@ fn writes(rt: HostRuntime) -> Result<(), OutOfMemory> {
     tell(alloc, &mut text, &NasOut::AreaReject { cause: 12 })?;
     tell(alloc, &mut text, &NasOut::AreaAccept)?;
     tell(alloc, &mut text, &NasOut::DetachAccept)?;
+    tell(alloc, &mut text, &NasOut::PdnReject { pti: 2, cause: 27 })?;
+    tell(alloc, &mut text, &NasOut::PdnReject { pti: 7, cause: 26 })?;
     assert_eq!(rt; text.as_str(), PLAIN);
     Ok(())
 }
@@ -91,5 +96,42 @@ fn writes_an_accept(rt: HostRuntime) -> Result<(), Fail> {
     let mut text = String::new(rt.alloc());
     tell(rt.alloc(), &mut text, &accept)?;
     assert_eq!(rt; text.as_str(), ACCEPT);
+    Ok(())
+}
+
+/// ACTIVATE DEFAULT EPS BEARER CONTEXT REQUEST for bearer 6: the procedure transaction identity, QCI 9, the access point behind two
+/// lengths, and the address; with the access points `ims`, of one character and of thirty.
+const ACTIVATE: &str = "\
+6202c101090403696d7305010a2d8001
+6207c101090201780501c0a80003
+62fec101091f1e6162636465666768696a6b6c6d6e6f707172737475767778797a303132330501ffffff00
+";
+
+/// Writes such a message, for an access point of 1 to 30 octets.
+fn tell_activate(
+    alloc: Global,
+    text: &mut String,
+    pti: u8,
+    apn: &[u8],
+    ip: u32,
+) -> Result<(), Fail> {
+    if apn.is_empty() || apn.len() > 30 {
+        return Err("no access point".into());
+    }
+    let apn = Octets::from(apn.to_vec(alloc)?);
+    let activate = NasOut::Activate { pti, apn, ip };
+    tell(alloc, text, &activate)?;
+    Ok(())
+}
+
+#[test]
+fn writes_a_second_bearer(rt: HostRuntime) -> Result<(), Fail> {
+    let alloc = rt.alloc();
+    let mut text = String::new(alloc);
+    tell_activate(alloc, &mut text, 2, b"ims", 0x0a2d_8001)?;
+    tell_activate(alloc, &mut text, 7, b"x", 0xc0a8_0003)?;
+    let longest = b"abcdefghijklmnopqrstuvwxyz0123";
+    tell_activate(alloc, &mut text, 0xfe, longest, 0xffff_ff00)?;
+    assert_eq!(rt; text.as_str(), ACTIVATE);
     Ok(())
 }
