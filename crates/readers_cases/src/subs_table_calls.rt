@@ -5,8 +5,11 @@ use std::alloc::{AllocError, Global};
 use std::test::Fail;
 use subs_table::read_row;
 
-/// The columns of a good line: key, name and value. No two of its numbers are the same.
-const GOOD: &str = r#"imsi Imsi "208930000000001"
+/// The columns of a good line: key, name and value. No two of its numbers are the same. Those of a second connection stand first, so that
+/// another column can repeat them.
+const GOOD: &str = r#"apn2 Apn2 "ims"
+ip2 Ip2 "0a2d8001"
+imsi Imsi "208930000000001"
 tmsi Tmsi 305419896
 rand Rand "000102030405060708090a0b0c0d0e0f"
 autn Autn "101112131415161718191a1b1c1d1e1f"
@@ -100,6 +103,19 @@ forbidden [] good
 forbidden [0,65535] good
 forbidden [1,2,3,4,5,6,7,8,9,10,11,12,13,14,15,16] good
 forbidden [1,2,3,4,5,6,7,8,9,10,11,12,13,14,15,16,17] BadColumn(Forbidden)
+apn2 "x" good
+apn2 "0123456789abcdefghijklmnopqrst" good
+apn2 "0123456789abcdefghijklmnopqrstu" BadColumn(Apn2)
+apn2 "Ims" BadColumn(Apn2)
+apn2 "i-ms" BadColumn(Apn2)
+ip2 "00000000" good
+ip2 "FFFFFFFF" good
+ip2 "0a2d80" BadColumn(Ip2)
+ip2 "0a2d801" BadColumn(Ip2)
+ip2 "0a2d800100" BadColumn(Ip2)
+ip2 "0a2d800x" BadColumn(Ip2)
+apn2 - good
+ip2 - good
 teid 0,"teid":5 good
 teid 5,"teid":0 BadColumn(Teid)
 imsi - MissingColumn(Imsi)
@@ -121,7 +137,30 @@ imsi -,"forbidden":0 MissingColumn(Imsi)
 teid 0,"tmsi":-1 BadColumn(Tmsi)
 forbidden 9,"ambr_ul":null BadColumn(AmbrUl)
 imsi 1,"forbidden":[null] BadColumn(Imsi)
-key "","res":"" BadColumn(Res)"#;
+key "","res":"" BadColumn(Res)
+forbidden [],"apn2":"","ip2":"" BadColumn(Apn2)
+forbidden [],"ip2":"","apn2":"" BadColumn(Apn2)
+forbidden [],"ip2":"" BadColumn(Ip2)
+forbidden [],"apn2":null BadColumn(Apn2)
+forbidden 9,"apn2":0,"ip2":0 BadColumn(Forbidden)
+ambr_ul "","apn2":"" BadColumn(AmbrUl)
+imsi "","ip2":"" BadColumn(Imsi)
+forbidden -,"apn2":null,"ip2":null MissingColumn(Forbidden)
+imsi -,"ip2":"" MissingColumn(Imsi)
+apn2 "","apn2":"ims" good
+apn2 "ims","apn2":"" BadColumn(Apn2)
+ip2 null,"ip2":"0a2d8001" good
+ip2 "0a2d8001","ip2":null BadColumn(Ip2)"#;
+
+/// The good line with another value of one of these columns, and the name and the address of the second connection that its row has.
+const SECOND: &str = r#"apn2 "x" Some(ListOf { items: [120] }) Some(170754049)
+apn2 - None Some(170754049)
+ip2 - Some(ListOf { items: [105, 109, 115] }) None
+ip2 "c0A80102" Some(ListOf { items: [105, 109, 115] }) Some(3232235778)
+apn "ims2" Some(ListOf { items: [105, 109, 115] }) Some(170754049)
+ip "0a2d8002" Some(ListOf { items: [105, 109, 115] }) Some(170754049)
+forbidden [],"ip2":"00000001","apn2":"b1" Some(ListOf { items: [98, 49] }) Some(1)
+forbidden [],"apn2":"c","apn2":"d" Some(ListOf { items: [100] }) Some(170754049)"#;
 
 /// Adds a column to a line, or what stands behind `-,` in its place, or nothing where its value is `-`.
 fn push_column(line: &mut String, key: &str, value: &str) -> Result<(), AllocError> {
@@ -157,7 +196,7 @@ pub(crate) fn line_with(alloc: Global, key: &str, value: &str) -> Result<String,
     if !found {
         return Err(Fail::new("no such column"));
     }
-    line.push_str("\"apn2\":null}")?;
+    line.push_str("\"apn3\":null}")?;
     Ok(line)
 }
 
@@ -261,7 +300,8 @@ res: ListOf { items: [160, 161, 162, 163, 164, 165, 166, 167] }, \
 key: ListOf { items: [32, 33, 34, 35, 36, 37, 38, 39, 40, 41, 42, 43, 44, 45, 46, 47, \
 48, 49, 50, 51, 52, 53, 54, 55, 56, 57, 58, 59, 60, 61, 62, 63] }, \
 apn: ListOf { items: [105, 110, 116, 101, 114, 110, 101, 116] }, ip: 170721281, sgw: 3232235522, teid: 1000, \
-ambr_dl: 2000000000, ambr_ul: 300000000, forbidden: ListOf { items: [9, 258] } }";
+ambr_dl: 2000000000, ambr_ul: 300000000, forbidden: ListOf { items: [9, 258] }, \
+apn2: Some(ListOf { items: [105, 109, 115] }), ip2: Some(170754049) }";
 
 #[test]
 fn reads_every_column(rt: HostRuntime) -> Result<(), Fail> {
@@ -278,6 +318,44 @@ fn reads_columns(rt: HostRuntime) -> Result<(), Fail> {
     let mut text = String::new(rt.alloc());
     tell_cases(rt.alloc(), &mut text)?;
     assert_eq!(rt; text.as_str().trim_end(), CASES);
+    Ok(())
+}
+
+/// Writes what the row of a line has of the second connection.
+fn tell_second(alloc: Global, text: &mut String, line: &str) -> Result<(), Fail> {
+    let row = read_row(alloc, line.as_bytes(), 1)?;
+    let told = format!(in alloc; "{:?} {:?}\n", row.apn2, row.ip2)?;
+    text.push_str(told.as_str())?;
+    Ok(())
+}
+
+/// Writes each case of the table of second connections again, with what its line gives.
+fn tell_seconds(alloc: Global, text: &mut String) -> Result<(), Fail> {
+    for case in SECOND.lines() {
+        let (key, rest) = case.split_once(' ').ok_or("no key")?;
+        let (value, _) = rest.split_once(' ').ok_or("no value")?;
+        text.push_str(key)?;
+        text.push_str(" ")?;
+        text.push_str(value)?;
+        text.push_str(" ")?;
+        let line = line_with(alloc, key, value)?;
+        tell_second(alloc, text, line.as_str())?;
+    }
+    Ok(())
+}
+
+/// A line without the two columns of a second connection has none.
+#[test]
+fn reads_second_connections(rt: HostRuntime) -> Result<(), Fail> {
+    let alloc = rt.alloc();
+    let mut text = String::new(alloc);
+    tell_seconds(alloc, &mut text)?;
+    let line = line_with(alloc, "", "")?;
+    let (_, needed) = line.as_str().split_once("\"imsi\"").ok_or("no IMSI")?;
+    let line = format!(in alloc; "{{\"imsi\"{needed}")?;
+    tell_second(alloc, &mut text, line.as_str())?;
+    let wanted = format!(in alloc; "{SECOND}\nNone None\n")?;
+    assert_eq!(rt; text.as_str(), wanted.as_str());
     Ok(())
 }
 

@@ -1,5 +1,5 @@
 -- The lines of the subscriber table, a JSON object each.
-use Rattle.std.specs.Prelude.{ℕ, List, [], ◌∷◌, codes, Option, Some, None, Result, Ok, Err, is_none, find, option_and_then, if◌then◌else◌}
+use Rattle.std.specs.Prelude.{ℕ, Bool, List, [], ◌∷◌, codes, Option, Some, None, Result, Ok, Err, is_none, find, option_and_then, if◌then◌else◌}
 use Rattle.std.specs.Option.{option_map_or}
 use Rattle.std.specs.Str.{is_utf8}
 use Rattle.serde_json.specs.Data as json
@@ -38,13 +38,21 @@ key_of Ip2 = codes "ip2"
 
 -- ---- reading an object: what it has, or the refusal, which has no place
 
--- every column is there, or the first that is missing is told
+-- the column is not there
+abbrev pub is_missing : Column → Data → Bool
+is_missing column row = is_none (get (key_of column) row)
+
+-- every column that a row needs is there, or the first that is missing is told
 unfoldable pub all_columns : Data → Result (Unit {0}) Refusal
-all_columns row = option_map_or (λ column. Err (refused (MissingColumn column))) (find (λ column. is_none (get (key_of column) row)) columns) (Ok tt)
+all_columns row = option_map_or (λ column. Err (refused (MissingColumn column))) (find (λ column. is_missing column row) columns) (Ok tt)
 
 -- a column of that kind; of a repeated key the last value counts, which is serde_json's word
 unfoldable pub column_at : {A : Type 0} → Column → Kind A → Data → Result A Refusal
 column_at column kind row = option_map_or Ok (option_and_then kind (get (key_of column) row)) (Err (refused (BadColumn column)))
+
+-- a column of that kind, or none
+unfoldable pub optional_at : {A : Type 0} → Column → Kind A → Data → Result (Option A) Refusal
+optional_at column kind row = if is_missing column row then Ok None else (column_at column kind row >>= λ value. Ok (Some value))
 
 -- the row of that number: a line for each column, with its kind and range; the first that is bad is told
 unfoldable pub each_column : ℕ → Data → Result Subscriber Refusal
@@ -62,9 +70,11 @@ each_column number row = do
   ambr_dl ← column_at AmbrDl (whole 0 10000000000) row
   ambr_ul ← column_at AmbrUl (whole 0 10000000000) row
   forbidden ← column_at Forbidden (wholes 16 65535) row
-  Ok (record { number = number; imsi = imsi; tmsi = tmsi; rand = rand; autn = autn; res = res; key = key; apn = apn; ip = ip; sgw = sgw; teid = teid; ambr_dl = ambr_dl; ambr_ul = ambr_ul; forbidden = forbidden })
+  apn2 ← optional_at Apn2 (name 1 30) row
+  ip2 ← optional_at Ip2 address row
+  Ok (record { number = number; imsi = imsi; tmsi = tmsi; rand = rand; autn = autn; res = res; key = key; apn = apn; ip = ip; sgw = sgw; teid = teid; ambr_dl = ambr_dl; ambr_ul = ambr_ul; forbidden = forbidden; apn2 = apn2; ip2 = ip2 })
 
--- a column that is missing is told before one that is bad
+-- a column that is needed and missing is told before one that is bad
 unfoldable pub subscriber_at : ℕ → Data → Result Subscriber Refusal
 subscriber_at number row = do
   all ← all_columns row

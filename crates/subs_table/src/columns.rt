@@ -1,5 +1,5 @@
 //! The columns of a row.
-ghost use Rattle.std.specs.Prelude.{◌≡◌, ◌^◌, ◌<◌, ◌≤◌, length, find, is_none, All, IfSome, IfOk, option_map, option_and_then};
+ghost use Rattle.std.specs.Prelude.{◌≡◌, ◌^◌, ◌<◌, ◌≤◌, length, find, All, IfSome, IfOk, option_map, option_and_then};
 ghost use Rattle.std.specs.List.{AllPass, list_all};
 ghost use Rattle.std.specs.Char.{is_ascii_digit};
 ghost use Rattle.std.specs.Int.{w32, from_be_bytes};
@@ -8,9 +8,9 @@ ghost use Rattle.echo_base.specs.Answer.{refused, IsAnswer};
 ghost use Rattle.serde_json.specs.View.{view, items_view};
 ghost use Rattle.serde_json.specs.Find.{get, as_str};
 ghost use Rattle.device_types.specs.Octets.{AreOctets};
-ghost use Rattle.device_types.specs.Subscriber.{is_letter_or_digit};
+ghost use Rattle.device_types.specs.Subscriber.{is_letter_or_digit, IsName};
 ghost use Rattle.subs_table.specs.Kinds.{whole, number_of, decimal, octets_within, hexadecimal, address, name, wholes_of, wholes};
-ghost use Rattle.subs_table.specs.Row.{columns, all_columns, key_of, column_at};
+ghost use Rattle.subs_table.specs.Row.{columns, is_missing, all_columns, key_of, column_at, optional_at};
 
 use device_types::{Areas, Octets};
 use echo_base::{Bad, Column, Reason, Refusal, decode_hex, refused};
@@ -58,14 +58,21 @@ fn key(column: Column) -> &'static str
     }
 }
 
+/// Is the column not there?
+fn is_missing(row: &Value, column: Column) -> bool
+    ensures { result ≡ is_missing column (view row.now) }
+{
+    row.get(key(column)).is_none()
+}
+
 /// The first column that is missing.
 fn first_missing(row: &Value) -> Option<Column>
-    ensures { result ≡ find (λ column. is_none (get (key_of column) (view row.now))) columns }
+    ensures { result ≡ find (λ column. is_missing column (view row.now)) columns }
 {
     COLUMNS
         .iter()
         .copied()
-        .find(|column| row.get(key(*column)).is_none())
+        .find(|column| is_missing(row, *column))
 }
 
 /// Refuses a row for the first column that is missing.
@@ -172,6 +179,22 @@ pub(crate) fn read_name(
     Ok(Octets::from(Vec::from_slice(alloc, text.as_bytes())?))
 }
 
+/// Reads a column, where it is there, as an access point name of one label (3GPP TS 23.003, 9.1).
+#[tactic(auto, unfolding(crate::specs::Row::optional_at))]
+pub(crate) fn read_optional_name(
+    alloc: Global,
+    row: &Value,
+    column: Column,
+) -> Result<Option<Octets>, Bad>
+    ensures read { IsAnswer (optional_at column (name 1 30) (view row.now)) result }
+    ensures range { IfOk result (λ found. IfSome found IsName) }
+{
+    if is_missing(row, column) {
+        return Ok(None);
+    }
+    Ok(Some(read_name(alloc, row, column, 1, 30)?))
+}
+
 /// Reads a column as `low` to `high` octets of hexadecimal digits in either case.
 #[tactic(auto, unfolding(crate::specs::Row::column_at, crate::specs::Kinds::hexadecimal, crate::specs::Kinds::octets_of))]
 pub(crate) fn read_octets(
@@ -219,6 +242,17 @@ pub(crate) fn read_address(row: &Value, column: Column) -> Result<u32, Refusal>
     ensures { result ≡ column_at column address (view row.now) }
 {
     text(row, column).and_then(eight_digits).ok_or(bad(column))
+}
+
+/// Reads a column, where it is there, as an IPv4 address of eight hexadecimal digits.
+#[tactic(auto, unfolding(crate::specs::Row::optional_at))]
+pub(crate) fn read_optional_address(row: &Value, column: Column) -> Result<Option<u32>, Refusal>
+    ensures { result ≡ optional_at column address (view row.now) }
+{
+    if is_missing(row, column) {
+        return Ok(None);
+    }
+    Ok(Some(read_address(row, column)?))
 }
 
 /// Reads whole numbers of 16 bits.

@@ -7,7 +7,8 @@ ghost use Rattle.device_types.specs.Subscriber.{IsSubscriber};
 ghost use Rattle.subs_table.specs.Row.{object_of, each_column, subscriber_at, row_of};
 
 use crate::columns::{
-    need_columns, read_address, read_areas, read_imsi, read_name, read_octets, read_whole,
+    need_columns, read_address, read_areas, read_imsi, read_name, read_octets,
+    read_optional_address, read_optional_name, read_whole,
 };
 use device_types::Subscriber;
 use echo_base::{Bad, Column, Reason, refused};
@@ -56,6 +57,8 @@ fn read_each_column(alloc: Global, row: &Value, number: u32) -> Result<Subscribe
     let ambr_dl = read_whole(row, Column::AmbrDl, 0, 10_000_000_000)?;
     let ambr_ul = read_whole(row, Column::AmbrUl, 0, 10_000_000_000)?;
     let forbidden = read_areas(alloc, row, Column::Forbidden, 16)?;
+    let apn2 = read_optional_name(alloc, row, Column::Apn2)?;
+    let ip2 = read_optional_address(row, Column::Ip2)?;
     Ok(Subscriber {
         number,
         imsi,
@@ -71,10 +74,12 @@ fn read_each_column(alloc: Global, row: &Value, number: u32) -> Result<Subscribe
         ambr_dl,
         ambr_ul,
         forbidden,
+        apn2,
+        ip2,
     })
 }
 
-/// Reads the columns of an object. One that is missing is told before one that is bad.
+/// Reads the columns of an object. One that is needed and missing is told before one that is bad.
 #[tactic(auto, unfolding(crate::specs::Row::subscriber_at))]
 fn read_columns(alloc: Global, row: &Value, number: u32) -> Result<Subscriber, Bad>
     ensures row { IsAnswer (subscriber_at number (view row.now)) result }
@@ -86,8 +91,8 @@ fn read_columns(alloc: Global, row: &Value, number: u32) -> Result<Subscriber, B
 }
 
 /// Reads a line of the table as the row of that number, from 1. A line that is not UTF-8, no JSON or no object is
-/// BadJson. MissingColumn tells the first column that is missing, and where all are there, BadColumn the first one of a
-/// wrong kind or range. The place of a refusal is 0. Other columns are passed over.
+/// BadJson. MissingColumn tells the first column that is missing, but for the two of a second connection, and where all are there,
+/// BadColumn the first one of a wrong kind or range. The place of a refusal is 0. Other columns are passed over.
 #[tactic(auto, unfolding(crate::specs::Row::row_of))]
 pub fn read_row(alloc: Global, line: &[u8], number: u32) -> Result<Subscriber, Bad>
     ensures row { IsAnswer (row_of number line.now) result }
