@@ -11,9 +11,13 @@ use Rattle.nas_kinds.specs.declared.kind.Header.{Header}
 use Rattle.nas_kinds.specs.declared.kind.Header.TheVariants.{Plain, Protected, Service}
 use Rattle.nas_kinds.specs.declared.kind.Kind.{Kind}
 use Rattle.nas_kinds.specs.declared.kind.Kind.TheVariants as kinds
+use Rattle.nas_kinds.specs.declared.kind.Protocol.{Protocol}
+use Rattle.nas_kinds.specs.declared.kind.Protocol.TheVariants.{Mobility, Session}
+use Rattle.nas_kinds.specs.declared.kind.SessionKind.{SessionKind}
+use Rattle.nas_kinds.specs.declared.kind.SessionKind.TheVariants as session_kinds
 use Rattle.nas_kinds.specs.declared.nas_in.NasIn.{NasIn}
-use Rattle.nas_kinds.specs.declared.nas_in.NasIn.TheVariants.{AttachRequest, AttachComplete, DetachRequest, AreaRequest, AuthResponse, SecurityComplete, SecurityReject, ServiceRequest}
-use Rattle.nas_kinds.specs.Reading.{Reader, identity_of, identity_at, algorithms_of, capability_at, pti_of, container_at, attach_request_at, attach_complete_at, detach_request_at, area_request_at, auth_response_at, security_reject_at, fields_at, kind_of, kind_at, message_at, header_of, header_at, security_at, protected_at, service_at, behind_at, nas_at, nas_of}
+use Rattle.nas_kinds.specs.declared.nas_in.NasIn.TheVariants.{AttachRequest, AttachComplete, DetachRequest, AreaRequest, AuthResponse, SecurityComplete, SecurityReject, ServiceRequest, PdnRequest, PdnAccept}
+use Rattle.nas_kinds.specs.Reading.{Reader, identity_of, identity_at, algorithms_of, capability_at, pti_of, container_at, attach_request_at, attach_complete_at, detach_request_at, area_request_at, auth_response_at, security_reject_at, fields_at, kind_of, kind_at, mobility_at, session_kind_of, session_kind_at, pdn_request_at, session_fields_at, session_at, message_at, protocol_of, protocol_at, header_of, header_at, security_at, protected_at, service_at, behind_at, nas_at, nas_of}
 use Rattle.nas_kinds.specs.Kinds.{short}
 
 -- ---- readings of octets
@@ -111,6 +115,8 @@ IsNasRight (AuthResponse res) = AreOctets res
 IsNasRight SecurityComplete = Unit {0}
 IsNasRight (SecurityReject cause) = Unit {0}
 IsNasRight ServiceRequest = Unit {0}
+IsNasRight (PdnRequest pti) = pti < 256
+IsNasRight PdnAccept = Unit {0}
 
 attach_ranged : IsRanged IsNasRight attach_request_at
 unfolding attach_request_at
@@ -149,28 +155,55 @@ kind_ranged : IsRanged Any kind_at
 unfolding kind_at
 kind_ranged = behind IsOctet Any (octet_at short) _ octet_ranged (λ octet o. known_ranged Any (kind_of octet) _ (some_any (kind_of octet)))
 
-message_ranged : IsRanged IsNasRight message_at
-unfolding message_at
-message_ranged = behind Any IsNasRight kind_at fields_at kind_ranged (λ kind k. fields_ranged kind)
+mobility_ranged : IsRanged IsNasRight mobility_at
+unfolding mobility_at
+mobility_ranged = behind Any IsNasRight kind_at fields_at kind_ranged (λ kind k. fields_ranged kind)
+
+session_kind_ranged : (bearer : ℕ) → IsRanged Any (session_kind_at bearer)
+unfolding session_kind_at
+session_kind_ranged bearer = behind IsOctet Any (octet_at short) _ octet_ranged (λ octet o. known_ranged Any (session_kind_of bearer octet) _ (some_any (session_kind_of bearer octet)))
+
+pdn_ranged : (pti : ℕ) → IsOctet pti → IsRanged IsNasRight (pdn_request_at pti)
+unfolding pdn_request_at
+pdn_ranged pti p = behind IsOctet IsNasRight (octet_at short) _ octet_ranged (λ types t. done_ranged IsNasRight (PdnRequest pti) p)
+
+session_fields_ranged : (pti : ℕ) → IsOctet pti → (kind : SessionKind) → IsRanged IsNasRight (session_fields_at pti kind)
+session_fields_ranged pti p session_kinds.PdnRequest = pdn_ranged pti p
+session_fields_ranged pti p session_kinds.PdnAccept = done_ranged IsNasRight PdnAccept tt
+
+session_ranged : (bearer : ℕ) → IsRanged IsNasRight (session_at bearer)
+unfolding session_at
+session_ranged bearer = behind IsOctet IsNasRight (octet_at short) _ octet_ranged (λ pti p. behind Any IsNasRight (session_kind_at bearer) (session_fields_at pti) (session_kind_ranged bearer) (λ kind k. session_fields_ranged pti p kind))
+
+message_ranged : (protocol : Protocol) → IsRanged IsNasRight (message_at protocol)
+message_ranged Mobility = mobility_ranged
+message_ranged (Session bearer) = session_ranged bearer
+
+protocol_ranged : IsRanged Any protocol_at
+unfolding protocol_at
+protocol_ranged = behind IsOctet Any (octet_at short) _ octet_ranged (λ octet o. known_ranged Any (protocol_of octet) _ (some_any (protocol_of octet)))
 
 header_ranged : IsRanged Any header_at
 unfolding header_at
 header_ranged = behind IsOctet Any (octet_at short) _ octet_ranged (λ octet o. known_ranged Any (header_of octet) _ (some_any (header_of octet)))
 
+abbrev nothing : Unit {0}
+nothing = tt
+
 security_ranged : IsRanged Any security_at
 unfolding security_at
-security_ranged = behind AreOctets Any (octets_at short 4) _ (octets_ranged 4) (λ code c. behind IsOctet Any (octet_at short) _ octet_ranged (λ number n. behind IsOctet Any (octet_at short) _ octet_ranged (λ inner i. known_ranged Any _ _ (some_any _))))
+security_ranged = behind AreOctets Any (octets_at short 4) _ (octets_ranged 4) (λ code c. behind IsOctet Any (octet_at short) _ octet_ranged (λ number n. done_ranged Any nothing tt))
 
 protected_ranged : IsRanged IsNasRight protected_at
 unfolding protected_at
-protected_ranged = behind Any IsNasRight security_at _ security_ranged (λ security s. message_ranged)
+protected_ranged = behind Any IsNasRight security_at _ security_ranged (λ security s. behind Any IsNasRight protocol_at message_at protocol_ranged (λ protocol p. message_ranged protocol))
 
 service_ranged : IsRanged IsNasRight service_at
 unfolding service_at
 service_ranged = behind AreOctets IsNasRight (octets_at short 3) _ (octets_ranged 3) (λ behind b. done_ranged IsNasRight ServiceRequest tt)
 
 behind_ranged : (header : Header) → IsRanged IsNasRight (behind_at header)
-behind_ranged Plain = message_ranged
+behind_ranged (Plain protocol) = message_ranged protocol
 behind_ranged Protected = protected_ranged
 behind_ranged Service = service_ranged
 

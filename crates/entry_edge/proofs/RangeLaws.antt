@@ -1,6 +1,6 @@
 -- Admitted messages are in their ranges, and numbered from 1.
 use Rattle.std.proofs.Common.{◌≡◌, ℕ, lit<, ◌+◌, ◌^◌, ◌<◌, Bool, true, false, eqb, List, [], ◌∷◌, ◌++◌, length, map, fold, Option, Some, None, suc, zero, refl, sym, ap, ◌∙◌, subst, inl, inr, arith}
-use Rattle.std.specs.Prelude.{if◌then◌else◌, All, find, ◌==◌, Result, Ok, Err, IfOk, IfSome}
+use Rattle.std.specs.Prelude.{if◌then◌else◌, All, find, ◌==◌, option_map, Result, Ok, Err, IfOk, IfSome}
 use Rattle.std.specs.List.{AllByRecursion, range_with_len}
 use Rattle.std.proofs.lemmas.Bool.{cases_Bool}
 use Rattle.std.proofs.lemmas.List.{length-append, map-append}
@@ -14,7 +14,7 @@ use Rattle.device_types.specs.declared.message.Body.{Body}
 use Rattle.device_types.specs.declared.message.Message.{Message}
 use Rattle.device_types.specs.Line.{number_of, IsLine}
 use Rattle.device_types.specs.declared.message.Body.TheVariants as bodies
-use Rattle.device_types.specs.Message.{IsFrom, IsBody, IsMessage}
+use Rattle.device_types.specs.Message.{IsFrom, IsSide, IsBody, IsMessage}
 use Rattle.device_types.specs.Numbers.{IsWithin}
 use Rattle.case_form.specs.declared.case.TraceLine.{TraceLine}
 use Rattle.case_form.specs.declared.case.TraceKind.{TraceKind}
@@ -27,17 +27,17 @@ use Rattle.s1ap_ies.specs.declared.erab_done.ErabDone.{ErabDone}
 use Rattle.s1ap_ies.specs.Run.{IsTai, IsErabDone}
 use Rattle.s1ap_ies.proofs.Items.{dones_right}
 use Rattle.s1ap_pdu.specs.declared.pdu.Pdu.{Pdu}
-use Rattle.s1ap_pdu.specs.declared.pdu.Pdu.TheVariants.{InitialUeMessage, UplinkNasTransport, InitialContextSetupResponse, InitialContextSetupFailure, UeContextReleaseRequest, UeContextReleaseComplete, UeCapabilityInfoIndication}
+use Rattle.s1ap_pdu.specs.declared.pdu.Pdu.TheVariants.{InitialUeMessage, UplinkNasTransport, InitialContextSetupResponse, ErabSetupResponse, InitialContextSetupFailure, UeContextReleaseRequest, UeContextReleaseComplete, UeCapabilityInfoIndication}
 use Rattle.s1ap_pdu.specs.Built.{message_at}
 use Rattle.s1ap_pdu.specs.Run.{IsRight, HasOctets}
 use Rattle.s1ap_pdu.proofs.Exact.{found_message}
 use Rattle.s1ap_pdu.proofs.Right.{message_right}
 use Rattle.nas_kinds.specs.declared.nas_in.NasIn.{NasIn}
-use Rattle.nas_kinds.specs.declared.nas_in.NasIn.TheVariants.{AttachRequest, AttachComplete, DetachRequest, AreaRequest, AuthResponse, SecurityComplete, SecurityReject, ServiceRequest}
+use Rattle.nas_kinds.specs.declared.nas_in.NasIn.TheVariants.{AttachRequest, AttachComplete, DetachRequest, AreaRequest, AuthResponse, SecurityComplete, SecurityReject, ServiceRequest, PdnRequest, PdnAccept}
 use Rattle.nas_kinds.specs.Reading.{nas_of}
 use Rattle.entry_edge.specs.declared.sent.Sent.{Sent}
 use Rattle.entry_edge.specs.declared.check.Taken.{Taken}
-use Rattle.entry_edge.specs.Sent.{octets_of, service_from, request_of, onward_of, context_from, named, numbered, code_of, sent_of, said_by, notice}
+use Rattle.entry_edge.specs.Sent.{octets_of, service_from, request_of, onward_of, erab_of, side_of, context_from, second_from, named, numbered, code_of, sent_of, said_by, notice}
 use Rattle.entry_edge.specs.Trace.{Turn, Admitted, Refused, said_in, station_in, device_for, taken_by, taken_at, turn_of, turn, history, and_message, messages_of, book_of}
 use Rattle.entry_edge.proofs.Causes.{cause_left}
 use Rattle.entry_edge.proofs.NasRanges.{IsNasRight, nas_right}
@@ -70,6 +70,8 @@ request_right end tai stmsi AttachComplete h n = tt
 request_right end tai stmsi (AuthResponse res) h n = tt
 request_right end tai stmsi SecurityComplete h n = tt
 request_right end tai stmsi (SecurityReject cause) h n = tt
+request_right end tai stmsi (PdnRequest pti) h n = tt
+request_right end tai stmsi PdnAccept h n = tt
 
 onward_right : (tai : Tai) (m : NasIn) → IsTai tai → IsNasRight m → IfOk (onward_of tai m) IsSaid
 onward_right tai AttachComplete h n = tt
@@ -78,6 +80,8 @@ onward_right tai (AreaRequest identity) h n = h
 onward_right tai (AuthResponse res) h n = n
 onward_right tai SecurityComplete h n = tt
 onward_right tai (SecurityReject cause) h n = tt
+onward_right tai (PdnRequest pti) h n = n
+onward_right tai PdnAccept h n = tt
 onward_right tai (AttachRequest identity eea eia pti) h n = tt
 onward_right tai ServiceRequest h n = tt
 
@@ -103,9 +107,17 @@ uplink_right : (mme enb : ℕ) (tai : Tai) (read : Result NasIn Refusal) (s : Se
 uplink_right mme enb tai (Ok m) s en h n e = numbered_right mme enb (onward_of tai m) s en (onward_right tai m h n) e
 uplink_right mme enb tai (Err x) s en h n e = absurd (cc e)
 
-context_right : (o : Option ErabDone) → IfSome o IsErabDone → IsSaid (context_from o)
-context_right None h = tt
-context_right (Some item) h = (h.1, h.2)
+side_right : (o : Option ErabDone) → IfSome o IsErabDone → IfSome (option_map side_of o) IsSide
+side_right None h = tt
+side_right (Some erab) h = (h.1, h.2)
+
+context_right : (o second : Option ErabDone) → IfSome o IsErabDone → IfSome second IsErabDone → IsSaid (context_from o second)
+context_right None second h s = tt
+context_right (Some erab) second h s = (h.1, h.2, side_right second s)
+
+second_right : (o : Option ErabDone) → IfSome o IsErabDone → IsSaid (second_from o)
+second_right None h = tt
+second_right (Some erab) h = (h.1, h.2)
 
 find_right : (P : ErabDone → Type 0) (p : ErabDone → Bool) (items : List ErabDone) → AllByRecursion P items → IfSome (find p items) P
 find_right P p [] all = tt
@@ -115,11 +127,20 @@ find_right P p (item ∷ items) all =
       | inr n ↦ rw n (find_right P p items all.1)
     ]
 
+erab_right : (id : ℕ) (done : List ErabDone) → AllByRecursion IsErabDone done → IfSome (erab_of id done) IsErabDone
+erab_right id done all = find_right IsErabDone (λ erab. erab.id == id) done all
+
 sent_right : (end : ℕ) (p : Pdu) (s : Sent) → IsRight p → HasOctets p → sent_of end p ≡ Ok s → IsSentRight s
 unfolding sent_of
 sent_right end (InitialUeMessage enb nas tai cgi rrc stmsi) s r o e = initial_right end enb tai stmsi (nas_of nas) s (omega (arith, r.0.0.0)) r.0.1.1.0.0 (nas_right nas (All-from_recursion (λ octet. octet < 256) nas o.1.0.1)) e
 sent_right end (UplinkNasTransport mme enb nas cgi tai) s r o e = uplink_right mme enb tai (nas_of nas) s (omega (arith, r.0.1.0.0)) r.0.1.1.1.1.0.0 (nas_right nas (All-from_recursion (λ octet. octet < 256) nas o.1.1.0.1)) e
-sent_right end (InitialContextSetupResponse mme enb done) s r o e = is_sent _ s (omega (arith, r.0.1.0.0), context_right (find (λ item. item.id == names.DEFAULT_ERAB) done) (find_right IsErabDone (λ item. item.id == names.DEFAULT_ERAB) done (dones_right (λ octets. Unit {0}) done r.0.1.1.0.0).2)) e
+sent_right end (InitialContextSetupResponse mme enb done) s r o e =
+    let items = (dones_right (λ octets. Unit {0}) done r.0.1.1.0.0).2 in
+    is_sent _ s (omega (arith, r.0.1.0.0), context_right (erab_of names.DEFAULT_ERAB done) (erab_of names.SECOND_ERAB done) (erab_right names.DEFAULT_ERAB done items) (erab_right names.SECOND_ERAB done items)) e
+sent_right end (ErabSetupResponse mme enb None) s r o e = is_sent _ s (omega (arith, r.0.1.0.0), tt) e
+sent_right end (ErabSetupResponse mme enb (Some done)) s r o e =
+    let items = (dones_right (λ octets. Unit {0}) done r.0.1.1.0.0).2 in
+    is_sent _ s (omega (arith, r.0.1.0.0), second_right (erab_of names.SECOND_ERAB done) (erab_right names.SECOND_ERAB done items)) e
 sent_right end (InitialContextSetupFailure mme enb cause) s r o e = is_sent _ s (omega (arith, r.0.1.0.0), tt) e
 sent_right end (UeContextReleaseRequest mme enb cause) s r o e = is_sent _ s (omega (arith, r.0.1.0.0), cause_left (code_of cause) r.0.1.1.0.0) e
 sent_right end (UeContextReleaseComplete mme enb) s r o e = is_sent _ s (omega (arith, r.0.1.0.0), tt) e

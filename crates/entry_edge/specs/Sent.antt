@@ -1,5 +1,5 @@
 -- What a line of a trace says: the octets of its text, the message that they are, and what the message says.
-use Rattle.std.specs.Prelude.{ℕ, ◌==◌, Bool, true, false, List, [], ◌∷◌, length, find, Option, Some, None, Result, Ok, Err}
+use Rattle.std.specs.Prelude.{ℕ, ◌==◌, Bool, true, false, List, [], ◌∷◌, length, find, Option, Some, None, option_map, Result, Ok, Err}
 use Rattle.hex.specs.Hex.{decode_of}
 use Rattle.hex.specs.declared.error.FromHexError.{FromHexError}
 use Rattle.echo_base.specs.declared.reason.Reason.TheVariants.{BadHex, WrongDirection, MissingIe, NasKind}
@@ -8,7 +8,8 @@ use Rattle.echo_base.specs.declared.identity.Identity.TheVariants.{Tmsi}
 use Rattle.echo_base.specs.declared.refusal.Refusal.{Refusal}
 use Rattle.echo_base.specs.Answer.{◌>>=◌, refused}
 use Rattle.device_types.specs.declared.message.Body.{Body}
-use Rattle.device_types.specs.declared.message.Body.TheVariants.{Attach, Service, Area, Detach, Response, Secured, SecurityRefused, AttachDone, ContextDone, ContextFailed, ReleaseAsked, Released, Capability, Data}
+use Rattle.device_types.specs.declared.message.Body.TheVariants.{Attach, Service, Area, Detach, Response, Secured, SecurityRefused, AttachDone, ContextDone, ContextFailed, ReleaseAsked, Released, Capability, Data, PdnRequest, PdnAccept, SecondDone, SecondRefused}
+use Rattle.device_types.specs.declared.message.Side.{Side}
 use Rattle.device_types.specs.declared.cause.CauseCode.{CauseCode}
 use Rattle.s1ap_ies.specs.declared.names.TheConstants as names
 use Rattle.s1ap_ies.specs.declared.cause.Cause.{Cause}
@@ -16,10 +17,11 @@ use Rattle.s1ap_ies.specs.declared.tai.Tai.{Tai}
 use Rattle.s1ap_ies.specs.declared.stmsi.Stmsi.{Stmsi}
 use Rattle.s1ap_ies.specs.declared.erab_done.ErabDone.{ErabDone}
 use Rattle.s1ap_pdu.specs.declared.pdu.Pdu.{Pdu}
-use Rattle.s1ap_pdu.specs.declared.pdu.Pdu.TheVariants.{InitialUeMessage, UplinkNasTransport, InitialContextSetupResponse, InitialContextSetupFailure, UeContextReleaseRequest, UeContextReleaseComplete, UeCapabilityInfoIndication}
+use Rattle.s1ap_pdu.specs.declared.pdu.Pdu.TheVariants.{InitialUeMessage, UplinkNasTransport, InitialContextSetupResponse, ErabSetupResponse, InitialContextSetupFailure, UeContextReleaseRequest, UeContextReleaseComplete, UeCapabilityInfoIndication}
 use Rattle.s1ap_pdu.specs.Built.{message_at}
 use Rattle.nas_kinds.specs.declared.nas_in.NasIn.{NasIn}
 use Rattle.nas_kinds.specs.declared.nas_in.NasIn.TheVariants.{AttachRequest, AttachComplete, DetachRequest, AreaRequest, AuthResponse, SecurityComplete, SecurityReject, ServiceRequest}
+use Rattle.nas_kinds.specs.declared.nas_in.NasIn.TheVariants as nas_in
 use Rattle.nas_kinds.specs.Kinds.{type_of}
 use Rattle.nas_kinds.specs.Reading.{nas_of}
 use Rattle.entry_edge.specs.declared.sent.Claim.TheVariants.{Named, Numbered, Noticed}
@@ -58,15 +60,34 @@ onward_of tai (AreaRequest identity) = Ok (Area false tai.plmn tai.tac)
 onward_of tai (AuthResponse res) = Ok (Response res)
 onward_of tai SecurityComplete = Ok Secured
 onward_of tai (SecurityReject cause) = Ok SecurityRefused
+onward_of tai (nas_in.PdnRequest pti) = Ok (PdnRequest pti)
+onward_of tai nas_in.PdnAccept = Ok PdnAccept
 onward_of tai nas = Err (refused (NasKind (type_of nas)))
 
--- the context is set up with the default bearer: the first item with its E-RAB ID
-abbrev pub context_from : Option ErabDone → Body
-context_from None = ContextFailed
-context_from (Some done) = ContextDone done.address done.teid
+-- an E-RAB that is set up: the first item with its E-RAB ID
+abbrev pub erab_of : ℕ → List ErabDone → Option ErabDone
+erab_of id done = find (λ erab. erab.id == id) done
+
+-- the base station's side of it
+abbrev pub side_of : ErabDone → Side
+side_of erab = record { addr = erab.address; teid = erab.teid }
+
+-- the context is set up with the default bearer, and may be with the second one
+abbrev pub context_from : Option ErabDone → Option ErabDone → Body
+context_from None second = ContextFailed
+context_from (Some erab) second = ContextDone erab.address erab.teid (option_map side_of second)
 
 abbrev pub context_of : List ErabDone → Body
-context_of done = context_from (find (λ item. item.id == names.DEFAULT_ERAB) done)
+context_of done = context_from (erab_of names.DEFAULT_ERAB done) (erab_of names.SECOND_ERAB done)
+
+-- the second bearer is set up, or it is refused, as where nothing is set up
+abbrev pub second_from : Option ErabDone → Body
+second_from None = SecondRefused
+second_from (Some erab) = SecondDone erab.address erab.teid
+
+abbrev pub second_of : Option (List ErabDone) → Body
+second_of None = SecondRefused
+second_of (Some done) = second_from (erab_of names.SECOND_ERAB done)
 
 abbrev pub code_of : Cause → CauseCode
 code_of cause = record { group = cause.group; extended = cause.extended; index = cause.index }
@@ -86,6 +107,7 @@ unfoldable pub sent_of : ℕ → Pdu → Result Sent Refusal
 sent_of end (InitialUeMessage enb nas tai cgi rrc stmsi) = nas_of nas >>= request_of end tai stmsi >>= named enb
 sent_of end (UplinkNasTransport mme enb nas cgi tai) = nas_of nas >>= onward_of tai >>= numbered mme enb
 sent_of end (InitialContextSetupResponse mme enb done) = numbered mme enb (context_of done)
+sent_of end (ErabSetupResponse mme enb done) = numbered mme enb (second_of done)
 sent_of end (InitialContextSetupFailure mme enb cause) = numbered mme enb ContextFailed
 sent_of end (UeContextReleaseRequest mme enb cause) = numbered mme enb (ReleaseAsked (code_of cause))
 sent_of end (UeContextReleaseComplete mme enb) = numbered mme enb Released
@@ -113,9 +135,13 @@ is_release (Response res) = false
 is_release Secured = false
 is_release SecurityRefused = false
 is_release AttachDone = false
-is_release (ContextDone addr teid) = false
+is_release (ContextDone addr teid second) = false
 is_release ContextFailed = false
 is_release (ReleaseAsked cause) = false
 is_release Released = true
 is_release (Capability octets) = false
 is_release Data = false
+is_release (PdnRequest pti) = false
+is_release PdnAccept = false
+is_release (SecondDone addr teid) = false
+is_release SecondRefused = false

@@ -1,16 +1,15 @@
 //! What a message says.
 
-ghost use Rattle.std.specs.Prelude.{◌≡◌, ◌==◌, length, find};
+ghost use Rattle.std.specs.Prelude.{◌≡◌, length};
 ghost use Rattle.echo_base.specs.Answer.{IsAnswer};
 ghost use Rattle.nas_kinds.specs.Reading.{nas_of};
-ghost use Rattle.s1ap_ies.specs.declared.names.TheConstants as named;
-ghost use Rattle.entry_edge.specs.Sent.{request_of, onward_of, context_of, code_of, notice, sent_of};
+ghost use Rattle.entry_edge.specs.Sent.{request_of, onward_of, erab_of, side_of, context_of, second_of, code_of, notice, sent_of};
 
-use device_types::{Body, CauseCode};
+use device_types::{Body, CauseCode, Side};
 use echo_base::{Bad, Identity, Reason, Refusal, refused};
 use nas_kinds::{NasIn, read_nas};
 use s1ap_ies::{Cause, ErabDone, Stmsi, Tai, names};
-use s1ap_messages::Pdu;
+use s1ap_messages::{ErabsDone, Pdu};
 use std::alloc::Global;
 
 /// How a message says which device it is from.
@@ -91,7 +90,9 @@ fn request_of(
         NasIn::AttachComplete
         | NasIn::AuthResponse { .. }
         | NasIn::SecurityComplete
-        | NasIn::SecurityReject { .. } => Err(refused(Reason::NasKind(kind))),
+        | NasIn::SecurityReject { .. }
+        | NasIn::PdnRequest { .. }
+        | NasIn::PdnAccept => Err(refused(Reason::NasKind(kind))),
     }
 }
 
@@ -113,32 +114,61 @@ fn onward_of(tai: Tai, nas: NasIn) -> Result<Body, Refusal>
         NasIn::AuthResponse { res } => Ok(Body::Response { res }),
         NasIn::SecurityComplete => Ok(Body::Secured),
         NasIn::SecurityReject { .. } => Ok(Body::SecurityRefused),
+        NasIn::PdnRequest { pti } => Ok(Body::PdnRequest { pti }),
+        NasIn::PdnAccept => Ok(Body::PdnAccept),
         NasIn::AttachRequest { .. } | NasIn::ServiceRequest => {
             Err(refused(Reason::NasKind(kind)))
         }
     }
 }
 
-/// The default bearer among the E-RABs that were set up: the first with its E-RAB ID.
-fn default_bearer(done: &[ErabDone]) -> Option<ErabDone>
-    ensures { result ≡ find (λ item. item.id == named.DEFAULT_ERAB) done.now }
+/// The first with that E-RAB ID among the E-RABs that were set up.
+fn erab_of(done: &[ErabDone], id: u8) -> Option<ErabDone>
+    ensures { result ≡ erab_of id done.now }
 {
-    done.iter()
-        .copied()
-        .find(|item| item.id == names::DEFAULT_ERAB)
+    done.iter().copied().find(|erab| erab.id == id)
 }
 
-/// The body of an INITIAL CONTEXT SETUP RESPONSE (TS 36.413, 9.1.4.3): the default bearer's end at the base station, or that the
-/// context failed where that bearer was not set up.
+/// The base station's side of an E-RAB.
+fn side_of(erab: ErabDone) -> Side
+    ensures { result ≡ side_of erab }
+{
+    Side {
+        addr: erab.address,
+        teid: erab.teid,
+    }
+}
+
+/// The body of an INITIAL CONTEXT SETUP RESPONSE (TS 36.413, 9.1.4.3): the base station's side of the default bearer, and of the
+/// second one where that was set up too, or that the context failed where the default bearer was not set up.
 fn context_of(done: &[ErabDone]) -> Body
     ensures { result ≡ context_of done.now }
 {
-    match default_bearer(done) {
-        Some(item) => Body::ContextDone {
-            addr: item.address,
-            teid: item.teid,
+    let second = erab_of(done, names::SECOND_ERAB).map(side_of);
+    match erab_of(done, names::DEFAULT_ERAB) {
+        Some(erab) => Body::ContextDone {
+            addr: erab.address,
+            teid: erab.teid,
+            second,
         },
         None => Body::ContextFailed,
+    }
+}
+
+/// The body of an E-RAB SETUP RESPONSE (TS 36.413, 9.1.3.2): the base station's side of the second bearer, or that this bearer was
+/// not set up, as where none was.
+fn second_of(done: Option<ErabsDone>) -> Body
+    ensures { result ≡ second_of done }
+{
+    let Some(done) = done else {
+        return Body::SecondRefused;
+    };
+    match erab_of(done.items(), names::SECOND_ERAB) {
+        Some(erab) => Body::SecondDone {
+            addr: erab.address,
+            teid: erab.teid,
+        },
+        None => Body::SecondRefused,
     }
 }
 
@@ -193,6 +223,7 @@ pub fn sent_of(alloc: Global, end: u64, pdu: Pdu) -> Result<Sent, Bad>
             Ok(numbered(mme, enb, body))
         }
         Pdu::InitialContextSetupResponse { mme, enb, done } => Ok(numbered(mme, enb, context_of(done.items()))),
+        Pdu::ErabSetupResponse { mme, enb, done } => Ok(numbered(mme, enb, second_of(done))),
         Pdu::InitialContextSetupFailure { mme, enb, cause: _ } => Ok(numbered(mme, enb, Body::ContextFailed)),
         Pdu::UeContextReleaseRequest { mme, enb, cause } => {
             Ok(numbered(mme, enb, Body::ReleaseAsked { cause: code_of(cause) }))

@@ -9,7 +9,7 @@ use Rattle.device_types.specs.declared.down.Down.TheVariants as down
 use Rattle.s1ap_pdu.specs.Run.{written}
 use Rattle.entry_edge.specs.Down.{message_of}
 use Rattle.device_types.specs.declared.effect.GwCall.{GwCall}
-use Rattle.device_types.specs.declared.effect.GwCall.TheVariants.{Create, Modify, Release, Delete}
+use Rattle.device_types.specs.declared.effect.GwCall.TheVariants.{Create, Modify, Release, Delete, SecondCreate, SecondModify}
 use Rattle.device_types.specs.declared.effect.SubCall.{SubCall}
 use Rattle.device_types.specs.declared.effect.SubCall.TheVariants.{Vectors, Location, Purge}
 use Rattle.report_text.specs.Lines.{hex_filled}
@@ -26,6 +26,8 @@ station_of (down.Nas station enb nas) = station
 station_of (down.Setup station enb dl ul sgw teid eea eia key accept) = station
 station_of (down.Release station enb cause) = station
 station_of (down.Page plmn tac) = 0
+station_of (down.Erab station enb sgw teid pti ip) = station
+station_of (down.SetupTwo station enb dl ul sgw teid eea eia key sgw2 teid2) = station
 
 -- a message to the device of a row
 abbrev pub sent_line : Subscriber → ℕ → Down → List ℕ
@@ -36,6 +38,8 @@ gateway_text Create = codes "create"
 gateway_text (Modify addr teid) = codes "modify " ++ hex_filled 8 addr ++ codes " " ++ decimal teid
 gateway_text Release = codes "release"
 gateway_text Delete = codes "delete"
+gateway_text SecondCreate = codes "second-create"
+gateway_text (SecondModify addr teid) = codes "second-modify " ++ hex_filled 8 addr ++ codes " " ++ decimal teid
 
 abbrev pub gateway_line : ℕ → GwCall → List ℕ
 gateway_line number call = codes "gateway " ++ decimal number ++ codes " " ++ gateway_text call

@@ -1,12 +1,12 @@
 -- The final text.
-use Rattle.std.specs.Prelude.{◌≡◌, ℕ, ◌-◌, List, [], ◌++◌, length, All, codes, Option, Some, None, slice_get}
+use Rattle.std.specs.Prelude.{◌≡◌, ℕ, ◌-◌, List, [], ◌++◌, length, codes, Option, Some, None, slice_get}
 use Rattle.std.specs.Fmt.{decimal}
-use Rattle.std.specs.List.{flat_map}
+use Rattle.std.specs.List.{AllZip, flat_map}
 use Rattle.echo_base.specs.Refusal.{refusal_text}
 use Rattle.device_types.specs.declared.subscriber.Subscriber.{Subscriber}
 use Rattle.device_types.specs.declared.subscriber.DeviceId.{DeviceId}
 use Rattle.device_types.specs.declared.finals.DeviceEnd.{DeviceEnd}
-use Rattle.device_types.specs.Down.{IsDown}
+use Rattle.device_types.specs.Finals.{IsEndOf}
 use Rattle.subs_table.specs.Order.{devices_by_imsi}
 use Rattle.entry_edge.specs.declared.admission.RefusedLine.{RefusedLine}
 use Rattle.report_text.specs.Lines.{ended, numbered}
@@ -20,10 +20,10 @@ refused_line r = codes "refused " ++ decimal r.line ++ codes " " ++ refusal_text
 unfoldable pub device_text : Subscriber → DeviceEnd → List ℕ
 device_text row end = ended (device_line row.imsi end.messages end.steps) ++ numbered (sent_line row) end.downs ++ numbered gateway_line end.gateway ++ numbered subscriber_line end.subscriber ++ ended (session_line end.session)
 
--- an end for each row, with downs that can be written
+-- an end for each row, whose downs can be written to its device
 pub record AreEnds (rows : List Subscriber) (finals : List DeviceEnd) : Type 0 where
   pub count : length finals ≡ length rows
-  pub downs : All (λ end. All IsDown end.downs) finals
+  pub downs : AllZip IsEndOf rows finals
 
 abbrev pub text_of : Option Subscriber → Option DeviceEnd → List ℕ
 text_of (Some row) (Some end) = device_text row end

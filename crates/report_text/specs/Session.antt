@@ -2,7 +2,7 @@
 use Rattle.std.specs.Prelude.{ℕ, ◌++◌, List, codes}
 use Rattle.std.specs.Fmt.{decimal}
 use Rattle.device_types.specs.declared.session.Stage.{Stage}
-use Rattle.device_types.specs.declared.session.Stage.TheVariants.{Detached, AwaitVectors, Authenticating, Securing, AwaitLocation, AwaitCreate, Accepting, AcceptingContext, AcceptingDone, AwaitModify, Connecting, Connected, AwaitRelease, Releasing, Idle, AwaitDelete}
+use Rattle.device_types.specs.declared.session.Stage.TheVariants.{Detached, AwaitVectors, Authenticating, Securing, AwaitLocation, AwaitCreate, Accepting, AcceptingContext, AcceptingDone, AwaitModify, Connecting, Connected, AwaitRelease, Releasing, Idle, AwaitDelete, AwaitSecond, AwaitSecondModify}
 use Rattle.device_types.specs.declared.session.Link.{Link}
 use Rattle.device_types.specs.declared.session.Link.TheVariants.{Off, On}
 use Rattle.device_types.specs.declared.session.Bearer.{Bearer}
@@ -27,6 +27,8 @@ stage_name AwaitRelease = codes "await-release"
 stage_name Releasing = codes "releasing"
 stage_name Idle = codes "idle"
 stage_name AwaitDelete = codes "await-delete"
+stage_name AwaitSecond = codes "await-second"
+stage_name AwaitSecondModify = codes "await-second-modify"
 
 abbrev pub link_text : Link → List ℕ
 link_text Off = codes "off"

@@ -3,6 +3,7 @@
 ghost use Rattle.std.specs.Prelude.{◌≡◌, ◌++◌, All, Some, OnOk, string_bytes};
 ghost use Rattle.echo_base.specs.Reason.{zero_filled};
 ghost use Rattle.device_types.specs.Down.{IsDown};
+ghost use Rattle.device_types.specs.Finals.{IsEndOf};
 ghost use Rattle.device_types.specs.Subscriber.{IsSubscriber};
 ghost use Rattle.report_text.specs.Lines.{ended, numbered, hex_filled};
 ghost use Rattle.report_text.specs.Device.{device_line, down_line, station_of, sent_line, gateway_line, subscriber_line};
@@ -83,6 +84,11 @@ impl fmt::Display for GatewayLine {
             }
             GwCall::Release => write!(f, "release"),
             GwCall::Delete => write!(f, "delete"),
+            GwCall::SecondCreate => write!(f, "second-create"),
+            GwCall::SecondModify(addr, teid) => {
+                let addr = Address(addr);
+                write!(f, "second-modify {addr} {teid}")
+            }
         }
     }
 }
@@ -121,6 +127,8 @@ fn station_of(down: &Down) -> u16
         Down::Setup { station, .. } => *station,
         Down::Release { station, .. } => *station,
         Down::Page { .. } => 0,
+        Down::Erab { station, .. } => *station,
+        Down::SetupTwo { station, .. } => *station,
     }
 }
 
@@ -147,7 +155,7 @@ fn put_down(
     down: &Down,
 ) -> Result<(), OutOfMemory>
     requires row { IsSubscriber row.now }
-    requires down { IsDown down.now }
+    requires down { IsDown row.now down.now }
     ensures { OnOk result (string_bytes text.new ≡ string_bytes text.old ++ ended (sent_line row.now number down.now)) }
 {
     let octets = down_bytes(alloc, row, down)?;
@@ -162,7 +170,7 @@ fn put_downs(
     downs: &[Down],
 ) -> Result<(), OutOfMemory>
     requires row { IsSubscriber row.now }
-    requires downs { All IsDown downs.now }
+    requires downs { All (IsDown row.now) downs.now }
     ensures { OnOk result (string_bytes text.new ≡ string_bytes text.old ++ numbered (sent_line row.now) downs.now) }
 {
     let mut number = 0;
@@ -222,7 +230,7 @@ pub fn put_device(
     end: &DeviceEnd,
 ) -> Result<(), OutOfMemory>
     requires row { IsSubscriber row.now }
-    requires downs { All IsDown end.now.downs }
+    requires downs { IsEndOf row.now end.now }
     ensures { OnOk result (string_bytes text.new ≡ string_bytes text.old ++ device_text row.now end.now) }
 {
     let line = DeviceLine {

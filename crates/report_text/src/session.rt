@@ -30,6 +30,8 @@ fn stage_name(stage: Stage) -> &'static str
         Stage::Releasing => "releasing",
         Stage::Idle => "idle",
         Stage::AwaitDelete => "await-delete",
+        Stage::AwaitSecond => "await-second",
+        Stage::AwaitSecondModify => "await-second-modify",
     }
 }
 

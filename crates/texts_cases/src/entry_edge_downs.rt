@@ -4,6 +4,7 @@ ghost use Rattle.device_types.specs.Cause.{IsCauseCode};
 ghost use Rattle.device_types.specs.Down.{IsDown};
 ghost use Rattle.device_types.specs.Keys.{IsKey};
 ghost use Rattle.device_types.specs.Subscriber.{IsSubscriber};
+ghost use Rattle.device_types.specs.declared.subscriber.Subscriber.{Subscriber};
 
 use device_types::{Accept, CauseCode, Down, Key, NasOut, Subscriber, TryCopy};
 use entry_edge::down_bytes;
@@ -13,17 +14,21 @@ use subs_table::read_row;
 
 /// The row of the device, which is the second.
 const ROW: &str =
-    r#"{"imsi":"208930000001033","tmsi":23,"rand":"000102030405060708090a0b0c0d0e0f","autn":"101112131415161718191a1b1c1d1e1f","res":"a0a1a2a3","key":"202122232425262728292a2b2c2d2e2f303132333435363738393a3b3c3d3e3f","apn":"m2m","ip":"0a2d0001","sgw":"c0a80001","teid":4,"ambr_dl":6,"ambr_ul":8,"forbidden":[]}"#;
+    r#"{"imsi":"208930000001033","tmsi":23,"rand":"000102030405060708090a0b0c0d0e0f","autn":"101112131415161718191a1b1c1d1e1f","res":"a0a1a2a3","key":"202122232425262728292a2b2c2d2e2f303132333435363738393a3b3c3d3e3f","apn":"m2m","ip":"0a2d0001","sgw":"c0a80001","teid":4,"ambr_dl":6,"ambr_ul":8,"forbidden":[],"apn2":"ims2","ip2":"0a2d8003"}"#;
 
-/// What goes down, and its octets: NAS messages; contexts that are set up, with an ATTACH ACCEPT and without one; releases, for a
-/// root of the NAS causes and for causes behind the extension marks of the radio network's and of NAS; and a paging, of index 9,
-/// the IMSI modulo 1024 (of which 208,930,000,000,000 is a multiple): 0000001001 p(6), 0240. Those of the second, third and seventh
-/// line go to eNB UE S1AP ID 197,637, the others to 7.
+/// What goes down, and its octets: NAS messages; contexts that are set up, with an ATTACH ACCEPT and without one, and with two
+/// bearers; a second bearer that is added; releases, for a root of the NAS causes and for causes behind the extension marks of the
+/// radio network's and of NAS; and a paging, of index 9, the IMSI modulo 1024 (of which 208,930,000,000,000 is a multiple):
+/// 0000001001 p(6), 0240. Rejects of an area, the accepted context, the added bearer and the last release go to eNB UE S1AP ID
+/// 197,637, the others to 7. The algorithms of two bearers are 10010110 00000000 and 01101010 00000000.
 const DOWNS: &str = "\
 AUTHENTICATION REJECT: 000b4016000003000000020002000800020007001a0003020754
 TRACKING AREA UPDATE REJECT: 000b40190000030000000200020008000480030405001a000403074b0c
+PDN CONNECTIVITY REJECT: 000b4018000003000000020002000800020007001a0005040209d11b
 set up, accepted: 000900808100000600000002000200080004800304050042000a18773594006011e1a30000180031000034002c450009200f80c0a80002000001021d074201e0060002f839000300105205c1010904036d326d05010a2d0009006b00051c000c000000490020202122232425262728292a2b2c2d2e2f303132333435363738393a3b3c3d3e3f
 set up: 0009005f0000060000000200020008000200070042000800058002540be40000180013000034000e050009200f80c0a8000300000405006b000518000e0000004900200000000000000000000000000000000000000000000000000000000000000000
+set up, both: 00090070000006000000020002000800020007004200071001117020012c00180025010034000e050009200f80c0a80005000007080034000e060009200f80c0a800060000090a006b000512c006a00000490020202122232425262728292a2b2c2d2e2f303132333435363738393a3b3c3d3e3f
+added: 0005003a00000300000002000200080004800304050010002500001100200c0009200f80c0a8000400000607116208c101090504696d733205010a2d8002
 released, root: 0017001000000200630004000200070002400122
 released, extended: 001700110000020063000400020007000240020850
 released, last: 0017001300000200630006000280030405000240022bf0
@@ -40,7 +45,7 @@ const LARGE: u32 = 0x03_0405;
 fn released(enb: u32, cause: CauseCode) -> Down
     requires enb { enb < 2 ^ 24 }
     requires cause { IsCauseCode cause }
-    ensures { IsDown result }
+    ensures { (row : Subscriber) → IsDown row result }
 {
     Down::Release {
         station: 3,
@@ -61,7 +66,7 @@ fn key_of(row: &Subscriber) -> Result<Key, Fail>
 /// The context of an attach.
 fn set_up_and_accepted(row: &Subscriber) -> Result<Down, Fail>
     requires { IsSubscriber row.now }
-    ensures { IfOk result IsDown }
+    ensures { IfOk result (IsDown row.now) }
 {
     Ok(Down::Setup {
         station: 3,
@@ -84,7 +89,7 @@ fn set_up_and_accepted(row: &Subscriber) -> Result<Down, Fail>
 
 /// The context of a service, with the largest rate that there is.
 fn set_up(alloc: Global) -> Down
-    ensures { IsDown result }
+    ensures { (row : Subscriber) → IsDown row result }
 {
     let key = Key::zeros(alloc);
     // That each octet is below 256 is a clause of `octets`.
@@ -103,6 +108,43 @@ fn set_up(alloc: Global) -> Down
     }
 }
 
+/// The context of a service of a device with a second connection.
+fn set_up_both(row: &Subscriber) -> Result<Down, Fail>
+    requires { IsSubscriber row.now }
+    ensures { IfOk result (IsDown row.now) }
+{
+    Ok(Down::SetupTwo {
+        station: 3,
+        enb: SMALL,
+        dl: 70_000,
+        ul: 300,
+        sgw: 0xc0a8_0005,
+        teid: 0x0708,
+        eea: 0xcb,
+        eia: 0x35,
+        key: key_of(row)?,
+        sgw2: 0xc0a8_0006,
+        teid2: 0x090a,
+    })
+}
+
+/// A second bearer, if the row has a second access point name.
+fn added(row: &Subscriber) -> Result<Down, Fail>
+    ensures { IfOk result (IsDown row.now) }
+{
+    let Some(_apn) = &row.apn2 else {
+        return Err(Fail::new("no second access point name"));
+    };
+    Ok(Down::Erab {
+        station: 3,
+        enb: LARGE,
+        sgw: 0xc0a8_0004,
+        teid: 0x0607,
+        pti: 8,
+        ip: 0x0a2d_8002,
+    })
+}
+
 /// Tells the octets of a message to the device of the row.
 fn tell(
     alloc: Global,
@@ -112,7 +154,7 @@ fn tell(
     down: &Down,
 ) -> Result<(), Fail>
     requires row { IsSubscriber row.now }
-    requires down { IsDown down.now }
+    requires down { IsDown row.now down.now }
 {
     let octets = down_bytes(alloc, row, down)?;
     let digits = hex::encode(alloc, octets.octets())?;
@@ -131,7 +173,11 @@ fn tell_messages(alloc: Global, text: &mut String, row: &Subscriber) -> Result<(
     let enb = LARGE;
     let nas = NasOut::AreaReject { cause: 12 };
     let down = Down::Nas { station, enb, nas };
-    tell(alloc, text, row, "TRACKING AREA UPDATE REJECT", &down)
+    tell(alloc, text, row, "TRACKING AREA UPDATE REJECT", &down)?;
+    let enb = SMALL;
+    let nas = NasOut::PdnReject { pti: 9, cause: 27 };
+    let down = Down::Nas { station, enb, nas };
+    tell(alloc, text, row, "PDN CONNECTIVITY REJECT", &down)
 }
 
 /// Tells contexts that are set up.
@@ -140,7 +186,9 @@ fn tell_setups(alloc: Global, text: &mut String, row: &Subscriber) -> Result<(),
 {
     let down = set_up_and_accepted(row)?;
     tell(alloc, text, row, "set up, accepted", &down)?;
-    tell(alloc, text, row, "set up", &set_up(alloc))
+    tell(alloc, text, row, "set up", &set_up(alloc))?;
+    tell(alloc, text, row, "set up, both", &set_up_both(row)?)?;
+    tell(alloc, text, row, "added", &added(row)?)
 }
 
 /// A cause.
@@ -169,7 +217,7 @@ fn tell_releases(alloc: Global, text: &mut String, row: &Subscriber) -> Result<(
 
 /// A paging in the device's area.
 fn paged() -> Down
-    ensures { IsDown result }
+    ensures { (row : Subscriber) → IsDown row result }
 {
     Down::Page {
         plmn: 0x02_f839,

@@ -28,9 +28,11 @@ const TRACE: &str = "\
 00164016000003000000020001000800020007004a4003020102
 data
 000a4027000004005040020040002b4006001000000001006d400100002e400b00002f40060002f8390001
+20050022000003000040020001000840020001001c400f000027400a0c1fc0a8000200000003
+0005003700000300000002000100080002000100100024000011001f0c0009200f80c0a8000100000002106202c101090403696d7305010a2d8001
 ";
 
-/// What they are: a message with an IE that is passed over, two that are refused, and one of each message; before the last one a
+/// What they are: a message with an IE that is passed over, two that are refused, and one of each message; before the last three a
 /// notice.
 const SHOWN: &str = "\
 line 7 UEContextReleaseComplete 2017000f000002000040020001000840020001
@@ -47,6 +49,8 @@ line 17 UEContextReleaseCommand 0017001000000200630004000100070002400122
 line 18 UEContextReleaseComplete 2017000f000002000040020001000840020007
 line 19 UECapabilityInfoIndication 00164016000003000000020001000800020007004a4003020102
 line 21 Paging 000a4027000004005040020040002b4006001000000001006d400100002e400b00002f40060002f8390001
+line 22 ErabSetupResponse 20050022000003000040020001000840020001001c400f000027400a0c1fc0a8000200000003
+line 23 ErabSetupRequest 0005003700000300000002000100080002000100100024000011001f0c0009200f80c0a8000100000002106202c101090403696d7305010a2d8001
 ";
 
 /// The line of a trace with that number and text, or a notice for `data`.
@@ -83,7 +87,7 @@ fn lines_are_shown(rt: HostRuntime) -> Result<(), Fail> {
 }
 
 /// The stages, in the order of their lines.
-const STAGES: [Stage; 16] = [
+const STAGES: [Stage; 18] = [
     Stage::Detached,
     Stage::AwaitVectors,
     Stage::Authenticating,
@@ -100,6 +104,8 @@ const STAGES: [Stage; 16] = [
     Stage::Releasing,
     Stage::Idle,
     Stage::AwaitDelete,
+    Stage::AwaitSecond,
+    Stage::AwaitSecondModify,
 ];
 
 /// The line of a session in each stage.
@@ -120,6 +126,8 @@ session await-release link off area 000000 0 bearer none radio 0
 session releasing link off area 000000 0 bearer none radio 0
 session idle link off area 000000 0 bearer none radio 0
 session await-delete link off area 000000 0 bearer none radio 0
+session await-second link off area 000000 0 bearer none radio 0
+session await-second-modify link off area 000000 0 bearer none radio 0
 ";
 
 /// What becomes of a device that sends nothing, but for its stage.
@@ -139,6 +147,7 @@ fn end_in(alloc: Global, stage: Stage) -> DeviceEnd
 }
 
 /// Tells the line of a session in that stage.
+#[tactic(auto, using(crate::proofs::Ends::one_end))]
 fn tell_stage(alloc: Global, text: &mut String, table: &SubsTable, stage: Stage) -> Result<(), Fail>
     requires { length table.now ≡ 1 }
 {
