@@ -8,7 +8,7 @@ from typing import Dict, Iterator, List, Optional, Tuple
 
 from .fields import explanation, fields_of
 from .learnt import NOT_IN_PROFILE
-from .messages import PAGING, elements_of
+from .messages import ACTIVATE_REQUEST, PAGING, PDN_REJECT, SESSION_NAMES, elements_of
 from .per import Broken
 from .values import ids_of
 
@@ -22,6 +22,9 @@ NEAR = 8  # so many messages of a device apart an answer is looked for, where it
 # The messages to devices that the profile has, by their names.
 OF_THE_PROFILE = ("Authentication request", "Authentication reject", "Security mode command", "Attach accept", "Attach reject", "Service reject")
 OF_THE_PROFILE += ("Detach accept", "Tracking area update accept", "Tracking area update reject", "InitialContextSetupRequest", "UEContextReleaseCommand", PAGING)
+
+# Those that it has, and no step of the machine makes.
+NOT_MADE = (SESSION_NAMES[ACTIVATE_REQUEST], SESSION_NAMES[PDN_REJECT])
 
 
 @dataclass(frozen=True)
@@ -198,6 +201,8 @@ class Compared:
     @staticmethod
     def _why_alone(mme: Sent, it: Exchange) -> str:
         """What of the profile explains that the MME alone sends a message."""
+        if mme.name in NOT_MADE:
+            return "the machine makes no second connection"
         if mme.name not in OF_THE_PROFILE:
             return f"the profile has no {mme.name}"
         if it.is_of_another_profile:

@@ -1,21 +1,21 @@
 """What a message to a device says, field by field, and which differences from the proved machine's the profile explains.
 
-Fields are of S1AP (TS 36.413, 9.1) and of the NAS message in it (TS 24.301, 8.2). Numbers of the connection are no fields: each MME has its own.
+Fields are of S1AP (TS 36.413, 9.1) and of the NAS message in it (TS 24.301, 8.2 and 8.3). Numbers of the connection are no fields: each MME has its own.
 """
 
 from __future__ import annotations
 
-from typing import Callable, Dict, Iterator, Tuple
+from typing import Callable, Dict, Iterator, Optional, Tuple
 
 from . import nas as types
-from .messages import elements_of, kind_of, name_of, nas_pdu_of
-from .nas import Nas, accepted, bearer_asked, nas_read
+from .messages import ACTIVATE_REQUEST, PDN_REJECT, elements_of, kind_of, name_of, nas_pdu_of
+from .nas import BearerAsked, Nas, accepted, bearer_asked, nas_read
 from .per import Broken
-from .values import AREAS, BEARERS, BIT_RATES, CAPABILITIES, CAUSE, DOMAIN, ENB_ID, INDEX, KEY, MME_ID, NAS_PDU, PAGING_ID, UE_IDS
-from .values import Bearer, areas_of, bearers_of, bit_rates, cause_of, paged_of
+from .values import ADDED_BEARERS, AREAS, BEARERS, BIT_RATES, CAPABILITIES, CAUSE, DOMAIN, ENB_ID, INDEX, KEY, MME_ID, NAS_PDU, PAGING_ID, UE_IDS
+from .values import Bearer, areas_of, asked_bearers, bit_rates, cause_of, paged_of
 
 Fields = Dict[str, str]
-NAMED = (MME_ID, ENB_ID, NAS_PDU, UE_IDS, CAUSE, BIT_RATES, BEARERS, CAPABILITIES, KEY, PAGING_ID, AREAS, INDEX, DOMAIN)
+NAMED = (MME_ID, ENB_ID, NAS_PDU, UE_IDS, CAUSE, BIT_RATES, BEARERS, ADDED_BEARERS, CAPABILITIES, KEY, PAGING_ID, AREAS, INDEX, DOMAIN)
 
 # What the profile has in place of what a network may send: by the names of fields.
 OF_THE_PROFILE: Dict[str, str] = {
@@ -65,12 +65,25 @@ def _accept(nas: Nas) -> Iterator[Tuple[str, str]]:
     yield "TAI list", told.areas.hex()
     yield "GUTI", told.options.get(types.GUTI_IEI, b"").hex()
     yield "options", " ".join(f"{number:02x}" for number in told.options if number != types.GUTI_IEI)
-    asked = bearer_asked(told.bearer)
+    yield from _bearer_asked(bearer_asked(told.bearer))
+
+
+def _bearer_asked(asked: Optional[BearerAsked]) -> Iterator[Tuple[str, str]]:
     if asked:
         first, _, labels = asked.name.partition(".")
         yield from (("bearer", str(asked.bearer)), ("transaction", str(asked.transaction)), ("quality", asked.quality.hex()))
         yield from (("access point name", first), ("access point labels", labels), ("address", asked.address.hex()))
         yield "options of the bearer", "some" if asked.has_more else ""
+
+
+def _activate(nas: Nas) -> Iterator[Tuple[str, str]]:
+    yield from _bearer_asked(bearer_asked(nas.plain))
+
+
+def _pdn_reject(nas: Nas) -> Iterator[Tuple[str, str]]:
+    yield "transaction", str(nas.plain[1])
+    yield "cause", str(nas.plain[3])
+    yield "options", nas.plain[4:].hex()
 
 
 def _cause_of_nas(nas: Nas) -> Iterator[Tuple[str, str]]:
@@ -85,6 +98,7 @@ NAS_FIELDS: Dict[int, Callable[[Nas], Iterator[Tuple[str, str]]]] = {
     types.UPDATE_ACCEPT: _accept,
     **{kind: _cause_of_nas for kind in types.REJECTS},
 }
+SESSION_FIELDS: Dict[int, Callable[[Nas], Iterator[Tuple[str, str]]]] = {ACTIVATE_REQUEST: _activate, PDN_REJECT: _pdn_reject}
 
 
 def _fields_of_nas(carried: bytes) -> Iterator[Tuple[str, str]]:
@@ -92,7 +106,7 @@ def _fields_of_nas(carried: bytes) -> Iterator[Tuple[str, str]]:
         return
     nas = nas_read(carried, None)
     yield "security header", str(carried[0] >> 4)
-    reader = NAS_FIELDS.get(nas.kind or 0)
+    reader = SESSION_FIELDS.get(nas.session_kind[1]) if nas.session_kind else NAS_FIELDS.get(nas.kind or 0)
     if reader is None:
         yield "octets", nas.plain.hex()
         return
@@ -130,8 +144,9 @@ def _fields_of_s1ap(elements: Dict[int, bytes]) -> Iterator[Tuple[str, str]]:
     if BIT_RATES in elements:
         down, up = bit_rates(elements[BIT_RATES])
         yield from (("rate down", str(down)), ("rate up", str(up)))
-    if BEARERS in elements:
-        yield from _fields_of_bearers(bearers_of(elements[BEARERS]))
+    bearers = asked_bearers(elements)
+    if bearers:
+        yield from _fields_of_bearers(bearers)
     if CAPABILITIES in elements:
         yield "algorithms", elements[CAPABILITIES].hex()
     if KEY in elements:

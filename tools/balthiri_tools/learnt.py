@@ -10,8 +10,8 @@ from .capture import Capture
 from .case_text import SUBSCRIBERS, TRACE
 from .command import Progress, counted
 from .devices import Device
-from .messages import SERVICE_REQUEST, SESSION_MANAGEMENT
-from .nas import guti_in, response_in, with_guti, with_response
+from .messages import ACTIVATE_ACCEPT, PDN_REQUEST, SERVICE_REQUEST
+from .nas import Nas, guti_in, response_in, with_guti, with_response
 from .network import BEGIN_MISSING, BEHIND_THE_END, OTHER_ID, RELEASED, UNNAMED, Heard, network_of
 from .notices import Rounds
 from .per import Broken, length_octets, number_octets
@@ -29,6 +29,14 @@ NOT_KNOWN = (BEGIN_MISSING, BEHIND_THE_END, OTHER_ID, UNNAMED, LEFT, CIPHERED, N
 
 # The types of the NAS messages of a device that the program takes.
 TAKEN = (0x41, 0x43, 0x45, 0x48, 0x53, 0x5E, 0x5F, SERVICE_REQUEST)
+SECOND_BEARER = 6  # of the session management of a device the program takes a request, and an accept for this bearer
+
+
+def _is_of_profile(nas: Nas) -> bool:
+    """Whether the program takes the message, where there is one and its type is there."""
+    if nas.session_kind:
+        return nas.session_kind[1] == PDN_REQUEST or nas.session_kind == (SECOND_BEARER, ACTIVATE_ACCEPT)
+    return nas.kind is None or nas.kind in TAKEN
 
 
 @dataclass
@@ -114,8 +122,7 @@ class _Lines:
             return LEFT
         if it.nas.is_ciphered:
             return CIPHERED
-        is_other = it.nas.kind is not None and it.nas.kind not in TAKEN or it.nas.plain[:1] and it.nas.plain[0] & 15 == SESSION_MANAGEMENT
-        return NOT_IN_PROFILE if is_other else ""
+        return "" if _is_of_profile(it.nas) else NOT_IN_PROFILE
 
     def _bind(self, it: Heard) -> None:
         """A connection is its device's until it is released, another device begins one with its number, or the device begins another one."""

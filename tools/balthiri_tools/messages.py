@@ -10,19 +10,20 @@ from typing import Dict, Optional, Tuple
 
 from .case_text import TraceLine
 from .per import Broken
-from .values import BEARERS, NAS_PDU, S_TMSI, bearers_of, ids_of
+from .values import NAS_PDU, S_TMSI, asked_bearers, ids_of
 
 PAGING = "Paging"
 DATA_WAITS = "Downlink data notification"  # how a notice of the gateway is called (TS 29.274, 7.2.11)
 SERVICE_REQUEST = 0xC7
-SESSION_MANAGEMENT = 2  # the protocol discriminator of ESM
+EMM, SESSION_MANAGEMENT = 7, 2  # the protocol discriminators
+ACTIVATE_REQUEST, ACTIVATE_ACCEPT, PDN_REQUEST, PDN_REJECT = 0xC1, 0xC2, 0xD0, 0xD1
 PROTECTED = (0x17, 0x27, 0x37, 0x47)  # the first octets of NAS messages behind a code of authentication and a number
 PROTECTION = 6  # octets of the header that protects
 
 
 @dataclass(frozen=True)
 class Kind:
-    """One of the eleven messages, and whether a base station sends it."""
+    """One of the thirteen messages, and whether a base station sends it."""
 
     name: str
     is_up: bool
@@ -41,6 +42,8 @@ KINDS: Dict[Tuple[int, int], Kind] = {
     (0x20, 23): Kind("UEContextReleaseComplete", True),
     (0x00, 22): Kind("UECapabilityInfoIndication", True),
     (0x00, 10): Kind(PAGING, False),
+    (0x00, 5): Kind("ErabSetupRequest", False),
+    (0x20, 5): Kind("ErabSetupResponse", True),
 }
 
 NAS_NAMES: Dict[int, str] = {
@@ -74,6 +77,33 @@ NAS_NAMES: Dict[int, str] = {
     0x63: "Uplink NAS transport",
 }
 
+# Messages of session management (TS 24.301, table 9.8.2), by their third octet.
+SESSION_NAMES: Dict[int, str] = {
+    ACTIVATE_REQUEST: "Activate default EPS bearer context request",
+    ACTIVATE_ACCEPT: "Activate default EPS bearer context accept",
+    0xC3: "Activate default EPS bearer context reject",
+    0xC5: "Activate dedicated EPS bearer context request",
+    0xC6: "Activate dedicated EPS bearer context accept",
+    0xC7: "Activate dedicated EPS bearer context reject",
+    0xC9: "Modify EPS bearer context request",
+    0xCA: "Modify EPS bearer context accept",
+    0xCB: "Modify EPS bearer context reject",
+    0xCD: "Deactivate EPS bearer context request",
+    0xCE: "Deactivate EPS bearer context accept",
+    PDN_REQUEST: "PDN connectivity request",
+    PDN_REJECT: "PDN connectivity reject",
+    0xD2: "PDN disconnect request",
+    0xD3: "PDN disconnect reject",
+    0xD4: "Bearer resource allocation request",
+    0xD5: "Bearer resource allocation reject",
+    0xD6: "Bearer resource modification request",
+    0xD7: "Bearer resource modification reject",
+    0xD9: "ESM information request",
+    0xDA: "ESM information response",
+    0xDB: "Notification",
+    0xE8: "ESM status",
+}
+
 
 @dataclass(frozen=True)
 class Identity:
@@ -85,7 +115,7 @@ class Identity:
 
 
 def kind_of(message: bytes) -> Optional[Kind]:
-    """Which of the eleven messages the first two octets begin, if any."""
+    """Which of the thirteen messages the first two octets begin, if any."""
     return KINDS.get((message[0], message[1])) if len(message) >= 2 else None
 
 
@@ -119,10 +149,10 @@ def _mme_id(elements: Dict[int, bytes]) -> Optional[int]:
         return None
 
 
-def _nas_of_bearer(value: bytes) -> bytes:
+def _nas_of_bearers(elements: Dict[int, bytes]) -> bytes:
     """The first NAS-PDU of the bearers that the MME asks for."""
     try:
-        return next((it.nas for it in bearers_of(value) if it.nas), b"")
+        return next((it.nas for it in asked_bearers(elements) if it.nas), b"")
     except Broken:
         return b""
 
@@ -131,7 +161,7 @@ def nas_pdu_of(elements: Dict[int, bytes]) -> bytes:
     """The NAS message of a NAS-PDU as it is carried; empty where there is none."""
     value = elements.get(NAS_PDU)
     if not value:
-        return _nas_of_bearer(elements.get(BEARERS, b""))
+        return _nas_of_bearers(elements)
     length, at = length_at(value + b"\0", 0)
     return value[at : at + length]
 
@@ -153,7 +183,7 @@ def imsi_of(identity: bytes) -> str:
 
 def identity_of_nas(nas: bytes) -> Identity:
     """The EPS mobile identity behind the third octet (TS 24.301, 9.9.3.12)."""
-    if len(nas) < 4 or nas[1] not in (0x41, 0x45, 0x48):
+    if len(nas) < 4 or nas[0] != EMM or nas[1] not in (0x41, 0x45, 0x48):
         return Identity()
     identity = nas[4 : 4 + nas[3]]
     if len(identity) == 8 and identity[0] & 0x0F == 0x09:
@@ -184,7 +214,7 @@ def name_of(message: bytes) -> str:
     if nas[:1] == bytes([SERVICE_REQUEST]):
         return "Service request"
     if nas[:1] and nas[0] & 15 == SESSION_MANAGEMENT:
-        return "ESM message"
+        return SESSION_NAMES.get(nas[2], kind.name) if len(nas) >= 3 else kind.name
     return NAS_NAMES.get(nas[1], kind.name) if len(nas) >= 2 else kind.name
 
 

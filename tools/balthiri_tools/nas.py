@@ -5,14 +5,13 @@ from __future__ import annotations
 from dataclasses import dataclass
 from typing import Dict, Iterator, Optional, Tuple
 
-from .messages import NAS_NAMES, SERVICE_REQUEST, SESSION_MANAGEMENT, identity_of_nas, imsi_of, without_protection
+from .messages import ACTIVATE_REQUEST, EMM, NAS_NAMES, SERVICE_REQUEST, SESSION_MANAGEMENT, identity_of_nas, imsi_of, without_protection
 
 ATTACH_REQUEST, ATTACH_ACCEPT, DETACH_REQUEST, UPDATE_REQUEST, UPDATE_ACCEPT = 0x41, 0x42, 0x45, 0x48, 0x49
 AUTHENTICATION_REQUEST, AUTHENTICATION_RESPONSE, AUTHENTICATION_REJECT = 0x52, 0x53, 0x54
 IDENTITY_RESPONSE, SECURITY_MODE_COMMAND = 0x56, 0x5D
 REJECTS = (0x44, 0x4B, 0x4E)  # of an attach, of an update of the area, of a service
 AREA_NOT_ALLOWED = 12
-EMM = 7  # the protocol discriminator
 CIPHERED = (0x27, 0x47)  # the first octets of messages that are ciphered with the algorithm in use
 GUTI_IEI = 0x50
 
@@ -33,6 +32,11 @@ class Nas:
         if self.plain[:1] == bytes([SERVICE_REQUEST]):
             return SERVICE_REQUEST
         return self.plain[1] if len(self.plain) > 1 and self.plain[0] == EMM else None
+
+    @property
+    def session_kind(self) -> Optional[Tuple[int, int]]:
+        """The bearer identity and the message type (9.3.2, 9.8), where it is a message of session management that can be read."""
+        return (self.plain[0] >> 4, self.plain[2]) if len(self.plain) > 2 and self.plain[0] & 15 == SESSION_MANAGEMENT else None
 
     @property
     def is_ciphered(self) -> bool:
@@ -151,8 +155,8 @@ class BearerAsked:
 
 
 def bearer_asked(octets: bytes) -> Optional[BearerAsked]:
-    """The request in an ATTACH ACCEPT; none where it is another message, or breaks off."""
-    if len(octets) < 4 or octets[0] & 15 != SESSION_MANAGEMENT or octets[2] != 0xC1:
+    """The request, by itself or in an ATTACH ACCEPT; none where it is another message, or breaks off."""
+    if len(octets) < 4 or octets[0] & 15 != SESSION_MANAGEMENT or octets[2] != ACTIVATE_REQUEST:
         return None
     values, at = [], 3
     for _ in range(3):

@@ -12,7 +12,7 @@ from . import nas as types
 from .command import Progress
 from .devices import Device, Devices, Guti, Vector
 from .messages import SERVICE_REQUEST, Kind, elements_of, kind_of, name_of, nas_pdu_of
-from .nas import Nas, accepted, bearer_asked, guti_in, imsi_in, nas_read, response_in
+from .nas import BearerAsked, Nas, accepted, bearer_asked, guti_in, imsi_in, nas_read, response_in
 from .notices import paged_by
 from .per import Broken
 from .sctp import Captured, Key
@@ -153,11 +153,8 @@ class Network:
         told = accepted(it.nas)
         if told and told.guti:
             self.devices.give(device, told.guti, frame)
-        asked = bearer_asked(told.bearer) if told else None
-        if asked:
-            device.learn("apn", asked.name, frame)
-            if len(asked.address) == 4:
-                device.learn("ip", asked.address.hex(), frame)
+        _learn_connection(bearer_asked(told.bearer) if told else None, "apn", "ip", device, frame)
+        _learn_connection(bearer_asked(it.nas.plain), "apn2", "ip2", device, frame)
         if it.nas.kind in types.REJECTS and it.nas.plain[2:3] == bytes([types.AREA_NOT_ALLOWED]):
             device.forbidden.setdefault(connection.area, frame)
 
@@ -211,6 +208,14 @@ def _learn_context(elements: Elements, device: Device, frame: str) -> None:
     if len(bearer.address) in (4, 20):
         device.learn("sgw", bearer.address[:4].hex(), frame)
     device.learn("teid", bearer.teid, frame)
+
+
+def _learn_connection(asked: Optional[BearerAsked], name: str, address: str, device: Device, frame: str) -> None:
+    """What the request of a default bearer tells of a PDN connection, by the names of its columns."""
+    if asked:
+        device.learn(name, asked.name, frame)
+        if len(asked.address) == 4:
+            device.learn(address, asked.address.hex(), frame)
 
 
 def network_of(messages: "list[Captured]", known: Dict[int, str], progress: Progress) -> Network:

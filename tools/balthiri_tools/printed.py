@@ -53,7 +53,7 @@ ANSWER = re.compile(
 REFUSED_LINE = re.compile(r"refused ([1-9][0-9]*) ([0-9]+ [A-Za-z]+.*)")
 DEVICE = re.compile(r"device ([0-9]{15}) messages ([0-9]+) steps [0-9]+")
 DOWN = re.compile(r"down ([1-9][0-9]*) (0|[1-9][0-9]*) ((?:[0-9a-f]{2})+)")
-CALL = re.compile(r"(gateway|subscriber) ([1-9][0-9]*) ([a-z]+(?: [0-9a-f]{8} [0-9]+)?)")
+CALL = re.compile(r"(gateway|subscriber) ([1-9][0-9]*) ([a-z-]+(?: [0-9a-f]{8} [0-9]+)?)")
 
 
 def _read_line(printed: Printed, text: str) -> bool:

@@ -12,7 +12,8 @@ from .command import BadInput
 from .devices import Device
 from .values import MOST_BIT_RATE
 
-COLUMNS = ("imsi", "tmsi", "rand", "autn", "res", "key", "apn", "ip", "sgw", "teid", "ambr_dl", "ambr_ul", "forbidden")
+NEEDED_COLUMNS = ("imsi", "tmsi", "rand", "autn", "res", "key", "apn", "ip", "sgw", "teid", "ambr_dl", "ambr_ul", "forbidden")
+COLUMNS = (*NEEDED_COLUMNS, "apn2", "ip2")  # of a second PDN connection a row need not tell
 MOST_ROWS = 4096
 MOST_AREAS = 16
 TEST_NETWORK = "00101"  # of IMSIs that are made up
@@ -70,7 +71,7 @@ class Table:
         values = {**self._made_up(number, told), **told}
         self._tmsis.add(values["tmsi"])
         self._imsis.add(values["imsi"])
-        lines = [f"# {_origin(device, told)}", json.dumps({it: values[it] for it in COLUMNS}, separators=(",", ":"))]
+        lines = [f"# {_origin(device, told)}", json.dumps({it: values[it] for it in COLUMNS if it in values}, separators=(",", ":"))]
         row = Row(number, str(values["imsi"]), int(str(values["tmsi"])), bytes.fromhex(str(values["res"])), lines, True, "imsi" in told)
         self.rows.append(row)
         return row
@@ -107,11 +108,12 @@ def rows_known(given: bytes) -> List[Row]:
 
 
 def _told(device: Device) -> Dict[str, Value]:
-    """What the capture tells, where a row takes it: of an access point name its first label."""
+    """What the capture tells, where a row takes it: of each access point name its first label."""
     told: Dict[str, Value] = {name: it.value for name, it in device.columns.items()}
-    label = str(told.pop("apn", "")).split(".")[0].lower()
-    if re.fullmatch(r"[a-z0-9]{1,30}", label):
-        told["apn"] = label
+    for it in ("apn", "apn2"):
+        label = str(told.pop(it, "")).split(".")[0].lower()
+        if re.fullmatch(r"[a-z0-9]{1,30}", label):
+            told[it] = label
     if not 1 <= int(str(told.get("teid", 0))) <= LAST_TEID:
         told.pop("teid", None)
     for it in ("ambr_dl", "ambr_ul"):
@@ -143,5 +145,5 @@ def _origin(device: Device, told: Dict[str, Value]) -> str:
         if it in told:
             by_frame.setdefault(_frame(device, it), []).append(it)
     learnt = ", ".join(f"{' '.join(names)} from frame {frame}" for frame, names in by_frame.items())
-    made = " ".join(it for it in COLUMNS if it not in told and it != "forbidden")
+    made = " ".join(it for it in NEEDED_COLUMNS if it not in told and it != "forbidden")
     return f"learnt: {learnt or 'nothing'}; made up: {made or 'nothing'}"

@@ -16,7 +16,7 @@ from .printed import Down, Final, Printed
 from .program import Program
 
 # Of the calls that one message makes, a call of an earlier name comes first.
-ORDER_OF_CALLS = ("vectors", "location", "create", "modify", "release", "delete", "purge")
+ORDER_OF_CALLS = ("vectors", "location", "create", "second-create", "modify", "second-modify", "release", "delete", "purge")
 PURGE = "purge"  # the one call whose answer no step awaits
 
 

@@ -9,6 +9,7 @@ from .per import Broken, Reader, length_octets
 
 MME_ID, CAUSE, ENB_ID, NAS_PDU, BIT_RATES, TAI, S_TMSI = 0, 2, 8, 26, 66, 67, 96
 BEARERS, KEY, UE_IDS, CAPABILITIES = 24, 73, 99, 107
+ADDED_BEARERS = 16
 PAGING_ID, AREAS, INDEX, DOMAIN = 43, 46, 80, 109
 MOST_BIT_RATE = 10000000000
 MOST_MME_ID, MOST_ENB_ID = 2**32 - 1, 2**24 - 1
@@ -62,7 +63,7 @@ def joined(message: bytes, elements: List[Element]) -> bytes:
 
 @dataclass(frozen=True)
 class Bearer:
-    """An E-RAB to be set up (9.1.4.1): its id, its quality and priority, the gateway's address and tunnel, the NAS message that goes with it."""
+    """An E-RAB to be set up (9.1.3.1, 9.1.4.1): its id, its quality and priority, the gateway's address and tunnel, the NAS message that goes with it."""
 
     number: int
     qci: int
@@ -72,10 +73,11 @@ class Bearer:
     nas: bytes
 
 
-def _bearer(value: bytes) -> Bearer:
+def _bearer(value: bytes, is_added: bool) -> Bearer:
+    """An item of a list. One that is added to a context always has a NAS message, and no bit that says so."""
     read = Reader(value)
     read.root()
-    has_nas, _ = read.bits(1), read.bits(1)
+    has_nas, _ = is_added or read.bits(1), read.bits(1)
     read.root()
     number = read.bits(4)
     read.root()
@@ -106,14 +108,20 @@ def _guaranteed(read: Reader) -> None:
         read.extensions()
 
 
-def bearers_of(value: bytes) -> List[Bearer]:
-    """The E-RABs that are to be set up, of their list's value."""
+def bearers_of(value: bytes, is_added: bool = False) -> List[Bearer]:
+    """The E-RABs of a list's value, which are to be set up with a context, or added to one."""
     read = Reader(value)
     bearers = []
     for _ in range(read.octets(1)[0] + 1):
         read.octets(3)
-        bearers.append(_bearer(read.octets(read.length())))
+        bearers.append(_bearer(read.octets(read.length()), is_added))
     return bearers
+
+
+def asked_bearers(elements: Dict[int, bytes]) -> List[Bearer]:
+    """The E-RABs that a message asks for."""
+    lists = ((BEARERS, False), (ADDED_BEARERS, True))
+    return [it for number, is_added in lists if number in elements for it in bearers_of(elements[number], is_added)]
 
 
 def bit_rates(value: bytes) -> Tuple[int, int]:

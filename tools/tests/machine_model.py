@@ -15,6 +15,7 @@ SETTLED = ("detached", "authenticating", "securing", "accepting", "accepting-con
 ATTACHING = ("authenticating", "securing", "accepting", "accepting-context", "accepting-done")
 NORMAL, FAILED, DETACH, UNSPECIFIED = (bytes([0x20 | cause << 1]) for cause in range(4))  # NAS causes as they are written
 UP = {(0, 12): "first", (0, 13): "later", (0x20, 9): "done", (0x40, 9): "failed", (0, 18): "asked", (0x20, 23): "released", (0, 22): "capability"}
+UP[0x20, 5] = "second"
 
 
 class Refused(Exception):
@@ -78,6 +79,8 @@ def nas_said(said: Input, nas: bytes, kinds: Tuple[int, ...]) -> Optional[object
     if nas[0] == 0xC7:
         said.kind = "service"
         return None
+    if nas[0] % 16 == 2:
+        return session_said(said, nas, 0x53 in kinds)
     if nas[0] != 7:
         raise Refused("16 NasDiscriminator")
     kind = nas[1]
@@ -98,6 +101,14 @@ def nas_said(said: Input, nas: bytes, kinds: Tuple[int, ...]) -> Optional[object
     if len(identity) == 11 and identity[0] == 0xF6:
         return int.from_bytes(identity[7:], "big")
     raise Refused("18 NasIdentity")
+
+
+def session_said(said: Input, nas: bytes, is_later: bool) -> None:
+    """A message of session management: of a second connection, of which the machine makes nothing."""
+    kind = nas[2]
+    if not is_later or kind != 0xD0 and (nas[0] >> 4, kind) != (6, 0xC2):
+        raise Refused(f"17 NasKind {kind:02x}")
+    said.kind = "second"
 
 
 class Machine:
@@ -264,6 +275,9 @@ class Machine:
     def take_released(self, _: Input) -> None:
         if self.stage == "releasing":
             self.link, self.stage = None, "idle" if self.registered else "detached"
+
+    def take_second(self, _: Input) -> None:
+        pass
 
     def take_capability(self, it: Input) -> None:
         self.radio = it.octets

@@ -73,10 +73,10 @@ class Messages(unittest.TestCase):
                 name_of(octets[:length])
 
     def test_who_sends_a_message(self) -> None:
-        kinds = {it: kind_of(bytes.fromhex(it)) for it in ("000c", "000d", "000b", "0009", "2009", "4009", "0012", "0017", "2017", "0016")}
-        self.assertEqual([it for it, kind in kinds.items() if kind and not kind.is_up], ["000b", "0009", "0017"])
+        kinds = {it: kind_of(bytes.fromhex(it)) for it in ("000c", "000d", "000b", "0009", "2009", "4009", "0012", "0017", "2017", "0016", "000a", "0005", "2005")}
+        self.assertEqual([it for it, kind in kinds.items() if kind and not kind.is_up], ["000b", "0009", "0017", "000a", "0005"])
         self.assertNotIn(None, kinds.values())
-        for it in ("0011", "200c", "800c", "010c", "00", ""):
+        for it in ("0011", "4005", "200c", "800c", "010c", "00", ""):
             self.assertIsNone(kind_of(bytes.fromhex(it)))
 
 
