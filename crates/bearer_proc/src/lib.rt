@@ -2,7 +2,7 @@
 #![tactic(auto)]
 
 ghost use Rattle.std.specs.Prelude.{◌≡◌, [], ◌∷◌, IfOk};
-ghost use Rattle.device_types.specs.Acts.{made, behind, station_of, enb_of, nas_to, told, setup, page, release, releases, left_behind, moves_connection, drops_ue, frees_bearers};
+ghost use Rattle.device_types.specs.Acts.{made, behind, station_of, enb_of, nas_to, told, setup, second_setup, page, release, releases, left_behind, moves_connection, drops_ue, frees_bearers};
 
 use device_types::{
     Accept, Bearer, CauseCode, Down, Effect, Effects, GwCall, Link, NasOut, Session, Stage, Step,
@@ -93,6 +93,21 @@ pub fn context_setup(session: &Session, accept: Accept) -> Result<Effect, AllocE
         key: session.key.copy()?,
         accept,
     }))
+}
+
+/// The setup of the second bearer, on the session's S1 connection (TS 23.401, 5.10.2, step 7).
+pub fn second_setup(session: &Session) -> Effect
+    ensures { result ≡ second_setup session.now }
+{
+    let (station, enb) = receiver(session);
+    Effect::Down(Down::Erab {
+        station,
+        enb,
+        sgw: session.sgw2,
+        teid: session.teid2,
+        pti: session.pti2,
+        ip: session.ip2,
+    })
 }
 
 /// The paging of the device in its tracking area (TS 23.401, 5.3.4.3, step 3).

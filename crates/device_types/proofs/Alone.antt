@@ -1,5 +1,5 @@
 -- Alone, entry by entry: what comes next is decided by the stage; it ends; each message is taken.
-use Rattle.std.proofs.Common.{◌≡◌, ℕ, zero, suc, ◌≤◌, ◌<◌, ◌+◌, ◌*◌, ◌-◌, ◌⊎◌, inl, inr, ⊎_elim, true, false, cond, List, [], ◌∷◌, ◌++◌, length, Option, Some, None, lit≤, lit<, refl, sym, ap, ◌∙◌, subst, arith, rules, add-zero, add-suc}
+use Rattle.std.proofs.Common.{◌≡◌, ℕ, zero, suc, ◌≤◌, ◌<◌, ◌+◌, ◌*◌, ◌-◌, ◌⊎◌, inl, inr, ⊎_elim, Bool, true, false, cond, List, [], ◌∷◌, ◌++◌, length, Option, Some, None, lit≤, lit<, refl, sym, ap, ◌∙◌, subst, arith, rules, add-zero, add-suc}
 use Rattle.std.specs.Prelude.{filter, option_map, position, slice_get}
 use Rattle.std.proofs.Math.Seq.{take-length}
 use Rattle.std.proofs.lemmas.Grind.{common_steps}
@@ -10,10 +10,11 @@ use Rattle.device_types.specs.declared.effect.GwCall.TheVariants as gateway
 use Rattle.device_types.specs.declared.effect.SubCall.TheVariants as subscriber
 use Rattle.device_types.specs.declared.event.Lane.{Lane}
 use Rattle.device_types.specs.declared.event.Lane.TheVariants as lanes
-use Rattle.device_types.specs.declared.input.Answer.TheVariants as answers
 use Rattle.device_types.specs.declared.input.Input.{Input}
 use Rattle.device_types.specs.declared.input.Input.TheVariants as inputs
 use Rattle.device_types.specs.declared.message.Message.{Message}
+use Rattle.device_types.specs.declared.session.Second.{Second}
+use Rattle.device_types.specs.declared.session.Second.TheVariants as seconds
 use Rattle.device_types.specs.declared.session.Session.{Session}
 use Rattle.device_types.specs.declared.session.Stage.{Stage}
 use Rattle.device_types.specs.declared.session.Stage.TheVariants as stages
@@ -23,12 +24,11 @@ use Rattle.device_types.specs.Alone.{input_at, next_input, entry_of, next_entry,
 use Rattle.device_types.specs.Awaited.{awaited_in, awaited_by, lane_of}
 use Rattle.device_types.specs.Journal.{session_of, effects_on, effects_of, pushed_count, is_message, taken_count, is_awaited, awaited_behind, awaited_call}
 use Rattle.device_types.specs.PeerAnswer.{create_count, answer_to, answer_of}
-use Rattle.device_types.specs.Rule.{number, is_settled}
+use Rattle.device_types.specs.Rule.{is_settled}
 use Rattle.device_types.specs.StepTable.{step_table, step_of}
 use Rattle.device_types.proofs.Calls.{is_peer, AreCalls, CallsAsStage, settled_calls}
 use Rattle.device_types.proofs.Journals.{session_more, effects_more, pushed_more, taken_more, awaited_more}
 use Rattle.device_types.proofs.Peers.{creates_append, answer_more}
-use Rattle.device_types.proofs.Single.{IsSingle, keeps_single, single_opening}
 
 -- ---- the calls of a step, by lane
 
@@ -120,7 +120,6 @@ pub record Fine (row : Subscriber) (J : List Entry) : Type 0 where
   pub awaiting : awaited_call J ≡ awaits J (awaited_by (session_of J))
   pub answering : Answerable row J (awaited_by (session_of J))
   pub creating : create_count (effects_of lanes.Gateway J) ≡ created_count J + create_count (awaited_by (session_of J))
-  pub single : IsSingle (session_of J)
 
 -- the answer to the one call of a new entry
 answer_at : (row : Subscriber) (J : List Entry) (e : Entry) (lane : Lane) (c : Effect) → effects_on lane e.step.effects ≡ c ∷ [] → answer_of row (effects_of lane (J ++ e ∷ [])) ≡ answer_to row (create_count (effects_of lane J)) c
@@ -137,8 +136,8 @@ answerable_at row J e stages.AwaitSecond s n h = answer_at row J e lanes.Gateway
 answerable_at row J e stages.AwaitSecondModify s n h = answer_at row J e lanes.Gateway (effects.Gateway (gateway.SecondModify s.side2_addr s.side2_teid)) (gateway_of e.step.effects (effects.Gateway (gateway.SecondModify s.side2_addr s.side2_teid) ∷ []) h)
 answerable_at row J e _ s n h = tt
 
-fine_more : (row : Subscriber) (J : List Entry) (e : Entry) → Fine row J → CallsAsStage e.step → cond (is_created e.input) 1 0 ≡ create_count (awaited_by (session_of J)) → IsSingle e.step.session → Fine row (J ++ e ∷ [])
-fine_more row J e f c n single =
+fine_more : (row : Subscriber) (J : List Entry) (e : Entry) → Fine row J → CallsAsStage e.step → cond (is_created e.input) 1 0 ≡ create_count (awaited_by (session_of J)) → Fine row (J ++ e ∷ [])
+fine_more row J e f c n =
     let s = e.step.session in
     let count : create_count (effects_of lanes.Gateway J) ≡ created_count (J ++ e ∷ []) = f.creating ∙ ap (λ m. created_count J + m) (sym n) ∙ sym (created_more J e) in
     let stage : awaited_by (session_of (J ++ e ∷ [])) ≡ awaited_by s = ap awaited_by (session_more J e) in
@@ -152,7 +151,6 @@ fine_more row J e f c n single =
           c);
       creating = made ∙ ap (λ m. m + create_count (effects_on lanes.Gateway e.step.effects)) count
           ∙ ap (λ m. created_count (J ++ e ∷ []) + m) (creates_of s e.step.effects c ∙ sym (ap create_count stage));
-      single = subst (λ (t : Session). IsSingle t) (sym (session_more J e)) single;
     }
 
 -- ---- an answer to the call of the stage
@@ -162,7 +160,7 @@ abbrev pub rank : Stage → ℕ
 rank stages.AwaitVectors = 1
 rank stages.AwaitLocation = 2
 rank stages.AwaitCreate = 1
-rank stages.AwaitModify = 1
+rank stages.AwaitModify = 2
 rank stages.AwaitRelease = 1
 rank stages.AwaitDelete = 1
 rank stages.AwaitSecond = 1
@@ -174,18 +172,26 @@ Answered row s l k n [] = Unit {0}
 Answered row s l k n (c ∷ cs) =
     CallsAsStage (step_of row s (inputs.Answer l k (answer_to row n c))) × (rank (step_of row s (inputs.Answer l k (answer_to row n c))).session.stage < rank s.stage)
 
-answered_at : (row : Subscriber) (s : Session) (l : Lane) (k n : ℕ) (stage : Stage) → number stage < 16 → Answered row (record s { stage = stage }) l k n (awaited_by (record s { stage = stage }))
+-- whatever the session has of a second connection, and whether the device waits for an answer to its detach
+answered_at : (row : Subscriber) (s : Session) (l : Lane) (k n : ℕ) (stage : Stage) (second : Second) (off : Bool) → Answered row (record s { stage = stage; second = second; off = off }) l k n (awaited_by (record s { stage = stage; second = second; off = off }))
 unfolding step_table step_of
-answered_at row s l k n stages.AwaitVectors low = (inl refl, lit< tt)
-answered_at row s l k n stages.AwaitLocation low = (inl refl, lit< tt)
-answered_at row s l k n stages.AwaitCreate low = (inl refl, lit< tt)
-answered_at row s l k n stages.AwaitModify low = (inl refl, lit< tt)
-answered_at row s l k n stages.AwaitRelease low = (inl refl, lit< tt)
-answered_at row s l k n stages.AwaitSecond low = absurd (omega arith)
-answered_at row s l k n stages.AwaitSecondModify low = absurd (omega arith)
-answered_at row s l k n stages.AwaitDelete low =
-    (elim s.off as (λ off. CallsAsStage (step_of row (record s { stage = stages.AwaitDelete; off = off }) (inputs.Answer l k answers.Deleted))) [ true ↦ inr (refl, refl) | false ↦ inr (refl, refl) ], lit< tt)
-answered_at row s l k n _ low = tt
+answered_at row s l k n stages.AwaitVectors seconds.None off = (inl refl, lit< tt)
+answered_at row s l k n stages.AwaitVectors _ off = (inl refl, lit< tt)
+answered_at row s l k n stages.AwaitLocation seconds.None off = (inl refl, lit< tt)
+answered_at row s l k n stages.AwaitLocation _ off = (inl refl, lit< tt)
+answered_at row s l k n stages.AwaitCreate seconds.None off = (inl refl, lit< tt)
+answered_at row s l k n stages.AwaitCreate _ off = (inl refl, lit< tt)
+answered_at row s l k n stages.AwaitModify seconds.None off = (inl refl, lit< tt)
+answered_at row s l k n stages.AwaitModify _ off = (inl refl, lit< tt)
+answered_at row s l k n stages.AwaitRelease seconds.None off = (inl refl, lit< tt)
+answered_at row s l k n stages.AwaitRelease _ off = (inl refl, lit< tt)
+answered_at row s l k n stages.AwaitDelete seconds.None true = (inr (refl, refl), lit< tt)
+answered_at row s l k n stages.AwaitDelete seconds.None false = (inr (refl, refl), lit< tt)
+answered_at row s l k n stages.AwaitDelete _ true = (inr (refl, refl), lit< tt)
+answered_at row s l k n stages.AwaitDelete _ false = (inr (refl, refl), lit< tt)
+answered_at row s l k n stages.AwaitSecond second off = (inl refl, lit< tt)
+answered_at row s l k n stages.AwaitSecondModify second off = (inl refl, lit< tt)
+answered_at row s l k n _ second off = tt
 
 created_at : (row : Subscriber) (l : Lane) (k n : ℕ) (stage : Stage) (s : Session) (c : Effect) (cs : List Effect) → awaited_in stage s ≡ c ∷ cs → cond (is_created (inputs.Answer l k (answer_to row n c))) 1 0 ≡ create_count (awaited_in stage s)
 created_at row l k n stages.AwaitVectors s c cs h = let e : c ≡ effects.Subscriber subscriber.Vectors = cc in rw e refl
@@ -284,7 +290,7 @@ taking row ms J (Some m) input g e h f =
     let is : inputs.Message m ≡ input = cc in
     let none : cond (is_created (inputs.Message m)) 1 0 ≡ create_count (awaited_by s) = sym (ap create_count h) in
     subst (λ (i : Input). Next row ms J i) is (
-      fine_more row J (entry_of row J (inputs.Message m)) f (settled_calls row s (inputs.Message m) settles) none (keeps_single row s (inputs.Message m) f.single),
+      fine_more row J (entry_of row J (inputs.Message m)) f (settled_calls row s (inputs.Message m) settles) none,
       inl (record {
         message = refl;
         calm = f.awaiting ∙ ap (awaits J) h;
@@ -303,10 +309,10 @@ turn_by row ms J (c ∷ cs) input h g f =
     let i = inputs.Answer l k (answer_to row (created_count J) c) in
     let e = entry_of row J i in
     let is : i ≡ input = cc in
-    let a = subst (λ (xs : List Effect). Answered row s l k (created_count J) xs) h (answered_at row s l k (created_count J) s.stage f.single.1) in
+    let a = subst (λ (xs : List Effect). Answered row s l k (created_count J) xs) h (answered_at row s l k (created_count J) s.stage s.second s.off) in
     let lower = a.1 in
     subst (λ (x : Input). Next row ms J x) is (
-      fine_more row J e f a.0 (created_at row l k (created_count J) s.stage s c cs h) (keeps_single row s i f.single),
+      fine_more row J e f a.0 (created_at row l k (created_count J) s.stage s c cs h),
       inr (record {
         answer = refl;
         lower = subst (λ (t : Session). rank t.stage < rank s.stage) (sym (session_more J e)) lower;
@@ -321,7 +327,7 @@ fine_with row ms J None n f = f
 fine_with row ms J (Some input) n f = (turn row ms J input n f).0
 
 pub fine_alone : (row : Subscriber) (ms : List Message) (v : ℕ) → Fine row (alone_to row ms v)
-fine_alone row ms zero = record { awaiting = refl; answering = tt; creating = refl; single = single_opening }
+fine_alone row ms zero = record { awaiting = refl; answering = tt; creating = refl }
 fine_alone row ms (suc v) = fine_with row ms (alone_to row ms v) (next_input row ms (alone_to row ms v)) refl (fine_alone row ms v)
 
 -- ---- no entry is left at the end

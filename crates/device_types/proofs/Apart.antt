@@ -1,9 +1,11 @@
--- No two rows of the step table fit.
+-- No two rows fit, of the step table and of a second connection.
 use Rattle.std.proofs.Common.{◌==◌, ◌++◌, ℕ, ◌≤◌, Bool, true, false, not, ◌&&◌, ◌||◌, List, [], ◌∷◌, lit≤}
 use Rattle.std.specs.List.{count_by}
 use Rattle.std.specs.Str.{bytes_eq}
 use Rattle.device_types.specs.declared.subscriber.Subscriber.{Subscriber}
 use Rattle.device_types.specs.declared.session.Session.{Session}
+use Rattle.device_types.specs.declared.session.Second.{Second}
+use Rattle.device_types.specs.declared.session.Second.TheVariants as seconds
 use Rattle.device_types.specs.declared.session.Stage.{Stage}
 use Rattle.device_types.specs.declared.session.Stage.TheVariants as stages
 use Rattle.device_types.specs.declared.message.Message.{Message}
@@ -14,6 +16,7 @@ use Rattle.device_types.specs.declared.input.Answer.TheVariants as answers
 use Rattle.device_types.specs.declared.input.Input.{Input}
 use Rattle.device_types.specs.declared.input.Input.TheVariants as inputs
 use Rattle.device_types.specs.Rule.{number, settled, here, forbidden, is_held, is_settled, is_gone, is_served, is_attaching}
+use Rattle.device_types.specs.Second.{second_number, has_both, second_message, second_answer}
 use Rattle.device_types.specs.Attach.{attach_message, attach_answer}
 use Rattle.device_types.specs.Service.{service_message, service_answer}
 use Rattle.device_types.specs.AreaUpdate.{area_message}
@@ -77,7 +80,18 @@ left true stages.Releasing true h = lit≤ tt
 left true _ registered h = lit≤ tt
 left false stage registered h = one (h && is_served stage)
 
-message : (row : Subscriber) (s : Session) (m : Message) (b : Body) → count_by (λ r. r.fits) (attach_message row s m b ++ service_message s m b ++ area_message row s m b ++ detach_message s m b) ≤ 1
+-- a second connection is made by two answers
+answered : (a : Bool) (second : Second) → trues ((a && (second_number second == 1)) ∷ (a && (second_number second == 3)) ∷ []) ≤ 1
+answered false second = lit≤ tt
+answered true seconds.None = lit≤ tt
+answered true _ = lit≤ tt
+
+accepted : (a : Bool) (second : Second) → trues ((a && (second_number second == 1)) ∷ (a && (second_number second == 2)) ∷ []) ≤ 1
+accepted false second = lit≤ tt
+accepted true seconds.None = lit≤ tt
+accepted true _ = lit≤ tt
+
+message : (row : Subscriber) (s : Session) (m : Message) (b : Body) → count_by (λ r. r.fits) (second_message row s m b ++ (attach_message row s m b ++ service_message s m b ++ area_message row s m b ++ detach_message s m b)) ≤ 1
 message row s m (bodies.Attach plmn tac eea eia pti) = opposite (settled s) (forbidden row tac)
 message row s m bodies.Service = held_or_not s.stage s.registered
 message row s m (bodies.Area first plmn tac) = area first s.stage s.registered (here s m) (forbidden row tac)
@@ -92,12 +106,12 @@ message row s m (bodies.ReleaseAsked cause) = asked (here s m) s.stage
 message row s m bodies.Released = one (here s m && (number s.stage == 13))
 message row s m (bodies.Capability octets) = one (here s m && is_settled s.stage)
 message row s m bodies.Data = one (number s.stage == 14)
-message row s m (bodies.PdnRequest pti) = none
-message row s m bodies.PdnAccept = none
-message row s m (bodies.SecondDone addr teid) = none
+message row s m (bodies.PdnRequest pti) = opposite (here s m && (number s.stage == 11) && (second_number s.second == 0)) (has_both row)
+message row s m bodies.PdnAccept = accepted (here s m && (number s.stage == 11)) s.second
+message row s m (bodies.SecondDone addr teid) = answered (here s m && (number s.stage == 11)) s.second
 message row s m bodies.SecondRefused = none
 
-answer : (row : Subscriber) (s : Session) (a : Answer) → count_by (λ r. r.fits) (attach_answer s a ++ service_answer s a ++ [] ++ detach_answer s a) ≤ 1
+answer : (row : Subscriber) (s : Session) (a : Answer) → count_by (λ r. r.fits) (second_answer s a ++ (attach_answer s a ++ service_answer s a ++ [] ++ detach_answer s a)) ≤ 1
 answer row s (answers.Vectors rand autn res key) = one (number s.stage == 1)
 answer row s (answers.Located dl ul) = one (number s.stage == 4)
 answer row s answers.Purged = none
@@ -105,8 +119,8 @@ answer row s (answers.Created sgw teid ip) = one (number s.stage == 5)
 answer row s answers.Modified = one (number s.stage == 9)
 answer row s answers.Freed = one (number s.stage == 12)
 answer row s answers.Deleted = one (number s.stage == 15)
-answer row s (answers.SecondCreated sgw teid ip) = none
-answer row s answers.SecondModified = none
+answer row s (answers.SecondCreated sgw teid ip) = one (number s.stage == 16)
+answer row s answers.SecondModified = one (number s.stage == 17)
 
 pub apart : (row : Subscriber) (s : Session) (input : Input) → fit_count row s input ≤ 1
 unfolding step_table

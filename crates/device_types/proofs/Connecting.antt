@@ -1,14 +1,18 @@
 -- A device has its S1 connection in each stage but two, and no message goes to a connection that is not there.
 use Rattle.std.proofs.Common.{◌≡◌, ℕ, ◌==◌, Bool, true, false, not, cond, ◌&&◌, ◌||◌, ◌⊎◌, inl, inr, ⊎_elim, List, [], ◌∷◌, ◌++◌, Some, All, refl}
-use Rattle.std.specs.Prelude.{unwrap_or}
+use Rattle.std.specs.Prelude.{unwrap_or, map, IfSome}
+use Rattle.std.specs.List.{list_any}
 use Rattle.std.specs.Str.{bytes_eq}
-use Rattle.std.proofs.lemmas.List.Elements.{All-nil, All-cons, All-append}
+use Rattle.std.proofs.lemmas.List.Elements.{All-nil, All-cons, All-append, All-map, All-weaker}
+use Rattle.std.proofs.lemmas.Option.{IfSome_then}
 use Rattle.device_types.specs.declared.cause.CauseCode.{CauseCode}
 use Rattle.device_types.specs.declared.down.Accept.{Accept}
 use Rattle.device_types.specs.declared.down.Accept.TheVariants as accepts
-use Rattle.device_types.specs.declared.down.Down.TheVariants.{Release}
+use Rattle.device_types.specs.declared.down.Down.TheVariants.{Nas, Setup, Release, Page, Erab, SetupTwo}
 use Rattle.device_types.specs.declared.effect.Effect.{Effect}
 use Rattle.device_types.specs.declared.effect.Effect.TheVariants as effects
+use Rattle.device_types.specs.declared.effect.GwCall.TheVariants as gateway
+use Rattle.device_types.specs.declared.event.Lane.{Lane}
 use Rattle.device_types.specs.declared.input.Answer.{Answer}
 use Rattle.device_types.specs.declared.input.Answer.TheVariants as answers
 use Rattle.device_types.specs.declared.input.Input.{Input}
@@ -22,6 +26,8 @@ use Rattle.device_types.specs.declared.session.Bearer.{Bearer}
 use Rattle.device_types.specs.declared.session.Bearer.TheVariants as bearers
 use Rattle.device_types.specs.declared.session.Link.{Link}
 use Rattle.device_types.specs.declared.session.Link.TheVariants.{Off, On}
+use Rattle.device_types.specs.declared.session.Second.{Second}
+use Rattle.device_types.specs.declared.session.Second.TheVariants as seconds
 use Rattle.device_types.specs.declared.session.Session.{Session}
 use Rattle.device_types.specs.declared.session.Stage.{Stage}
 use Rattle.device_types.specs.declared.session.Stage.TheVariants as stages
@@ -34,10 +40,12 @@ use Rattle.device_types.specs.Detach.{detach_message, detach_answer, leaves_at, 
 use Rattle.device_types.specs.Effect.{IsSent, IsOn, IsConnectedIn, IsConnected}
 use Rattle.device_types.specs.Input.{IsInput}
 use Rattle.device_types.specs.Message.{IsPair, IsFrom}
-use Rattle.device_types.specs.Rule.{Rule, fitting, number, here, is_pair, is_served, is_attaching, forbidden}
+use Rattle.device_types.specs.Rule.{Rule, fitting, number, at, here, is_pair, is_served, is_attaching, forbidden}
+use Rattle.device_types.specs.Second.{second_at, has_both, missing_name, second_message, second_answer, second_rules, with_both, is_setup, changed_message, changed_answer, changed}
 use Rattle.device_types.specs.Service.{service_message, service_answer}
 use Rattle.device_types.specs.Session.{IsLink, IsSession}
-use Rattle.device_types.specs.StepTable.{step_table, step_of}
+use Rattle.device_types.specs.StepTable.{step_table, table_step, step_of}
+use Rattle.device_types.proofs.Steps.{RulesMake, of_some, second_makes, step_makes, changed_or, one_of, served_step, modified_makes, both}
 
 -- ---- acts on a connection
 
@@ -146,10 +154,6 @@ greeted s true station enb c p = record { connected = c; sent = All-nil IsSent }
 greeted s false station enb c p = aside s station enb nas.DetachAccept c p
 
 -- ---- tests
-
-both : (a b : Bool) → (a && b) ≡ true → (a ≡ true) × (b ≡ true)
-both true b h = (refl, h)
-both false b h = absurd (cc)
 
 on_pair : (link : Link) (station enb : ℕ) → IsLink link → is_pair link station enb ≡ true → IsOn link
 on_pair Off station enb l h = absurd (cc)
@@ -293,10 +297,89 @@ answer s answers.Deleted c =
 answer s (answers.SecondCreated sgw teid ip) c = tt
 answer s answers.SecondModified c = tt
 
+base_goes : (row : Subscriber) (s : Session) (input : Input) → IsLink s.link → IsConnected s → IsInput input → Goes (unwrap_or (table_step row s input) (made s []))
+unfolding step_table
+base_goes row s (inputs.Message m) l c i = rules_go (step_table row s (inputs.Message m)) s l c (message row s m m.body i.pair l c)
+base_goes row s (inputs.Answer lane k a) l c i = rules_go (step_table row s (inputs.Answer lane k a)) s l c (answer s a c)
+
+-- ---- a second connection
+
+-- a row of a second connection fits on the session's own connection
+here_second : (s : Session) (m : Message) (second : Second) (b : Bool) → IsLink s.link → (here s m && at stages.Connected s && second_at second s && b) ≡ true → IsOn s.link
+here_second s m second b l h =
+    let here_at = here s m && at stages.Connected s in
+    here_on s m (at stages.Connected s) l (both here_at (second_at second s) (both (here_at && second_at second s) b h).0).0
+
+own_message : (row : Subscriber) (s : Session) (m : Message) (b : Body) → IsLink s.link → IsConnected s → RulesMake Goes s (second_message row s m b)
+own_message row s m (bodies.PdnRequest pti) l c = (
+  (λ h. goes _ (making _ _ (here_second s m seconds.None (has_both row) l h) tt)),
+  ((λ h. goes _ (told (nas.PdnReject pti missing_name) s (here_second s m seconds.None (not (has_both row)) l h))), tt),
+)
+own_message row s m (bodies.SecondDone addr teid) l c =
+    ((λ h. record { connected = c; sent = All-nil IsSent }), ((λ h. goes _ (making _ _ (here_on s m (at stages.Connected s) l (both (here s m && at stages.Connected s) (second_at seconds.Accepted s) h).0) tt)), tt))
+own_message row s m bodies.PdnAccept l c =
+    ((λ h. record { connected = c; sent = All-nil IsSent }), ((λ h. goes _ (making _ _ (here_on s m (at stages.Connected s) l (both (here s m && at stages.Connected s) (second_at seconds.Radio s) h).0) tt)), tt))
+own_message row s m _ l c = tt
+
+own_answer : (s : Session) (a : Answer) → IsConnected s → RulesMake Goes s (second_answer s a)
+own_answer s (answers.SecondCreated sgw teid ip) c =
+    ((λ h. let on = awaiting s.stage 16 s.link h refl refl c in goes _ (making _ _ on (receiver s.link on))), tt)
+own_answer s answers.SecondModified c = ((λ h. goes _ (silent _ (awaiting s.stage 17 s.link h refl refl c))), tt)
+own_answer s _ c = tt
+
+own : (row : Subscriber) (s : Session) (input : Input) → IsLink s.link → IsConnected s → RulesMake Goes s (second_rules row s input)
+own row s (inputs.Message m) l c = own_message row s m m.body l c
+own row s (inputs.Answer lane k a) l c = own_answer s a c
+
+both_sent : (s : Session) (effect : Effect) → IsSent effect → IsSent (with_both s effect)
+both_sent s (effects.Down (Setup station enb dl ul sgw teid eea eia key accept)) h = h
+both_sent s (effects.Down (Nas station enb message)) h = h
+both_sent s (effects.Down (Release station enb cause)) h = h
+both_sent s (effects.Down (Page plmn tac)) h = h
+both_sent s (effects.Down (Erab station enb sgw teid pti ip)) h = h
+both_sent s (effects.Down (SetupTwo station enb dl ul sgw teid eea eia key sgw2 teid2)) h = h
+both_sent s (effects.Gateway call) h = tt
+both_sent s (effects.Subscriber call) h = tt
+
+changed_body : (s : Session) (b : Body) (step : Step) → Goes step → Goes (changed_message s b step)
+changed_body s bodies.Service step g =
+    let sent = All-map IsSent (with_both s) step.effects (All-weaker IsSent (λ effect. IsSent (with_both s effect)) (both_sent s) step.effects g.sent) in
+    one_of Goes (list_any is_setup step.effects) (made (record step.session { second = seconds.Made }) (map (with_both s) step.effects)) step (record { connected = g.connected; sent = sent }) g
+changed_body s (bodies.ContextDone addr teid (Some side)) step g =
+    one_of Goes (at stages.Connecting s) (made (record step.session { side2_addr = side.addr; side2_teid = side.teid; second = seconds.Radio }) step.effects) step (record { connected = g.connected; sent = g.sent }) g
+changed_body s _ step g = g
+
+of_change : (row : Subscriber) (s : Session) (lane : Lane) (k : ℕ) (a : Answer) → IfSome (table_step row s (inputs.Answer lane k a)) Goes → ((step : Step) → Goes step → Goes (changed_answer s a step)) → IfSome (table_step row s (inputs.Answer lane k a)) (λ step. Goes (changed s (inputs.Answer lane k a) step))
+of_change row s lane k a base f =
+    IfSome_then (table_step row s (inputs.Answer lane k a)) base (λ step g. changed_or Goes (second_at seconds.None s) step (changed_answer s a step) g (λ some. f step g))
+
+-- but for the answer behind which the gateway is told the second bearer's side, a change leaves the stage
+changed_to : (row : Subscriber) (s : Session) (lane : Lane) (k : ℕ) (a : Answer) → IsConnected s → IfSome (table_step row s (inputs.Answer lane k a)) Goes → IfSome (table_step row s (inputs.Answer lane k a)) (λ step. Goes (changed s (inputs.Answer lane k a) step))
+changed_to row s lane k answers.Modified c base =
+    let told = effects.Gateway (gateway.SecondModify s.side2_addr s.side2_teid) in
+    let more = made (record (served_step s).session { stage = stages.AwaitSecondModify }) (told ∷ []) in
+    modified_makes (λ step. Goes (changed s (inputs.Answer lane k answers.Modified) step)) row s lane k
+    (λ h.
+    let on = awaiting s.stage 9 s.link h refl refl c in
+    let same = goes _ (silent _ on) in
+    changed_or Goes (second_at seconds.None s) (served_step s) (changed_answer s answers.Modified (served_step s)) same
+    (λ some. one_of Goes (second_at seconds.Radio s) more (served_step s) (goes _ (making _ _ on tt)) same))
+changed_to row s lane k (answers.Created sgw teid ip) c base = of_change row s lane k (answers.Created sgw teid ip) base (λ step g. record { connected = g.connected; sent = g.sent })
+changed_to row s lane k answers.Deleted c base = of_change row s lane k answers.Deleted base (λ step g. record { connected = g.connected; sent = g.sent })
+changed_to row s lane k answers.Freed c base = of_change row s lane k answers.Freed base (λ step g. record { connected = g.connected; sent = g.sent })
+changed_to row s lane k a c base = of_change row s lane k a base (λ step g. g)
+
+changed_of : (row : Subscriber) (s : Session) (input : Input) → IsLink s.link → IsConnected s → IsInput input → IfSome (table_step row s input) (λ step. Goes (changed s input step))
+changed_of row s (inputs.Message m) l c i =
+    let input = inputs.Message m in
+    IfSome_then (table_step row s input) (of_some Goes (table_step row s input) (made s []) (base_goes row s input l c i))
+    (λ step g. changed_or Goes (second_at seconds.None s) step (changed_message s m.body step) g (λ some. changed_body s m.body step g))
+changed_of row s (inputs.Answer lane k a) l c i =
+    let input = inputs.Answer lane k a in
+    changed_to row s lane k a c (of_some Goes (table_step row s input) (made s []) (base_goes row s input l c i))
+
 step_goes : (row : Subscriber) (s : Session) (input : Input) → IsSession s → IsConnected s → IsInput input → Goes (step_of row s input)
-unfolding step_table step_of
-step_goes row s (inputs.Message m) r c i = rules_go (step_table row s (inputs.Message m)) s r.link c (message row s m m.body i.pair r.link c)
-step_goes row s (inputs.Answer lane k a) r c i = rules_go (step_table row s (inputs.Answer lane k a)) s r.link c (answer s a c)
+step_goes row s input r c i = step_makes Goes row s input (second_makes Goes row s input (own row s input r.link c) (changed_of row s input r.link c i)) (record { connected = c; sent = All-nil IsSent })
 
 pub keeps_connection : (row : Subscriber) (s : Session) (input : Input) → IsSession s → IsConnected s → IsInput input → IsConnected (step_of row s input).session
 keeps_connection row s input r c i = (step_goes row s input r c i).connected

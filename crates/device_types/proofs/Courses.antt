@@ -32,17 +32,18 @@ use Rattle.device_types.specs.Look.{look_behind, same_lane, answer_look_behind}
 use Rattle.device_types.specs.Message.{IsMessage}
 use Rattle.device_types.specs.PeerAnswer.{answer_to, answer_of}
 use Rattle.device_types.specs.Ready.{IsReady}
+use Rattle.device_types.specs.Second.{MayBeOf}
 use Rattle.device_types.specs.Session.{opening, IsSession}
 use Rattle.device_types.specs.StepTable.{step_of}
 use Rattle.device_types.specs.Subscriber.{IsSubscriber}
 use Rattle.device_types.proofs.Alone.{input_by, input_by_stage, fine_alone, turn, Turn, Takes, Answers, took_message, took_answer, rank_of, rank_low, rises, alone_ends, Fine}
 use Rattle.device_types.proofs.Connecting.{keeps_connection, sends_to_stations}
+use Rattle.device_types.proofs.Entitled.{keeps_both}
 use Rattle.device_types.proofs.Few.{effects_few}
 use Rattle.device_types.proofs.Journals.{session_more, pushed_more}
 use Rattle.device_types.proofs.Keeping.{keeps_ranges, keeps_cause, writes_effects}
 use Rattle.device_types.proofs.Peers.{answer_ranged}
 use Rattle.device_types.proofs.Prefixes.{short, prefix, entry_at}
-use Rattle.device_types.proofs.Single.{single_opening}
 
 -- ---- the input of an entry
 
@@ -205,6 +206,21 @@ entry_ready row ms h window v entry g =
     subst (λ (x : Entry). IsReady window (take v (alone_of row ms)) x.input) (sym m.entry_is)
     (subst (λ (K : List Entry). IsReady window K m.input) (sym before) ready)
 
+-- ---- a second connection
+
+both_with : (row : Subscriber) (ms : List Message) (J : List Entry) (o : Option Input) → MayBeOf row (session_of J) → MayBeOf row (session_of (with_next J (option_map (entry_of row J) o)))
+both_with row ms J None h = h
+both_with row ms J (Some input) h = subst (λ (s : Session). MayBeOf row s) (sym (session_more J (entry_of row J input))) (keeps_both row (session_of J) input h)
+
+both_to : (row : Subscriber) (ms : List Message) (v : ℕ) → MayBeOf row (session_of (alone_to row ms v))
+both_to row ms zero = (tt, tt)
+both_to row ms (suc v) = both_with row ms (alone_to row ms v) (next_input row ms (alone_to row ms v)) (both_to row ms v)
+
+pub both_entry : (row : Subscriber) (ms : List Message) (v : ℕ) (entry : Entry) → slice_get (alone_of row ms) v ≡ Some entry → MayBeOf row entry.step.session
+both_entry row ms v entry g =
+    let m = made_at row ms v entry g in
+    subst (λ (e : Entry). MayBeOf row e.step.session) (sym m.entry_is) (keeps_both row (session_of (alone_to row ms v)) m.input (both_to row ms v))
+
 -- ---- ranges
 
 pub record Sound (s : Session) : Type 0 where
@@ -216,7 +232,6 @@ sound_opening : Sound opening
 unfolding cause_roots
 sound_opening = record {
   ranges = record {
-    stage = lit< tt;
     link = tt;
     area = (lit< tt, lit< tt);
     eea = lit< tt;
@@ -234,7 +249,12 @@ sound_opening = record {
     side_teid = lit< tt;
     cause = (lit< tt, lit< tt);
     radio = lit< tt;
-    no_second = single_opening.0;
+    pti2 = lit< tt;
+    sgw2 = lit< tt;
+    teid2 = lit< tt;
+    ip2 = lit< tt;
+    side2_addr = lit< tt;
+    side2_teid = lit< tt;
   };
   cause = (lit< tt, lit< tt);
   connected = tt;
@@ -307,7 +327,7 @@ sound_entry row ms r a count v entry g =
     subst (λ (e : Entry). SoundEntry row e) (sym m.entry_is) (record {
       session = sound_step row s m.input before i;
       input = i;
-      writable = writes_effects row s m.input before.ranges before.cause i;
+      writable = writes_effects row s m.input before.ranges before.cause (both_to row ms v) i;
       sent = sends_to_stations row s m.input before.ranges before.connected i;
     })
 

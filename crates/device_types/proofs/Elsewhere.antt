@@ -14,6 +14,7 @@ use Rattle.device_types.specs.AreaUpdate.{area_message}
 use Rattle.device_types.specs.Attach.{attach_message}
 use Rattle.device_types.specs.Detach.{detach_message}
 use Rattle.device_types.specs.Rule.{here, is_pair}
+use Rattle.device_types.specs.Second.{second_message}
 use Rattle.device_types.specs.Service.{service_message}
 use Rattle.device_types.specs.StepLaws.{comes, IsElsewhere}
 use Rattle.device_types.specs.StepTable.{fit_count, step_table}
@@ -31,7 +32,7 @@ no_pair : (link : Link) (station enb : ℕ) → (link ≡ On station enb → ⊥
 no_pair Off station enb apart = refl
 no_pair (On a b) station enb apart = both a b station enb (a == station) (b == enb) refl refl apart
 
-unfit : (row : Subscriber) (s : Session) (m : Message) (b : Body) → here s m ≡ false → comes b ≡ false → count_by (λ r. r.fits) (attach_message row s m b ++ service_message s m b ++ area_message row s m b ++ detach_message s m b) ≡ 0
+unfit : (row : Subscriber) (s : Session) (m : Message) (b : Body) → here s m ≡ false → comes b ≡ false → count_by (λ r. r.fits) (second_message row s m b ++ (attach_message row s m b ++ service_message s m b ++ area_message row s m b ++ detach_message s m b)) ≡ 0
 unfit row s m (bodies.Attach plmn tac eea eia pti) h c = absurd (cc)
 unfit row s m bodies.Service h c = absurd (cc)
 unfit row s m (bodies.Area true plmn tac) h c = absurd (cc)
@@ -48,9 +49,9 @@ unfit row s m (bodies.ReleaseAsked cause) h c = rw h refl
 unfit row s m bodies.Released h c = rw h refl
 unfit row s m (bodies.Capability octets) h c = rw h refl
 unfit row s m bodies.Data h c = absurd (cc)
-unfit row s m (bodies.PdnRequest pti) h c = refl
-unfit row s m bodies.PdnAccept h c = refl
-unfit row s m (bodies.SecondDone addr teid) h c = refl
+unfit row s m (bodies.PdnRequest pti) h c = rw h refl
+unfit row s m bodies.PdnAccept h c = rw h refl
+unfit row s m (bodies.SecondDone addr teid) h c = rw h refl
 unfit row s m bodies.SecondRefused h c = refl
 
 pub fits_none : (row : Subscriber) (s : Session) (m : Message) → IsElsewhere s m → comes m.body ≡ false → fit_count row s (inputs.Message m) ≡ 0

@@ -1,9 +1,13 @@
--- A step makes at most four effects: an act makes one at most, and a row has four acts at most.
+-- A step makes at most four effects: an act makes one at most, a row has four acts at most, and where a change adds one there was none.
 use Rattle.std.proofs.Common.{ℕ, ◌+◌, ◌≤◌, ◌==◌, ◌&&◌, ◌⊎◌, inl, inr, ⊎_elim, Bool, true, false, cond, List, [], ◌∷◌, ◌++◌, length, Some, lit≤, arith, length-append}
-use Rattle.std.specs.Prelude.{unwrap_or}
+use Rattle.std.specs.Prelude.{unwrap_or, map, IfSome}
+use Rattle.std.specs.List.{list_any}
+use Rattle.std.proofs.lemmas.List.{length-map}
+use Rattle.std.proofs.lemmas.Option.{IfSome_then}
 use Rattle.device_types.specs.declared.cause.CauseCode.{CauseCode}
 use Rattle.device_types.specs.declared.down.Down.TheVariants.{Release}
 use Rattle.device_types.specs.declared.effect.Effect.TheVariants as effects
+use Rattle.device_types.specs.declared.effect.GwCall.TheVariants as gateway
 use Rattle.device_types.specs.declared.input.Answer.{Answer}
 use Rattle.device_types.specs.declared.input.Answer.TheVariants as answers
 use Rattle.device_types.specs.declared.input.Input.{Input}
@@ -17,16 +21,20 @@ use Rattle.device_types.specs.declared.session.Bearer.{Bearer}
 use Rattle.device_types.specs.declared.session.Bearer.TheVariants as bearers
 use Rattle.device_types.specs.declared.session.Link.{Link}
 use Rattle.device_types.specs.declared.session.Link.TheVariants.{Off, On}
+use Rattle.device_types.specs.declared.session.Second.TheVariants as seconds
 use Rattle.device_types.specs.declared.session.Session.{Session}
+use Rattle.device_types.specs.declared.session.Stage.TheVariants as stages
 use Rattle.device_types.specs.declared.step.Step.{Step}
 use Rattle.device_types.specs.declared.subscriber.Subscriber.{Subscriber}
 use Rattle.device_types.specs.Acts.{Act, made, follow, run, tells_unless, tells_to, moves_connection, left_behind, drops_ue, drops_at, frees_bearers, frees_at, normal_release, authentication_failure, detach, unspecified}
 use Rattle.device_types.specs.AreaUpdate.{area_message}
 use Rattle.device_types.specs.Attach.{attach_message, attach_answer}
 use Rattle.device_types.specs.Detach.{detach_message, detach_answer, leaves_at, leaves}
-use Rattle.device_types.specs.Rule.{Rule, fitting}
+use Rattle.device_types.specs.Rule.{Rule, fitting, at}
+use Rattle.device_types.specs.Second.{second_at, second_message, second_rules, with_both, is_setup, changed_message, changed_answer, changed}
 use Rattle.device_types.specs.Service.{service_message, service_answer}
-use Rattle.device_types.specs.StepTable.{step_table, step_of}
+use Rattle.device_types.specs.StepTable.{step_table, table_step, step_of}
+use Rattle.device_types.proofs.Steps.{RulesMake, of_some, second_makes, step_makes, one_of, served_step, modified_makes}
 
 -- ---- acts
 
@@ -174,7 +182,50 @@ answer s answers.Deleted = (inl (((λ t. lit≤ tt), ((λ t. lit≤ tt), (unless
 answer s (answers.SecondCreated sgw teid ip) = tt
 answer s answers.SecondModified = tt
 
+base_few : (row : Subscriber) (s : Session) (input : Input) → length (unwrap_or (table_step row s input) (made s [])).effects ≤ 4
+unfolding step_table
+base_few row s (inputs.Message m) = rules_few (step_table row s (inputs.Message m)) s (message row s m m.body)
+base_few row s (inputs.Answer lane k a) = rules_few (step_table row s (inputs.Answer lane k a)) s (answer s a)
+
+-- ---- a second connection
+
+abbrev IsFew : Step → Type 0
+IsFew step = length step.effects ≤ 4
+
+own : (row : Subscriber) (s : Session) (input : Input) → RulesMake IsFew s (second_rules row s input)
+own row s (inputs.Message m) = own_message m.body
+  where
+    own_message : (b : Body) → RulesMake IsFew s (second_message row s m b)
+    own_message (bodies.PdnRequest pti) = ((λ h. lit≤ tt), ((λ h. lit≤ tt), tt))
+    own_message (bodies.SecondDone addr teid) = ((λ h. lit≤ tt), ((λ h. lit≤ tt), tt))
+    own_message bodies.PdnAccept = ((λ h. lit≤ tt), ((λ h. lit≤ tt), tt))
+    own_message _ = tt
+own row s (inputs.Answer lane k (answers.SecondCreated sgw teid ip)) = ((λ h. lit≤ tt), tt)
+own row s (inputs.Answer lane k answers.SecondModified) = ((λ h. lit≤ tt), tt)
+own row s (inputs.Answer lane k _) = tt
+
+changed_body : (s : Session) (b : Body) (step : Step) → IsFew step → IsFew (changed_message s b step)
+changed_body s bodies.Service step h =
+    let same = length-map step.effects (with_both s) in
+    one_of IsFew (list_any is_setup step.effects) (made (record step.session { second = seconds.Made }) (map (with_both s) step.effects)) step (omega arith) h
+changed_body s (bodies.ContextDone addr teid (Some side)) step h =
+    one_of IsFew (at stages.Connecting s) (made (record step.session { side2_addr = side.addr; side2_teid = side.teid; second = seconds.Radio }) step.effects) step h h
+changed_body s _ step h = h
+
+-- the answer behind which one more call is made is of a row without effects
+changed_few : (row : Subscriber) (s : Session) (input : Input) → IfSome (table_step row s input) (λ step. IsFew (changed s input step))
+changed_few row s (inputs.Message m) =
+    let input = inputs.Message m in
+    IfSome_then (table_step row s input) (of_some IsFew (table_step row s input) (made s []) (base_few row s input))
+    (λ step h. one_of IsFew (second_at seconds.None s) step (changed_message s m.body step) h (changed_body s m.body step h))
+changed_few row s (inputs.Answer lane k answers.Modified) =
+    let call = effects.Gateway (gateway.SecondModify s.side2_addr s.side2_teid) in
+    let more = made (record (served_step s).session { stage = stages.AwaitSecondModify }) (call ∷ []) in
+    modified_makes (λ step. IsFew (changed s (inputs.Answer lane k answers.Modified) step)) row s lane k
+    (λ h. one_of IsFew (second_at seconds.None s) (served_step s) (changed_answer s answers.Modified (served_step s)) (lit≤ tt) (one_of IsFew (second_at seconds.Radio s) more (served_step s) (lit≤ tt) (lit≤ tt)))
+changed_few row s (inputs.Answer lane k a) =
+    let input = inputs.Answer lane k a in
+    IfSome_then (table_step row s input) (of_some IsFew (table_step row s input) (made s []) (base_few row s input)) (λ step h. one_of IsFew (second_at seconds.None s) step (changed_answer s a step) h h)
+
 pub effects_few : (row : Subscriber) (s : Session) (input : Input) → length (step_of row s input).effects ≤ 4
-unfolding step_table step_of
-effects_few row s (inputs.Message m) = rules_few (step_table row s (inputs.Message m)) s (message row s m m.body)
-effects_few row s (inputs.Answer lane k a) = rules_few (step_table row s (inputs.Answer lane k a)) s (answer s a)
+effects_few row s input = step_makes IsFew row s input (second_makes IsFew row s input (own row s input) (changed_few row s input)) (lit≤ tt)

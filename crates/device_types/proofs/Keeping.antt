@@ -1,7 +1,8 @@
 -- A session in its ranges stays there, and each effect of a step can be written.
-use Rattle.std.proofs.Common.{◌==◌, ◌&&◌, ℕ, ◌<◌, ◌≤◌, ◌^◌, ◌-◌, Bool, true, false, cond, List, [], ◌∷◌, ◌++◌, Some, All, min, length, lit<, arith}
-use Rattle.std.specs.Prelude.{unwrap_or}
-use Rattle.std.proofs.lemmas.List.Elements.{All-nil, All-cons, All-append}
+use Rattle.std.proofs.Common.{◌≡◌, ◌==◌, ◌&&◌, ℕ, ◌<◌, ◌≤◌, ◌^◌, ◌-◌, Bool, true, false, cond, List, [], ◌∷◌, ◌++◌, Some, All, min, length, lit<, arith}
+use Rattle.std.specs.Prelude.{unwrap_or, map, IsSome}
+use Rattle.std.specs.List.{list_any}
+use Rattle.std.proofs.lemmas.List.Elements.{All-nil, All-cons, All-append, All-map, All-weaker}
 use Rattle.device_types.specs.declared.cause.CauseCode.{CauseCode}
 use Rattle.device_types.specs.declared.down.Accept.{Accept}
 use Rattle.device_types.specs.declared.down.Accept.TheVariants as accepts
@@ -9,6 +10,7 @@ use Rattle.device_types.specs.declared.down.Down.{Down}
 use Rattle.device_types.specs.declared.down.Down.TheVariants.{Nas, Setup, Release, Page, Erab, SetupTwo}
 use Rattle.device_types.specs.declared.effect.Effect.{Effect}
 use Rattle.device_types.specs.declared.effect.Effect.TheVariants as effects
+use Rattle.device_types.specs.declared.effect.GwCall.TheVariants as gateway
 use Rattle.device_types.specs.declared.input.Answer.{Answer}
 use Rattle.device_types.specs.declared.input.Answer.TheVariants as answers
 use Rattle.device_types.specs.declared.input.Input.{Input}
@@ -22,8 +24,10 @@ use Rattle.device_types.specs.declared.session.Bearer.{Bearer}
 use Rattle.device_types.specs.declared.session.Bearer.TheVariants as bearers
 use Rattle.device_types.specs.declared.session.Link.{Link}
 use Rattle.device_types.specs.declared.session.Link.TheVariants.{Off, On}
+use Rattle.device_types.specs.declared.session.Second.TheVariants as seconds
 use Rattle.device_types.specs.declared.session.Session.{Session}
 use Rattle.device_types.specs.declared.session.Stage.{Stage}
+use Rattle.device_types.specs.declared.session.Stage.TheVariants as stages
 use Rattle.device_types.specs.declared.step.Step.{Step}
 use Rattle.device_types.specs.declared.subscriber.Subscriber.{Subscriber}
 use Rattle.device_types.specs.Acts.{Act, made, follow, run, sets, enters, tells, tells_unless, tells_to, sets_up, releases, moves_connection, left_behind, drops_ue, drops_at, frees_bearers, frees_at, nas_cause, normal_release, authentication_failure, detach, unspecified, station_of, enb_of}
@@ -39,11 +43,13 @@ use Rattle.device_types.specs.Keys.{IsKey, full}
 use Rattle.device_types.specs.Message.{IsArea, IsPair, IsFrom, IsBody}
 use Rattle.device_types.specs.Nas.{IsNasOut, HasNasFields}
 use Rattle.device_types.specs.Octets.{AreOctets}
-use Rattle.device_types.specs.Rule.{Rule, fitting}
+use Rattle.device_types.specs.Rule.{Rule, fitting, at}
+use Rattle.device_types.specs.Second.{second_at, second_message, second_answer, second_rules, with_both, is_setup, changed_message, changed_answer, changed, MayBeOf}
 use Rattle.device_types.specs.Service.{service_message, service_answer}
 use Rattle.device_types.specs.Session.{IsSession, IsLink}
-use Rattle.device_types.specs.StepTable.{step_table, step_of}
-use Rattle.device_types.proofs.Single.{IsSingle, keeps_single}
+use Rattle.device_types.specs.StepTable.{step_table, table_step, step_of}
+use Rattle.device_types.proofs.Entitled.{awaits_create}
+use Rattle.device_types.proofs.Steps.{RulesMake, laws_make, changed_or, one_of}
 
 -- ---- the ranges of a session, by the fields that change together, where C says what its cause is
 
@@ -56,18 +62,20 @@ IsSecret res key = (length res ≤ 16) × AreOctets res × IsKey key
 abbrev IsBearer : ℕ → ℕ → ℕ → Type 0
 IsBearer sgw teid ip = (sgw < 2 ^ 32) × (teid < 2 ^ 32) × (ip < 2 ^ 32)
 
+abbrev IsSecond : ℕ → ℕ → ℕ → ℕ → ℕ → ℕ → Type 0
+IsSecond pti sgw teid ip addr side = (pti < 256) × IsBearer sgw teid ip × IsTunnel addr side
+
 abbrev pub Ranged : (CauseCode → Type 0) → Session → Type 0
-Ranged C s = IsLink s.link × IsArea s.plmn s.tac × IsOffer s.eea s.eia s.pti × IsSecret s.res s.key × AreRates s.dl s.ul × IsBearer s.sgw s.teid s.ip × IsTunnel s.side_addr s.side_teid × C s.cause × (s.radio < 2 ^ 32)
+Ranged C s = IsLink s.link × IsArea s.plmn s.tac × IsOffer s.eea s.eia s.pti × IsSecret s.res s.key × AreRates s.dl s.ul × IsBearer s.sgw s.teid s.ip × IsTunnel s.side_addr s.side_teid × C s.cause × (s.radio < 2 ^ 32) × IsSecond s.pti2 s.sgw2 s.teid2 s.ip2 s.side2_addr s.side2_teid
 
 pub ranged : (s : Session) → IsSession s → Ranged IsStoredCause s
-ranged s r = (r.link, r.area, (r.eea, r.eia, r.pti), (r.res, r.res_octets, r.key), (r.dl, r.ul), (r.sgw, r.teid, r.ip), (r.side_addr, r.side_teid), r.cause, r.radio)
+ranged s r = (r.link, r.area, (r.eea, r.eia, r.pti), (r.res, r.res_octets, r.key), (r.dl, r.ul), (r.sgw, r.teid, r.ip), (r.side_addr, r.side_teid), r.cause, r.radio, (r.pti2, (r.sgw2, r.teid2, r.ip2), (r.side2_addr, r.side2_teid)))
 
 pub ranged_with : (C : CauseCode → Type 0) (s : Session) → IsSession s → C s.cause → Ranged C s
-ranged_with C s r c = (r.link, r.area, (r.eea, r.eia, r.pti), (r.res, r.res_octets, r.key), (r.dl, r.ul), (r.sgw, r.teid, r.ip), (r.side_addr, r.side_teid), c, r.radio)
+ranged_with C s r c = (r.link, r.area, (r.eea, r.eia, r.pti), (r.res, r.res_octets, r.key), (r.dl, r.ul), (r.sgw, r.teid, r.ip), (r.side_addr, r.side_teid), c, r.radio, (r.pti2, (r.sgw2, r.teid2, r.ip2), (r.side2_addr, r.side2_teid)))
 
-pub session_from : (C : CauseCode → Type 0) (s : Session) → (C s.cause → IsStoredCause s.cause) → Ranged C s → IsSingle s → IsSession s
-session_from C s k r single = record {
-  stage = single.1;
+pub session_from : (C : CauseCode → Type 0) (s : Session) → (C s.cause → IsStoredCause s.cause) → Ranged C s → IsSession s
+session_from C s k r = record {
   link = r.0;
   area = r.1;
   eea = r.2.0;
@@ -85,10 +93,15 @@ session_from C s k r single = record {
   side_teid = r.6.1;
   cause = k r.7;
   radio = r.8;
-  no_second = single.0;
+  pti2 = r.9.0;
+  sgw2 = r.9.1.0;
+  teid2 = r.9.1.1;
+  ip2 = r.9.1.2;
+  side2_addr = r.9.2.0;
+  side2_teid = r.9.2.1;
 }
 
--- ---- what can be written, where C says which causes; no step makes a message of a second bearer
+-- ---- what can be written, where C says which causes; no row of the step table makes a message of a second bearer
 
 abbrev DownIs : (CauseCode → Type 0) → Down → Type 0
 DownIs C (Nas station enb message) = IsReceiver station enb × IsNasOut message × HasNasFields message
@@ -103,18 +116,42 @@ EffectIs C (effects.Down down) = DownIs C down
 EffectIs C (effects.Gateway call) = Unit {0}
 EffectIs C (effects.Subscriber call) = Unit {0}
 
-down_is : (row : Subscriber) (down : Down) → DownIs IsCauseCode down → IsDown row down
+-- the same with those of a second bearer, whose setup needs A
+abbrev DownIn : (CauseCode → Type 0) → Type 0 → Down → Type 0
+DownIn C A (Erab station enb sgw teid pti ip) = IsReceiver station enb × IsTunnel sgw teid × (pti < 256) × (ip < 2 ^ 32) × A
+DownIn C A (SetupTwo station enb dl ul sgw teid eea eia key sgw2 teid2) = IsReceiver station enb × AreRates dl ul × IsTunnel sgw teid × AreAlgorithms eea eia × IsKey key × IsTunnel sgw2 teid2
+DownIn C A down = DownIs C down
+
+abbrev EffectIn : (CauseCode → Type 0) → Type 0 → Effect → Type 0
+EffectIn C A (effects.Down down) = DownIn C A down
+EffectIn C A (effects.Gateway call) = Unit {0}
+EffectIn C A (effects.Subscriber call) = Unit {0}
+
+down_is : (row : Subscriber) (down : Down) → DownIn IsCauseCode (IsSome row.apn2) down → IsDown row down
 down_is row (Nas station enb message) h = h
 down_is row (Setup station enb dl ul sgw teid eea eia key accept) h = h
 down_is row (Release station enb cause) h = h
 down_is row (Page plmn tac) h = h
-down_is row (Erab station enb sgw teid pti ip) h = absurd h
-down_is row (SetupTwo station enb dl ul sgw teid eea eia key sgw2 teid2) h = absurd h
+down_is row (Erab station enb sgw teid pti ip) h = h
+down_is row (SetupTwo station enb dl ul sgw teid eea eia key sgw2 teid2) h = h
 
-writable : (row : Subscriber) (effect : Effect) → EffectIs IsCauseCode effect → IsWritable row effect
+writable : (row : Subscriber) (effect : Effect) → EffectIn IsCauseCode (IsSome row.apn2) effect → IsWritable row effect
 writable row (effects.Down down) h = down_is row down h
 writable row (effects.Gateway call) h = tt
 writable row (effects.Subscriber call) h = tt
+
+down_in : (C : CauseCode → Type 0) (A : Type 0) (down : Down) → DownIs C down → DownIn C A down
+down_in C A (Nas station enb message) h = h
+down_in C A (Setup station enb dl ul sgw teid eea eia key accept) h = h
+down_in C A (Release station enb cause) h = h
+down_in C A (Page plmn tac) h = h
+down_in C A (Erab station enb sgw teid pti ip) h = absurd h
+down_in C A (SetupTwo station enb dl ul sgw teid eea eia key sgw2 teid2) h = absurd h
+
+effect_in : (C : CauseCode → Type 0) (A : Type 0) (effect : Effect) → EffectIs C effect → EffectIn C A effect
+effect_in C A (effects.Down down) h = down_in C A down h
+effect_in C A (effects.Gateway call) h = tt
+effect_in C A (effects.Subscriber call) h = tt
 
 -- ---- acts and rows
 
@@ -197,16 +234,16 @@ left C n (On was_station was_enb) station enb l =
     [ true ↦ All-nil (EffectIs C) | false ↦ All-cons (EffectIs C) (effects.Down (Release was_station was_enb normal_release)) [] ((l.station_most, l.enb_most), n) (All-nil (EffectIs C)) ]
 
 with_link : (C : CauseCode → Type 0) (link : Link) → IsLink link → (s : Session) → Ranged C s → Ranged C (record s { link = link })
-with_link C link l s r = (l, r.1, r.2, r.3, r.4, r.5, r.6, r.7, r.8)
+with_link C link l s r = (l, r.1, r.2, r.3, r.4, r.5, r.6, r.7, r.8, r.9)
 
 with_cause : (C : CauseCode → Type 0) (cause : CauseCode) → C cause → (s : Session) → Ranged C s → Ranged C (record s { cause = cause })
-with_cause C cause c s r = (r.0, r.1, r.2, r.3, r.4, r.5, r.6, c, r.8)
+with_cause C cause c s r = (r.0, r.1, r.2, r.3, r.4, r.5, r.6, c, r.8, r.9)
 
 with_area : (C : CauseCode → Type 0) (plmn tac : ℕ) → IsArea plmn tac → (s : Session) → Ranged C s → Ranged C (record s { plmn = plmn; tac = tac })
-with_area C plmn tac a s r = (r.0, a, r.2, r.3, r.4, r.5, r.6, r.7, r.8)
+with_area C plmn tac a s r = (r.0, a, r.2, r.3, r.4, r.5, r.6, r.7, r.8, r.9)
 
 with_side : (C : CauseCode → Type 0) (addr teid : ℕ) → IsTunnel addr teid → (s : Session) → Ranged C s → Ranged C (record s { side_addr = addr; side_teid = teid })
-with_side C addr teid h s r = (r.0, r.1, r.2, r.3, r.4, r.5, h, r.7, r.8)
+with_side C addr teid h s r = (r.0, r.1, r.2, r.3, r.4, r.5, h, r.7, r.8, r.9)
 
 moved : (C : CauseCode → Type 0) → C normal_release → (station enb : ℕ) → IsPair station enb → Rights C (moves_connection station enb)
 unfolding moves_connection
@@ -255,7 +292,7 @@ message : (C : CauseCode → Type 0) (k : (c : CauseCode) → IsCauseCode c → 
 message C k row s q m (bodies.Attach plmn tac eea eia pti) p i =
     let n = k normal_release (nas_code 0 (lit< tt)) in (
       (moved C n _ _ p, (told C (nas.AttachReject 12) tt (lit< tt), (dropped C normal_release n, tt))),
-      ((moved C n _ _ p, ((λ t r. silent C _ (r.0, i.0, (i.1, i.2, i.3), r.3, r.4, r.5, r.6, r.7, r.8)), ((λ t r. making C _ _ r tt), ((λ t r. silent C _ r), tt)))), tt),
+      ((moved C n _ _ p, ((λ t r. silent C _ (r.0, i.0, (i.1, i.2, i.3), r.3, r.4, r.5, r.6, r.7, r.8, r.9)), ((λ t r. making C _ _ r tt), ((λ t r. silent C _ r), tt)))), tt),
     )
 message C k row s q m bodies.Service p i =
     let n = k normal_release (nas_code 0 (lit< tt)) in
@@ -295,7 +332,7 @@ message C k row s q m bodies.ContextFailed p i =
     let u = k unspecified (nas_code 3 (lit< tt)) in ((dropped C unspecified u, tt), ((freed C unspecified u, tt), tt))
 message C k row s q m (bodies.ReleaseAsked cause) p i = ((dropped C cause (k cause i), tt), ((freed C cause (k cause i), tt), tt))
 message C k row s q m bodies.Released p i = (((λ t r. silent C _ (with_link C Off tt t r)), ((λ t r. silent C _ r), tt)), tt)
-message C k row s q m (bodies.Capability octets) p i = (((λ t r. silent C _ (r.0, r.1, r.2, r.3, r.4, r.5, r.6, r.7, radio_low (length octets))), tt), tt)
+message C k row s q m (bodies.Capability octets) p i = (((λ t r. silent C _ (r.0, r.1, r.2, r.3, r.4, r.5, r.6, r.7, radio_low (length octets), r.9)), tt), tt)
 message C k row s q m bodies.Data p i = (((λ t r. making C _ _ r r.1), tt), tt)
 message C k row s q m (bodies.PdnRequest pti) p i = tt
 message C k row s q m bodies.PdnAccept p i = tt
@@ -304,12 +341,12 @@ message C k row s q m bodies.SecondRefused p i = tt
 
 answer : (C : CauseCode → Type 0) (row : Subscriber) (s : Session) → Ranged C s → (a : Answer) → IsAnswer a → RulesRight C (attach_answer s a ++ service_answer s a ++ [] ++ detach_answer s a)
 answer C row s q (answers.Vectors rand autn res key) i =
-    (((λ t r. silent C _ (r.0, r.1, r.2, (i.res_most, i.res_octets, full_key key i.key), r.4, r.5, r.6, r.7, r.8)), (told C (nas.AuthRequest rand autn) (i.rand, i.autn) (i.rand_octets, i.autn_octets), ((λ t r. silent C _ r), tt))), tt)
+    (((λ t r. silent C _ (r.0, r.1, r.2, (i.res_most, i.res_octets, full_key key i.key), r.4, r.5, r.6, r.7, r.8, r.9)), (told C (nas.AuthRequest rand autn) (i.rand, i.autn) (i.rand_octets, i.autn_octets), ((λ t r. silent C _ r), tt))), tt)
 answer C row s q (answers.Located dl ul) i =
-    (((λ t r. silent C _ (r.0, r.1, r.2, r.3, i, r.5, r.6, r.7, r.8)), ((λ t r. making C _ _ r tt), ((λ t r. silent C _ r), tt))), tt)
+    (((λ t r. silent C _ (r.0, r.1, r.2, r.3, i, r.5, r.6, r.7, r.8, r.9)), ((λ t r. making C _ _ r tt), ((λ t r. silent C _ r), tt))), tt)
 answer C row s q answers.Purged i = tt
 answer C row s q (answers.Created sgw teid ip) i =
-    (((λ t r. silent C _ (r.0, r.1, r.2, r.3, r.4, i, r.6, r.7, r.8)), (set_up C (accepts.Yes s.plmn s.tac s.pti ip) (q.1, q.2.2, i.2), ((λ t r. silent C _ r), tt))), tt)
+    (((λ t r. silent C _ (r.0, r.1, r.2, r.3, r.4, i, r.6, r.7, r.8, r.9)), (set_up C (accepts.Yes s.plmn s.tac s.pti ip) (q.1, q.2.2, i.2), ((λ t r. silent C _ r), tt))), tt)
 answer C row s q answers.Modified i = (((λ t r. silent C _ r), ((λ t r. silent C _ r), tt)), tt)
 answer C row s q answers.Freed i = (((λ t r. silent C _ r), (released C, tt)), tt)
 answer C row s q answers.Deleted i =
@@ -317,10 +354,86 @@ answer C row s q answers.Deleted i =
 answer C row s q (answers.SecondCreated sgw teid ip) i = tt
 answer C row s q answers.SecondModified i = tt
 
-right : (C : CauseCode → Type 0) (k : (c : CauseCode) → IsCauseCode c → C c) (row : Subscriber) (s : Session) (input : Input) → Ranged C s → IsInput input → Right C (step_of row s input)
-unfolding step_table step_of
+right : (C : CauseCode → Type 0) (k : (c : CauseCode) → IsCauseCode c → C c) (row : Subscriber) (s : Session) (input : Input) → Ranged C s → IsInput input → Right C (unwrap_or (table_step row s input) (made s []))
+unfolding step_table
 right C k row s (inputs.Message m) r i = rules_right C (step_table row s (inputs.Message m)) s r (message C k row s r m m.body i.pair i.body)
 right C k row s (inputs.Answer lane n a) r i = rules_right C (step_table row s (inputs.Answer lane n a)) s r (answer C row s r a i)
+
+-- ---- a second connection
+
+pub record RightIn (C : CauseCode → Type 0) (A : Type 0) (step : Step) : Type 0 where
+  pub session : Ranged C step.session
+  pub effects : All (EffectIn C A) step.effects
+
+silent_in : (C : CauseCode → Type 0) (A : Type 0) (s : Session) → Ranged C s → RightIn C A (made s [])
+silent_in C A s r = record { session = r; effects = All-nil (EffectIn C A) }
+
+making_in : (C : CauseCode → Type 0) (A : Type 0) (s : Session) (effect : Effect) → Ranged C s → EffectIn C A effect → RightIn C A (made s (effect ∷ []))
+making_in C A s effect r h = record { session = r; effects = All-cons (EffectIn C A) effect [] h (All-nil (EffectIn C A)) }
+
+right_in : (C : CauseCode → Type 0) (A : Type 0) (step : Step) → Right C step → RightIn C A step
+right_in C A step r = record { session = r.session; effects = All-weaker (EffectIs C) (EffectIn C A) (effect_in C A) step.effects r.effects }
+
+with_side2 : (C : CauseCode → Type 0) (addr teid : ℕ) → IsTunnel addr teid → (s : Session) → Ranged C s → Ranged C (record s { side2_addr = addr; side2_teid = teid })
+with_side2 C addr teid h s r = (r.0, r.1, r.2, r.3, r.4, r.5, r.6, r.7, r.8, (r.9.0, r.9.1, h))
+
+own_message : (C : CauseCode → Type 0) (A : Type 0) (row : Subscriber) (s : Session) → Ranged C s → (m : Message) (b : Body) → IsBody b → RulesMake (RightIn C A) s (second_message row s m b)
+own_message C A row s r m (bodies.PdnRequest pti) i =
+    ((λ h. making_in C A _ _ (r.0, r.1, r.2, r.3, r.4, r.5, r.6, r.7, r.8, (i, r.9.1, r.9.2)) tt), ((λ h. making_in C A _ _ r (receiver s.link r.0, tt, (i, lit< tt))), tt))
+own_message C A row s r m (bodies.SecondDone addr teid) i =
+    ((λ h. silent_in C A _ (with_side2 C addr teid i s r)), ((λ h. making_in C A _ _ (with_side2 C addr teid i s r) tt), tt))
+own_message C A row s r m bodies.PdnAccept i = ((λ h. silent_in C A _ r), ((λ h. making_in C A _ _ r tt), tt))
+own_message C A row s r m _ i = tt
+
+own_answer : (C : CauseCode → Type 0) (A : Type 0) (s : Session) → Ranged C s → (at stages.AwaitSecond s ≡ true → A) → (a : Answer) → IsAnswer a → RulesMake (RightIn C A) s (second_answer s a)
+own_answer C A s r k (answers.SecondCreated sgw teid ip) i =
+    ((λ h. making_in C A _ _ (r.0, r.1, r.2, r.3, r.4, r.5, r.6, r.7, r.8, (r.9.0, i, r.9.2)) (receiver s.link r.0, (i.0, i.1), r.9.0, i.2, k h)), tt)
+own_answer C A s r k answers.SecondModified i = ((λ h. silent_in C A _ r), tt)
+own_answer C A s r k _ i = tt
+
+own : (C : CauseCode → Type 0) (A : Type 0) (row : Subscriber) (s : Session) (input : Input) → Ranged C s → (at stages.AwaitSecond s ≡ true → A) → IsInput input → RulesMake (RightIn C A) s (second_rules row s input)
+own C A row s (inputs.Message m) r k i = own_message C A row s r m m.body i.body
+own C A row s (inputs.Answer lane n a) r k i = own_answer C A s r k a i
+
+both_in : (C : CauseCode → Type 0) (A : Type 0) (s : Session) → Ranged C s → (effect : Effect) → EffectIs C effect → EffectIn C A (with_both s effect)
+both_in C A s r (effects.Down (Setup station enb dl ul sgw teid eea eia key accept)) h = (h.0, h.1, h.2, h.3, h.4, (r.9.1.0, r.9.1.1))
+both_in C A s r (effects.Down (Nas station enb message)) h = h
+both_in C A s r (effects.Down (Release station enb cause)) h = h
+both_in C A s r (effects.Down (Page plmn tac)) h = h
+both_in C A s r (effects.Down (Erab station enb sgw teid pti ip)) h = absurd h
+both_in C A s r (effects.Down (SetupTwo station enb dl ul sgw teid eea eia key sgw2 teid2)) h = absurd h
+both_in C A s r (effects.Gateway call) h = tt
+both_in C A s r (effects.Subscriber call) h = tt
+
+changed_body : (C : CauseCode → Type 0) (A : Type 0) (s : Session) → Ranged C s → (b : Body) → IsBody b → (step : Step) → Right C step → RightIn C A (changed_message s b step)
+changed_body C A s r bodies.Service i step q =
+    let both = All-map (EffectIn C A) (with_both s) step.effects (All-weaker (EffectIs C) (λ effect. EffectIn C A (with_both s effect)) (both_in C A s r) step.effects q.effects) in
+    one_of (RightIn C A) (list_any is_setup step.effects) (made (record step.session { second = seconds.Made }) (map (with_both s) step.effects)) step (record { session = q.session; effects = both }) (right_in C A step q)
+changed_body C A s r (bodies.ContextDone addr teid (Some side)) i step q =
+    let same = right_in C A step q in
+    one_of (RightIn C A) (at stages.Connecting s) (made (record step.session { side2_addr = side.addr; side2_teid = side.teid; second = seconds.Radio }) step.effects) step
+    (record { session = with_side2 C side.addr side.teid i.2 step.session q.session; effects = same.effects }) same
+changed_body C A s r _ i step q = right_in C A step q
+
+changed_to : (C : CauseCode → Type 0) (A : Type 0) (s : Session) (a : Answer) (step : Step) → Right C step → RightIn C A (changed_answer s a step)
+changed_to C A s (answers.Created sgw teid ip) step q = record { session = q.session; effects = (right_in C A step q).effects }
+changed_to C A s answers.Deleted step q = record { session = q.session; effects = (right_in C A step q).effects }
+changed_to C A s answers.Freed step q = record { session = q.session; effects = (right_in C A step q).effects }
+changed_to C A s answers.Modified step q =
+    let same = right_in C A step q in
+    let call = effects.Gateway (gateway.SecondModify s.side2_addr s.side2_teid) in
+    one_of (RightIn C A) (second_at seconds.Radio s) (made (record step.session { stage = stages.AwaitSecondModify }) (step.effects ++ call ∷ [])) step
+    (record { session = q.session; effects = All-append (EffectIn C A) step.effects (call ∷ []) same.effects (All-cons (EffectIn C A) call [] tt (All-nil (EffectIn C A))) }) same
+changed_to C A s _ step q = right_in C A step q
+
+change : (C : CauseCode → Type 0) (A : Type 0) (s : Session) (input : Input) → Ranged C s → IsInput input → (step : Step) → Right C step → RightIn C A (changed s input step)
+change C A s (inputs.Message m) r i step q =
+    changed_or (RightIn C A) (second_at seconds.None s) step (changed_message s m.body step) (right_in C A step q) (λ some. changed_body C A s r m.body i.body step q)
+change C A s (inputs.Answer lane n a) r i step q =
+    changed_or (RightIn C A) (second_at seconds.None s) step (changed_answer s a step) (right_in C A step q) (λ some. changed_to C A s a step q)
+
+all_right : (C : CauseCode → Type 0) (k : (c : CauseCode) → IsCauseCode c → C c) (A : Type 0) (row : Subscriber) (s : Session) (input : Input) → Ranged C s → (at stages.AwaitSecond s ≡ true → A) → IsInput input → RightIn C A (step_of row s input)
+all_right C k A row s input r a i = laws_make (Right C) (RightIn C A) row s input (own C A row s input r a i) (right C k row s input r i) (change C A s input r i) (silent_in C A s r)
 
 -- ---- the laws
 
@@ -345,13 +458,16 @@ stored cause c = (c.0, by_mark cause.extended c.1)
     by_mark false h = let low = roots_low cause.group in omega arith
 
 pub keeps_ranges : (row : Subscriber) (s : Session) (input : Input) → IsSession s → IsInput input → IsSession (step_of row s input).session
-keeps_ranges row s input r i = session_from IsStoredCause (step_of row s input).session (λ c. c) (right IsStoredCause stored row s input (ranged s r) i).session (keeps_single row s input (r.no_second, r.stage))
+keeps_ranges row s input r i = session_from IsStoredCause (step_of row s input).session (λ c. c) (all_right IsStoredCause stored (Unit {0}) row s input (ranged s r) (λ h. tt) i).session
 
 pub keeps_cause : (row : Subscriber) (s : Session) (input : Input) → IsSession s → IsCauseCode s.cause → IsInput input → IsCauseCode (step_of row s input).session.cause
-keeps_cause row s input r c i = (right IsCauseCode (λ d h. h) row s input (ranged_with IsCauseCode s r c) i).session.7
+keeps_cause row s input r c i = (all_right IsCauseCode (λ d h. h) (Unit {0}) row s input (ranged_with IsCauseCode s r c) (λ h. tt) i).session.7
 
-all_writable : (row : Subscriber) (es : List Effect) → All (EffectIs IsCauseCode) es → All (IsWritable row) es
-all_writable row es a = λ i d h. writable row _ (a i d h)
+all_writable : (row : Subscriber) (es : List Effect) → All (EffectIn IsCauseCode (IsSome row.apn2)) es → All (IsWritable row) es
+all_writable row es a = All-weaker (EffectIn IsCauseCode (IsSome row.apn2)) (IsWritable row) (writable row) es a
 
-pub writes_effects : (row : Subscriber) (s : Session) (input : Input) → IsSession s → IsCauseCode s.cause → IsInput input → All (IsWritable row) (step_of row s input).effects
-writes_effects row s input r c i = all_writable row (step_of row s input).effects (right IsCauseCode (λ d h. h) row s input (ranged_with IsCauseCode s r c) i).effects
+-- a second bearer is set up for a row with its access point name
+pub writes_effects : (row : Subscriber) (s : Session) (input : Input) → IsSession s → IsCauseCode s.cause → MayBeOf row s → IsInput input → All (IsWritable row) (step_of row s input).effects
+writes_effects row s input r c b i =
+    let name : at stages.AwaitSecond s ≡ true → IsSome row.apn2 = λ h. (awaits_create row s.stage h b.0).0 in
+    all_writable row (step_of row s input).effects (all_right IsCauseCode (λ d h. h) (IsSome row.apn2) row s input (ranged_with IsCauseCode s r c) name i).effects

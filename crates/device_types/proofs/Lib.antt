@@ -4,6 +4,7 @@ pub mod Calls
 pub mod Connecting
 pub mod Courses
 pub mod Elsewhere
+pub mod Entitled
 pub mod Few
 pub mod Joined
 pub mod Journals
@@ -11,6 +12,6 @@ pub mod Keeping
 pub mod Members
 pub mod Peers
 pub mod Prefixes
-pub mod Single
+pub mod Steps
 pub mod Tests
 pub mod Worked

@@ -1,6 +1,7 @@
 -- The step is that of any row that fits.
-use Rattle.std.proofs.Common.{◌≡◌, ◌+◌, ◌≤◌, ⊎_elim, Bool, true, false, cond, List, [], ◌∷◌, Some, None, refl, ap, arith, rules}
-use Rattle.std.specs.Prelude.{unwrap_or}
+use Rattle.std.proofs.Common.{◌≡◌, ◌+◌, ◌≤◌, ⊎_elim, Bool, true, false, cond, List, [], ◌∷◌, ◌++◌, Some, None, refl, ap, ◌∙◌, arith, rules}
+use Rattle.std.specs.Prelude.{unwrap_or, option_map}
+use Rattle.std.specs.Option.{option_or}
 use Rattle.std.specs.List.{count_by}
 use Rattle.std.proofs.lemmas.Grind.{common_steps}
 use Rattle.device_types.specs.declared.subscriber.Subscriber.{Subscriber}
@@ -9,7 +10,8 @@ use Rattle.device_types.specs.declared.input.Input.{Input}
 use Rattle.device_types.specs.declared.step.Step.{Step}
 use Rattle.device_types.specs.Acts.{made, run}
 use Rattle.device_types.specs.Rule.{Rule, fitting}
-use Rattle.device_types.specs.StepTable.{fit_count, step_table, step_of, Follows}
+use Rattle.device_types.specs.Second.{second_rules, changed}
+use Rattle.device_types.specs.StepTable.{fit_count, step_table, table_step, step_of, Follows}
 use Rattle.device_types.proofs.Apart.{apart}
 
 count-cons : (r : Rule) (rs : List Rule) → count_by (λ x. x.fits) (r ∷ rs) ≡ cond r.fits 1 0 + count_by (λ x. x.fits) rs
@@ -41,10 +43,6 @@ only_one (r ∷ rs) s t n f =
     by_test true some sum e = absurd (omega arith)
     by_test false some sum e = e
 
-pub step_of_row : (row : Subscriber) (s : Session) (input : Input) (t : Step) → Follows (step_table row s input) s t → step_of row s input ≡ t
-unfolding step_of
-step_of_row row s input t f = ap (λ o. unwrap_or o (made s [])) (only_one (step_table row s input) s t (apart row s input) f)
-
 -- where no row fits, there is no step
 none_fits : (rs : List Rule) (s : Session) → count_by (λ x. x.fits) rs ≡ 0 → fitting rs s ≡ None
 none_fits [] s h = refl
@@ -54,6 +52,36 @@ none_fits (r ∷ rs) s h = by_test r.fits (none_fits rs s) (rw (← count-cons r
     by_test true k e = absurd (omega arith)
     by_test false k e = k (omega arith)
 
+count-append : (xs ys : List Rule) → count_by (λ x. x.fits) (xs ++ ys) ≡ count_by (λ x. x.fits) xs + count_by (λ x. x.fits) ys
+count-append xs ys = search (rules, common_steps)
+
+-- how many fit of each of two lists
+counts : (row : Subscriber) (s : Session) (input : Input) → fit_count row s input ≡ count_by (λ x. x.fits) (second_rules row s input) + count_by (λ x. x.fits) (step_table row s input)
+counts row s input = count-append (second_rules row s input) (step_table row s input)
+
+pub step_of_second : (row : Subscriber) (s : Session) (input : Input) (t : Step) → Follows (second_rules row s input) s t → step_of row s input ≡ t
+unfolding step_of
+step_of_second row s input t f =
+    let sum = counts row s input in
+    let low = apart row s input in
+    ap (λ o. unwrap_or (option_or o (option_map (changed s input) (table_step row s input))) (made s [])) (only_one (second_rules row s input) s t (omega arith) f)
+
+pub step_of_row : (row : Subscriber) (s : Session) (input : Input) (t : Step) → Follows (step_table row s input) s t → step_of row s input ≡ changed s input t
+unfolding step_of
+step_of_row row s input t f =
+    let own = second_rules row s input in
+    let base = step_table row s input in
+    let sum = counts row s input in
+    let low = apart row s input in
+    let some = counted base s t f in
+    ap (λ o. unwrap_or (option_or o (option_map (changed s input) (table_step row s input))) (made s [])) (none_fits own s (omega arith))
+    ∙ ap (λ o. unwrap_or (option_map (changed s input) o) (made s [])) (only_one base s t (omega arith) f)
+
 pub step_of_none : (row : Subscriber) (s : Session) (input : Input) → fit_count row s input ≡ 0 → step_of row s input ≡ made s []
 unfolding step_of
-step_of_none row s input h = ap (λ o. unwrap_or o (made s [])) (none_fits (step_table row s input) s h)
+step_of_none row s input h =
+    let own = second_rules row s input in
+    let base = step_table row s input in
+    let sum = counts row s input in
+    ap (λ o. unwrap_or (option_or o (option_map (changed s input) (table_step row s input))) (made s [])) (none_fits own s (omega arith))
+    ∙ ap (λ o. unwrap_or (option_map (changed s input) o) (made s [])) (none_fits base s (omega arith))

@@ -1,7 +1,7 @@
 -- Worked runs of the machine alone, computed: the cheapest test of the step table.
-use Rattle.std.proofs.Common.{◌≡◌, ℕ, true, false, List, [], ◌∷◌, length, drop, None, refl}
+use Rattle.std.proofs.Common.{◌≡◌, ℕ, true, false, List, [], ◌∷◌, length, take, drop, Some, None, refl}
 use Rattle.device_types.specs.declared.cause.CauseCode.{CauseCode}
-use Rattle.device_types.specs.declared.down.Down.TheVariants.{Nas, Setup, Release, Page}
+use Rattle.device_types.specs.declared.down.Down.TheVariants.{Nas, Setup, Release, Page, Erab, SetupTwo}
 use Rattle.device_types.specs.declared.down.Accept.TheVariants.{No}
 use Rattle.device_types.specs.declared.effect.Effect.TheVariants as effects
 use Rattle.device_types.specs.declared.effect.GwCall.TheVariants as gateway
@@ -10,7 +10,7 @@ use Rattle.device_types.specs.declared.event.Lane.TheVariants as lanes
 use Rattle.device_types.specs.declared.message.Body.{Body}
 use Rattle.device_types.specs.declared.message.Body.TheVariants as bodies
 use Rattle.device_types.specs.declared.message.Message.{Message}
-use Rattle.device_types.specs.declared.nas_out.NasOut.TheVariants.{AuthRequest, AuthReject}
+use Rattle.device_types.specs.declared.nas_out.NasOut.TheVariants.{AuthRequest, AuthReject, DetachAccept, PdnReject}
 use Rattle.device_types.specs.declared.session.Stage.TheVariants as stages
 use Rattle.device_types.specs.declared.subscriber.Subscriber.{Subscriber}
 use Rattle.device_types.specs.Acts.{moves_connection, drops_ue, frees_bearers}
@@ -59,6 +59,19 @@ day =
     ∷ from 9 2 bodies.Service ∷ from 10 2 (bodies.ContextDone 14 15 None) ∷ from 11 2 (bodies.ReleaseAsked inactivity) ∷ from 12 2 bodies.Released
     ∷ from 13 3 (bodies.Area true 0x02f839 9) ∷ from 14 3 bodies.Released
     ∷ from 15 4 (bodies.Detach true false) ∷ from 16 4 bodies.Released ∷ []
+
+-- with a name and an address for a second connection
+two : Subscriber
+two = record row { apn2 = Some (14 ∷ []); ip2 = Some 15 }
+
+-- attach; a second connection; release; service; detach
+second : List Message
+second =
+    from 1 1 (bodies.Attach 0x02f839 1 224 224 1) ∷ from 2 1 (bodies.Response (3 ∷ 4 ∷ [])) ∷ from 3 1 bodies.Secured
+    ∷ from 4 1 (bodies.ContextDone 12 13 None) ∷ from 5 1 bodies.AttachDone
+    ∷ from 6 1 (bodies.PdnRequest 2) ∷ from 7 1 bodies.PdnAccept ∷ from 8 1 (bodies.SecondDone 16 17)
+    ∷ from 9 1 (bodies.ReleaseAsked inactivity) ∷ from 10 1 bodies.Released
+    ∷ from 11 2 bodies.Service ∷ from 12 2 (bodies.ContextDone 18 19 (Some (record { addr = 20; teid = 21 }))) ∷ from 13 2 (bodies.Detach false false) ∷ []
 
 -- the wrong response
 refused : List Message
@@ -122,3 +135,17 @@ waiting-downs = refl
 waiting-last : (session_of (alone_of row waiting)).stage ≡ stages.Connecting
 unfolding alone_of step_table step_of moves_connection drops_ue frees_bearers row waiting notice from inactivity
 waiting-last = refl
+
+second-gateway : effects_of lanes.Gateway (alone_of two second) ≡ effects.Gateway gateway.Create ∷ effects.Gateway (gateway.Modify 12 13) ∷ effects.Gateway gateway.SecondCreate ∷ effects.Gateway (gateway.SecondModify 16 17) ∷ effects.Gateway gateway.Release ∷ effects.Gateway (gateway.Modify 18 19) ∷ effects.Gateway (gateway.SecondModify 20 21) ∷ effects.Gateway gateway.Delete ∷ []
+unfolding alone_of step_table step_of moves_connection drops_ue frees_bearers two row second from inactivity
+second-gateway = refl
+
+-- the second bearer, and both again behind the service request
+second-downs : drop 3 (effects_of lanes.Down (alone_of two second)) ≡ effects.Down (Erab 1 1 8 10 2 15) ∷ effects.Down (Release 1 1 inactivity) ∷ effects.Down (SetupTwo 1 2 10 11 8 9 224 224 (5 ∷ []) 8 10) ∷ effects.Down (Nas 1 2 DetachAccept) ∷ effects.Down (Release 1 2 (record { group = 2; extended = false; index = 2 })) ∷ []
+unfolding alone_of step_table step_of moves_connection drops_ue frees_bearers two row second from inactivity
+second-downs = refl
+
+-- a subscriber without them: the request is rejected
+second-rejected : drop 3 (effects_of lanes.Down (alone_of row (take 6 second))) ≡ effects.Down (Nas 1 1 (PdnReject 2 27)) ∷ []
+unfolding alone_of step_table step_of moves_connection drops_ue frees_bearers row second from inactivity
+second-rejected = refl

@@ -2,7 +2,7 @@
 use Rattle.std.specs.Prelude.{ℕ, ◌==◌, Bool, if◌then◌else◌, ◌&&◌, true, false, List, [], ◌∷◌, ◌++◌}
 use Rattle.device_types.specs.declared.cause.CauseCode.{CauseCode}
 use Rattle.device_types.specs.declared.down.Accept.{Accept}
-use Rattle.device_types.specs.declared.down.Down.TheVariants.{Nas, Setup, Release, Page}
+use Rattle.device_types.specs.declared.down.Down.TheVariants.{Nas, Setup, Release, Page, Erab}
 use Rattle.device_types.specs.declared.effect.Effect.{Effect}
 use Rattle.device_types.specs.declared.effect.Effect.TheVariants as effects
 use Rattle.device_types.specs.declared.effect.GwCall.{GwCall}
@@ -98,6 +98,13 @@ setup accept s = effects.Down (Setup (station_of s.link) (enb_of s.link) s.dl s.
 
 abbrev pub sets_up : Accept → Act
 sets_up accept s = made s (setup accept s ∷ [])
+
+-- the setup of the second bearer, with what the device asked for (TS 23.401, 5.10.2 step 7)
+abbrev pub second_setup : Session → Effect
+second_setup s = effects.Down (Erab (station_of s.link) (enb_of s.link) s.sgw2 s.teid2 s.pti2 s.ip2)
+
+abbrev pub sets_up_second : Act
+sets_up_second s = made s (second_setup s ∷ [])
 
 -- the release of the device's context, for the session's cause (TS 23.401, 5.3.5 step 4)
 abbrev pub release : Session → Effect

@@ -22,6 +22,7 @@ pub mod Octets
 pub mod PeerAnswer
 pub mod Ready
 pub mod Rule
+pub mod Second
 pub mod Service
 pub mod Session
 pub mod StepLaws

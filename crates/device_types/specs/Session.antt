@@ -1,5 +1,5 @@
 -- The session of a device: that of one never seen, and the ranges of its fields.
-use Rattle.std.specs.Prelude.{◌≡◌, ◌^◌, ◌<◌, ◌≤◌, false, [], length, replicate}
+use Rattle.std.specs.Prelude.{◌^◌, ◌<◌, ◌≤◌, false, [], length, replicate}
 use Rattle.device_types.specs.declared.session.Link.{Link}
 use Rattle.device_types.specs.declared.session.Link.TheVariants.{Off, On}
 use Rattle.device_types.specs.declared.session.Bearer.TheVariants as bearer
@@ -11,7 +11,6 @@ use Rattle.device_types.specs.Keys.{IsKey}
 use Rattle.device_types.specs.Message.{IsArea, IsPair}
 use Rattle.device_types.specs.Numbers.{IsBitRate}
 use Rattle.device_types.specs.Octets.{AreOctets}
-use Rattle.device_types.specs.Rule.{number}
 
 abbrev pub opening : Session
 opening = record {
@@ -49,13 +48,8 @@ abbrev pub IsLink : Link → Type 0
 IsLink Off = Unit {0}
 IsLink (On station enb) = IsPair station enb
 
--- the device has no second connection
-abbrev pub HasNoSecond : Session → Type 0
-HasNoSecond s = (s.second ≡ second.None) × (s.pti2 ≡ 0) × (s.sgw2 ≡ 0) × (s.teid2 ≡ 0) × (s.ip2 ≡ 0) × (s.side2_addr ≡ 0) × (s.side2_teid ≡ 0)
-
--- a session as it is stored: in a stage below those of a second connection, and without one
+-- a session as it is stored
 pub record IsSession (s : Session) : Type 0 where
-  pub stage : number s.stage < 16
   pub link : IsLink s.link
   pub area : IsArea s.plmn s.tac
   pub eea : s.eea < 256
@@ -73,4 +67,9 @@ pub record IsSession (s : Session) : Type 0 where
   pub side_teid : s.side_teid < 2 ^ 32
   pub cause : IsStoredCause s.cause
   pub radio : s.radio < 2 ^ 32
-  pub no_second : HasNoSecond s
+  pub pti2 : s.pti2 < 256
+  pub sgw2 : s.sgw2 < 2 ^ 32
+  pub teid2 : s.teid2 < 2 ^ 32
+  pub ip2 : s.ip2 < 2 ^ 32
+  pub side2_addr : s.side2_addr < 2 ^ 32
+  pub side2_teid : s.side2_teid < 2 ^ 32

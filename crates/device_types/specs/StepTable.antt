@@ -1,5 +1,5 @@
--- The step table (after TS 23.401), and the step that follows from it.
-use Rattle.std.specs.Prelude.{◌≡◌, ◌⊎◌, ℕ, true, List, [], ◌∷◌, ◌++◌, Option, Some, None, unwrap_or}
+-- The step table (after TS 23.401), and the step that follows from it and from the rows of a second connection.
+use Rattle.std.specs.Prelude.{◌≡◌, ◌⊎◌, ℕ, true, List, [], ◌∷◌, ◌++◌, Option, unwrap_or}
 use Rattle.std.specs.List.{count_by}
 use Rattle.device_types.specs.declared.input.Input.{Input}
 use Rattle.device_types.specs.declared.input.Input.TheVariants as inputs
@@ -11,6 +11,7 @@ use Rattle.device_types.specs.AreaUpdate.{area_message}
 use Rattle.device_types.specs.Attach.{attach_message, attach_answer}
 use Rattle.device_types.specs.Detach.{detach_message, detach_answer}
 use Rattle.device_types.specs.Rule.{Rule, fitting}
+use Rattle.device_types.specs.Second.{second_rules, second_of}
 use Rattle.device_types.specs.Service.{service_message, service_answer}
 
 -- the rows of each procedure for an input
@@ -33,22 +34,21 @@ detach_rules s (inputs.Answer lane k answer) = detach_answer s answer
 unfoldable pub step_table : Subscriber → Session → Input → List Rule
 step_table row s input = attach_rules row s input ++ service_rules s input ++ area_rules row s input ++ detach_rules s input
 
--- the step of the row that fits; where none fits, the session as before and no effects
+-- the step of the row that fits, if one does
+abbrev pub table_step : Subscriber → Session → Input → Option Step
+table_step row s input = fitting (step_table row s input) s
+
+-- the step; where no row fits, the session as before and no effects
 unfoldable pub step_of : Subscriber → Session → Input → Step
-step_of row s input = unwrap_or (fitting (step_table row s input) s) (made s [])
+step_of row s input = unwrap_or (second_of row s input (table_step row s input)) (made s [])
 
--- ---- the table as a relation
+-- ---- the tables as a relation
 
--- how many rows fit
+-- how many rows fit, those of a second connection among them
 abbrev pub fit_count : Subscriber → Session → Input → ℕ
-fit_count row s input = count_by (λ r. r.fits) (step_table row s input)
+fit_count row s input = count_by (λ r. r.fits) (second_rules row s input ++ step_table row s input)
 
 -- some row fits, and this is its step
 abbrev pub Follows : List Rule → Session → Step → Type 0
 Follows [] s step = ⊥
 Follows (r ∷ rs) s step = ((r.fits ≡ true) × (step ≡ run r.acts s)) ⊎ Follows rs s step
-
--- the first of two, or else the second
-abbrev pub either : Option Step → Option Step → Option Step
-either (Some step) other = Some step
-either None other = other

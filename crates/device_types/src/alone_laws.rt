@@ -9,6 +9,7 @@ ghost use Rattle.device_types.specs.Journal.{awaited_call, taken_count};
 ghost use Rattle.device_types.specs.Line.{IsNumbered};
 ghost use Rattle.device_types.specs.Message.{IsMessage};
 ghost use Rattle.device_types.specs.Ready.{IsReady};
+ghost use Rattle.device_types.specs.Second.{MayBeOf};
 ghost use Rattle.device_types.specs.Session.{IsSession};
 ghost use Rattle.device_types.specs.Subscriber.{IsSubscriber};
 
@@ -62,4 +63,11 @@ pub fn alone_is_sound(_row: &Subscriber, _messages: &[Message])
         → All (IsWritable _row.now) entry.step.effects }
     ensures sent { (v : ℕ) (entry : Entry) → slice_get (alone_of _row.now _messages.now) v ≡ Some entry
         → All IsSent entry.step.effects }
+{}
+
+/// A session that awaits a second connection, or has one, is that of a row with an access point name and an address for it.
+#[tactic(auto, using(crate::proofs::Courses::both_entry))]
+pub fn alone_has_both(_row: &Subscriber, _messages: &[Message])
+    ensures { (v : ℕ) (entry : Entry) → slice_get (alone_of _row.now _messages.now) v ≡ Some entry
+        → MayBeOf _row.now entry.step.session }
 {}

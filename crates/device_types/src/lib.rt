@@ -26,7 +26,9 @@ mod step_laws;
 mod subscriber;
 mod try_copy;
 
-pub use alone_laws::{alone_is_ready, alone_is_sound, alone_is_the_only, alone_takes_each};
+pub use alone_laws::{
+    alone_has_both, alone_is_ready, alone_is_sound, alone_is_the_only, alone_takes_each,
+};
 pub use book::Book;
 pub use cause::CauseCode;
 pub use down::{Accept, Down, Downs};

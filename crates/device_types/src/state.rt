@@ -1,9 +1,10 @@
 //! What the step table asks of a session, a message and a subscriber.
 ghost use Rattle.std.specs.Prelude.{◌≡◌};
 ghost use Rattle.device_types.specs.Rule.{number, at, settled, held, gone, attaching, is_attaching, served, here, forbidden};
+ghost use Rattle.device_types.specs.Second.{second_number, second_at, has_both};
 
 use crate::message::Message;
-use crate::session::{Link, Session, Stage};
+use crate::session::{Link, Second, Session, Stage};
 use crate::subscriber::Subscriber;
 use std::alloc::Global;
 
@@ -30,6 +31,15 @@ impl Stage {
     }
 }
 
+impl Second {
+    /// The number of the state, from 0, in the order in which they are listed.
+    pub fn number(self) -> u8
+        ensures { result ≡ second_number self }
+    {
+        self as u8
+    }
+}
+
 impl Session {
     /// The allocator that holds the session.
     pub fn alloc(&self) -> Global {
@@ -41,6 +51,13 @@ impl Session {
         ensures { result ≡ at stage self.now }
     {
         self.stage.number() == stage.number()
+    }
+
+    /// Is the second connection in this state?
+    pub fn is_second_at(&self, second: Second) -> bool
+        ensures { result ≡ second_at second self.now }
+    {
+        self.second.number() == second.number()
     }
 
     /// Is no answer to a call awaited?
@@ -116,5 +133,12 @@ impl Subscriber {
         ensures { result ≡ forbidden self.now tac }
     {
         self.forbidden.items().iter().any(|area| *area == tac)
+    }
+
+    /// Has the subscriber an access point name and an address for a second connection?
+    pub fn has_both(&self) -> bool
+        ensures { result ≡ has_both self.now }
+    {
+        self.apn2.is_some() && self.ip2.is_some()
     }
 }

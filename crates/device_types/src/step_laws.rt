@@ -10,6 +10,7 @@ ghost use Rattle.device_types.specs.Input.{IsInput};
 ghost use Rattle.device_types.specs.Journal.{is_awaited};
 ghost use Rattle.device_types.specs.PeerAnswer.{answer_of};
 ghost use Rattle.device_types.specs.Rule.{forbidden, settled};
+ghost use Rattle.device_types.specs.Second.{second_rules, changed, MayBeOf};
 ghost use Rattle.device_types.specs.Session.{IsSession};
 ghost use Rattle.device_types.specs.StepLaws.{comes, IsElsewhere, IsListed};
 ghost use Rattle.device_types.specs.StepTable.{fit_count, step_of, step_table, Follows};
@@ -22,17 +23,20 @@ use crate::session::Session;
 use crate::step::Step;
 use crate::subscriber::Subscriber;
 
-/// No two rows of the step table fit.
+/// No two rows fit, of the step table and of a second connection.
 #[tactic(auto, using(crate::proofs::Apart::apart))]
 pub fn one_row_fits(_row: &Subscriber, _session: &Session, _input: &Input)
     ensures { fit_count _row.now _session.now _input.now ≤ 1 }
 {}
 
-/// The step is that of whatever row fits; where none fits, the session is as before, and nothing is made.
-#[tactic(auto, using(crate::proofs::Members::step_of_row, crate::proofs::Members::step_of_none))]
+/// The step is that of whatever row fits: of one of a second connection as it is, and of one of the step table with its changes; where
+/// none fits, the session is as before, and nothing is made.
+#[tactic(auto, using(crate::proofs::Members::step_of_second, crate::proofs::Members::step_of_row, crate::proofs::Members::step_of_none))]
 pub fn step_of_row(_row: &Subscriber, _session: &Session, _input: &Input, _step: &Step)
-    ensures fits { Follows (step_table _row.now _session.now _input.now) _session.now _step.now
+    ensures second { Follows (second_rules _row.now _session.now _input.now) _session.now _step.now
         → step_of _row.now _session.now _input.now ≡ _step.now }
+    ensures fits { Follows (step_table _row.now _session.now _input.now) _session.now _step.now
+        → step_of _row.now _session.now _input.now ≡ changed _session.now _input.now _step.now }
     ensures none { fit_count _row.now _session.now _input.now ≡ 0
         → step_of _row.now _session.now _input.now ≡ made _session.now [] }
 {}
@@ -67,13 +71,16 @@ pub fn step_keeps_ranges(_row: &Subscriber, _session: &Session, _input: &Input)
     ensures { IsSession (step_of _row.now _session.now _input.now).session }
 {}
 
-/// Where the session's cause can be written, that of the next one can be too, and each effect is a call or can be written.
-#[tactic(auto, using(crate::proofs::Keeping::keeps_cause, crate::proofs::Keeping::writes_effects))]
+/// Where the session's cause can be written, that of the next one can be too; where a session with a second connection is that of a
+/// row with a name and an address for it, so is the next one; and then each effect is a call or can be written.
+#[tactic(auto, using(crate::proofs::Keeping::keeps_cause, crate::proofs::Entitled::keeps_both, crate::proofs::Keeping::writes_effects))]
 pub fn step_can_be_written(_row: &Subscriber, _session: &Session, _input: &Input)
     requires session { IsSession _session.now }
     requires cause { IsCauseCode _session.now.cause }
+    requires second { MayBeOf _row.now _session.now }
     requires input { IsInput _input.now }
     ensures cause { IsCauseCode (step_of _row.now _session.now _input.now).session.cause }
+    ensures second { MayBeOf _row.now (step_of _row.now _session.now _input.now).session }
     ensures effects { All (IsWritable _row.now) (step_of _row.now _session.now _input.now).effects }
 {}
 
