@@ -17,6 +17,7 @@ use Rattle.store_disk.proofs.Moments.{started}
 use Rattle.store_disk.proofs.Runs.{same_file}
 use Rattle.session_disk.specs.Fits.{IsLogOf}
 use Rattle.session_disk.specs.Stored.{DiskState, entry_count, with_entry, record_of, IsAtRest}
+use Rattle.session_form.proofs.Sessions.{is_form}
 use Rattle.session_disk.proofs.Forms.{form_few}
 use Rattle.session_disk.proofs.Logs.{one_entry_more, log_more}
 use Rattle.session_disk.proofs.Takes.{Made, made}
@@ -61,7 +62,7 @@ module _ (follows : ℕ → List Entry → Entry → Type 0) (old new : StoreSta
     pub kept : (commit : Commit) (version : ℕ) → commit ≡ Committed version → Commits (row_of old.rows d) (row_of new.rows d) read entry commit → (row : RowState) → row ≡ row_of new.rows d → (octets : List ℕ) → octets ≡ form_of (session_of row.journal) → Kept version octets
     kept commit version same ok row row_is octets form =
         let m = made follows old new d read entry is others can lawful commit version same ok in
-        record { made = m; form = form ∙ ap (λ (r : RowState). form_of (session_of r.journal)) row_is ∙ m.form }
+        record { made = m; form = form ∙ ap (λ (r : RowState). form_of (session_of r.journal)) row_is ∙ ap form_of m.last }
 
   module _ (version : ℕ) (octets : List ℕ) (k : Kept version octets) where
     pub few_octets : length octets ≤ 241
@@ -77,7 +78,7 @@ module _ (rows later : List RowState) (d : ℕ) (entry : Entry) (is : IsDevice (
       let own : r.device ≡ d = ap (λ (q : LogRecord). q.device) recorded in
       let version : r.version ≡ length (journal_of rows d) + 1 = ap (λ (q : LogRecord). q.version) recorded ∙ ap (λ (n : ℕ). n + 1) newest in
       let session = ap (λ (q : LogRecord). q.session) recorded in
-      rw (grown, more) (log_more rows d entry is records r log own version (range, session))
+      rw (grown, more) (log_more rows d entry is records r log own version (is_form entry.step.session range r.session session))
 
   few_later : (gate next : ℕ) → gate ≤ 256 * entry_count rows → next ≡ gate + 1 + size_of r → next ≤ 256 * entry_count later
   few_later gate next few further =

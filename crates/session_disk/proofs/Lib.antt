@@ -1,4 +1,5 @@
 mod Commits
+mod Compared
 mod Foreign
 mod Forms
 mod Logs

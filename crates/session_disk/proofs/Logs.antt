@@ -14,7 +14,7 @@ use Rattle.session_store.specs.Rows.{IsDevice, opening_row, row_of, journal_of}
 use Rattle.session_store.proofs.Journals.{last_or_before}
 use Rattle.session_disk.specs.Fits.{Entries, count_of, Fits, AllFit, entries_in, IsLogOf}
 use Rattle.session_disk.specs.Stored.{entry_count, with_entry}
-use Rattle.session_disk.proofs.Forms.{form_few}
+use Rattle.session_disk.proofs.Forms.{forms_few}
 
 -- ---- counts of records
 
@@ -128,4 +128,4 @@ module _ (rows : List RowState) (d : ℕ) (entry : Entry) (is : IsDevice (length
 
   -- and its octets are few
   pub few_more : (place : ℕ) (r : LogRecord) → IsFormOf r.session entry.step.session → place ≤ 256 * entry_count rows → place + (1 + size_of r) ≤ 256 * entry_count later
-  few_more place r session few = omega (arith, few, one_entry_more, form_few entry.step.session session.0, ap length session.1)
+  few_more place r session few = omega (arith, few, one_entry_more, forms_few r.session entry.step.session session)

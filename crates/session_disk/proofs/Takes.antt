@@ -9,11 +9,11 @@ use Rattle.device_types.specs.Journal.{session_of}
 use Rattle.device_types.specs.Session.{IsSession}
 use Rattle.device_types.proofs.Journals.{last_more, session_more}
 use Rattle.disk_log.specs.Record.{LogRecord}
-use Rattle.session_form.specs.Form.{form_of, IsInRange}
+use Rattle.session_form.specs.Form.{IsFormOf, IsInRange}
 use Rattle.session_row.specs.declared.commit.Commit.{Commit}
 use Rattle.session_row.specs.declared.commit.Commit.TheVariants.{Committed, Stale}
 use Rattle.session_row.specs.Row.{RowState, Commits}
-use Rattle.session_disk.proofs.Forms.{in_range}
+use Rattle.session_form.proofs.Sessions.{in_range}
 use Rattle.session_store.specs.Law.{IsLawful, CanFollow}
 use Rattle.session_store.specs.Rows.{StoreState, IsDevice, row_of, journal_of, AreLawful}
 use Rattle.session_store.proofs.Journals.{lawful_front}
@@ -43,7 +43,7 @@ module _ (follows : ℕ → List Entry → Entry → Type 0) (old new : StoreSta
     pub next : version ≡ read + 1
     pub rows : new.rows ≡ with_entry old.rows d entry
     pub range : IsInRange entry.step.session
-    pub form : form_of (session_of (journal_of new.rows d)) ≡ form_of entry.step.session
+    pub last : session_of (journal_of new.rows d) ≡ entry.step.session
 
   module _ (can : (J : List Entry) → IsLawful (follows d) J → follows d J entry → CanFollow J entry) (lawful : AreLawful follows new.rows) where
     made_by : (version : ℕ) → Commits (row_of old.rows d) (row_of new.rows d) read entry (Committed version) → Made version
@@ -54,7 +54,7 @@ module _ (follows : ℕ → List Entry → Entry → Type 0) (old new : StoreSta
           next = ok.1;
           rows = ap (λ (s : StoreState). s.rows) others ∙ ap (set old.rows (d - 1)) ok.2;
           range = in_range entry.step.session (last_session (follows d) (journal_of old.rows d) entry can (subst (IsLawful (follows d)) grown (lawful d still_device)));
-          form = ap (λ (J : List Entry). form_of (session_of J)) grown ∙ ap form_of (session_more (journal_of old.rows d) entry);
+          last = ap session_of grown ∙ session_more (journal_of old.rows d) entry;
         }
 
     pub made : (commit : Commit) (version : ℕ) → commit ≡ Committed version → Commits (row_of old.rows d) (row_of new.rows d) read entry commit → Made version
@@ -63,7 +63,7 @@ module _ (follows : ℕ → List Entry → Entry → Type 0) (old new : StoreSta
     -- ---- of a record
 
     module _ (entries : Entries) (r : LogRecord) (own : r.device ≡ d) (next : r.version ≡ read + 1) (newest : read ≡ length (journal_of old.rows d)) (made : entries d read ≡ Some entry) where
-      taken_next : (commit : Commit) → Commits (row_of old.rows d) (row_of new.rows d) read entry commit → form_of (session_of (journal_of new.rows d)) ≡ r.session → Takes entries old.rows new.rows r
+      taken_next : (commit : Commit) → Commits (row_of old.rows d) (row_of new.rows d) read entry commit → IsFormOf r.session (session_of (journal_of new.rows d)) → Takes entries old.rows new.rows r
       taken_next (Stale asked current) ok same = absurd (ok.0 newest)
       taken_next (Committed version) ok same =
           let m = made_by version ok in (
@@ -72,20 +72,20 @@ module _ (follows : ℕ → List Entry → Entry → Type 0) (old new : StoreSta
               version = next ∙ ap (λ (n : ℕ). n + 1) (newest ∙ ap (λ (j : ℕ). length (journal_of old.rows j)) (sym own));
               entry = entry;
               made = ap (λ (j : ℕ). entries j (length (journal_of old.rows j))) own ∙ ap (entries d) (sym newest) ∙ made;
-              session = (m.range, sym same ∙ m.form);
+              session = subst (IsFormOf r.session) m.last same;
             },
             m.rows ∙ ap (λ (j : ℕ). with_entry old.rows j entry) (sym own),
           )
 
-      other_next : (commit : Commit) → Commits (row_of old.rows d) (row_of new.rows d) read entry commit → (form_of (session_of (journal_of new.rows d)) ≡ r.session → ⊥) → IsNext entries old.rows r → ⊥
+      other_next : (commit : Commit) → Commits (row_of old.rows d) (row_of new.rows d) read entry commit → (IsFormOf r.session (session_of (journal_of new.rows d)) → ⊥) → IsNext entries old.rows r → ⊥
       other_next (Stale asked current) ok other is_next = ok.0 newest
       other_next (Committed version) ok other is_next =
           let m = made_by version ok in
           let same : Some entry ≡ Some is_next.entry =
           sym made ∙ ap (entries d) newest ∙ ap (λ (j : ℕ). entries j (length (journal_of old.rows j))) (sym own) ∙ is_next.made in
           let entry_is : entry ≡ is_next.entry = same_Some _ _ same in
-          other (m.form ∙ ap (λ (e : Entry). form_of e.step.session) entry_is ∙ sym is_next.session.1)
+          other (subst (IsFormOf r.session) (sym (m.last ∙ ap (λ (e : Entry). e.step.session) entry_is)) is_next.session)
 
-      -- the octets are compared
-      pub told : (commit : Commit) → Commits (row_of old.rows d) (row_of new.rows d) read entry commit → (fits : Bool) → Decides fits (form_of (session_of (journal_of new.rows d)) ≡ r.session) → (fits ≡ true → Takes entries old.rows new.rows r) × (fits ≡ false → IsNext entries old.rows r → ⊥)
+      -- its octets are a form of the session, or not
+      pub told : (commit : Commit) → Commits (row_of old.rows d) (row_of new.rows d) read entry commit → (fits : Bool) → Decides fits (IsFormOf r.session (session_of (journal_of new.rows d))) → (fits ≡ true → Takes entries old.rows new.rows r) × (fits ≡ false → IsNext entries old.rows r → ⊥)
       told commit ok fits decides = (λ yes. taken_next commit ok (decides.0 yes), λ no. other_next commit ok (λ same. true≢false (sym (decides.1 same) ∙ no)))

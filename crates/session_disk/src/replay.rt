@@ -3,7 +3,7 @@ ghost use Rattle.std.specs.Prelude.{◌≡◌, ◌≤◌, ◌*◌, ℕ, true, fa
 ghost use Rattle.std.specs.Bool.{Decides};
 ghost use Rattle.device_types.specs.Journal.{session_of};
 ghost use Rattle.disk_log.specs.Log.{log_of, EndsAt};
-ghost use Rattle.session_form.specs.Form.{form_of};
+ghost use Rattle.session_form.specs.Form.{IsFormOf};
 ghost use Rattle.session_store.specs.Rows.{opening_row, IsDevice, AreLawful, journal_of};
 ghost use Rattle.session_disk.specs.Fits.{AreRowsOf, IsLogOf, IsForeign};
 ghost use Rattle.session_disk.specs.Replay.{IsNext, Takes};
@@ -14,15 +14,24 @@ use crate::fault::OpenCause;
 use crate::maker::Maker;
 use device_types::DeviceId;
 use disk_log::Record;
+use echo_base::Bad;
+use session_form::{read_session, write_session};
 use session_store::{RowLaw, Store};
 use std::alloc::AllocError;
 
-/// Has the row of a device the session of a record?
-fn has_session<L: RowLaw>(store: &Store<L>, d: DeviceId, next: &Record) -> bool
+/// Has the row of a device the session of a record, in whichever form? A row keeps it in form 2, in which what is read is written
+/// again. It fails for want of memory alone.
+fn has_session<L: RowLaw>(store: &Store<L>, d: DeviceId, next: &Record) -> Result<bool, AllocError>
     requires { IsDevice (length store.now.rows) d.0 }
-    ensures { Decides result (form_of (session_of (journal_of store.now.rows d.0)) ≡ next.now.session) }
+    ensures { IfOk result (λ has. Decides has (IsFormOf next.now.session (session_of (journal_of store.now.rows d.0)))) }
 {
-    store.row(d).octets() == next.session()
+    let row = store.row(d);
+    let alloc = row.session()?.alloc();
+    match read_session(alloc, next.session()) {
+        Ok(session) => Ok(write_session(alloc, &session)?.octets() == row.octets()),
+        Err(Bad::Refused(_)) => Ok(false),
+        Err(Bad::OutOfMemory) => Err(AllocError),
+    }
 }
 
 /// Puts the entry of a record into the store, where the record is the next one of its device; tells whether it is. It fails for
@@ -55,7 +64,7 @@ fn take_record<L: RowLaw, M: Maker<L>>(
     let Ok(_) = store.commit(d, version, entry) else {
         return Err(AllocError);
     };
-    Ok(has_session(store, d, next))
+    has_session(store, d, next)
 }
 
 /// Puts the entries of a log into a store that is empty. Tells the place of its last gate, which is closed.

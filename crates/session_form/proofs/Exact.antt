@@ -1,5 +1,5 @@
 -- Reading a field is exact for its format.
-use Rattle.std.proofs.Common.{◌≡◌, ℕ, zero, suc, ◌+◌, ◌≤◌, ◌&&◌, Bool, true, false, cond, eqb, ltb, leb, List, [], ◌∷◌, length, take, drop, map, Option, Some, None, Ok, refl, sym, ap, ◌∙◌, arith, inl, inr}
+use Rattle.std.proofs.Common.{◌≡◌, ℕ, zero, suc, ◌+◌, ◌-◌, ◌≤◌, ◌&&◌, Bool, true, false, cond, eqb, ltb, leb, List, [], ◌∷◌, length, take, drop, map, Option, Some, None, Ok, refl, sym, ap, ◌∙◌, arith, inl, inr}
 use Rattle.std.proofs.lemmas.Bool.{ltb-true, ltb-false, lt-ltb, le-ltb, leb-true, le-leb, and_parts, eqb-true, eq-eqb}
 use Rattle.std.proofs.lemmas.List.{take_at, drop_at, take-append-drop, length-append, length-take, nil_from_length}
 use Rattle.std.proofs.lemmas.Option.{same_Some}
@@ -12,7 +12,7 @@ use Rattle.echo_base.specs.Reading.{known}
 use Rattle.echo_base.proofs.Answers.{ok_of, bind, bind_same, bind_assoc, refused_ok, refused_err}
 use Rattle.echo_base.proofs.Formats.{just_exactly, behind, known_exactly}
 use Rattle.session_form.specs.Fields as fields
-use Rattle.session_form.specs.Fields.{Input, bad, Format, Reader, Code, plain, only, listed, number_of, value_of, Field, number, always, octets, counted, either, also, named, octets_in, from_here, IsNumberOf, number_in, choice_in, format, end_in, format_alone, octets_at, number_at, value_at, choice_at, reading, end_at, reading_alone}
+use Rattle.session_form.specs.Fields.{Input, bad, Format, Reader, Code, plain, only, from, listed, number_of, value_of, Field, number, always, octets, counted, either, also, on, named, octets_in, from_here, IsNumberOf, number_in, choice_in, format, end_in, format_alone, octets_at, number_at, value_at, choice_at, reading, end_at, reading_alone}
 
 -- ---- inputs
 
@@ -75,12 +75,14 @@ is_placed place (x ∷ values) first (suc n) a e h = (let more : map place value
 pub number_again : {A : Type 0} (code : Code A) (n : ℕ) (a : A) → value_of code n ≡ Some a → n ≡ number_of code a
 number_again plain n a h = same_Some n a h
 number_again (only k) n a h = eqb-true n k (some_if (eqb n k) (Some tt) a h).0
+number_again (from k code) n a h = (let t = some_if (leb k n) (value_of code (n - k)) a h in let at = number_again code (n - k) a t.1 in let low = leb-true _ _ t.0 in omega (arith, at, low))
 number_again (listed values place each places) n a h = (let at = is_placed place values 0 n a places h in omega (arith, at))
 
 -- each value stands for its number
 pub number_back : {A : Type 0} (code : Code A) (a : A) → value_of code (number_of code a) ≡ Some a
 number_back plain a = refl
 number_back (only k) a = rw (eq-eqb k k refl) refl
+number_back (from k code) a = (let m = number_of code a in let low : leb k (k + m) ≡ true = le-leb k (k + m) (omega arith) in let less : k + m - k ≡ m = omega arith in rw (low, less) (number_back code a))
 number_back (listed values place each places) a = each a
 
 abbrev decided : {A : Type 0} → Code A → ℕ → ℕ → ℕ → Option A
@@ -130,6 +132,7 @@ exactly (octets n) = octets_exactly n
 exactly (counted most fits) = behind _ _ _ _ (plain_exactly 1 0 most) octets_exactly
 exactly (either p q) = behind _ _ _ _ (plain_exactly 1 0 1) (choice_exactly _ _ _ _ (exactly p) (exactly q))
 exactly (also p q) = behind _ _ _ _ (exactly p) (λ a. behind _ _ _ _ (exactly q) (λ b. just_exactly (a, b)))
+exactly (on p q) = behind _ _ _ _ (exactly p) (λ a. behind _ _ _ _ (exactly (q a)) (λ b. just_exactly (a, b)))
 exactly (named same p) = behind _ _ _ _ (exactly p) (λ a. just_exactly (same.make a))
 
 end_exactly : IsExactly end_in end_at

@@ -1,8 +1,15 @@
 -- What the form of a session says of reading and writing sessions.
-use Rattle.std.proofs.Common.{◌≡◌, ◌⊎◌, ◌↔◌, ℕ, zero, suc, ◌+◌, List, [], ◌++◌, length, Result, Ok, Err, IsOkAnd, refl, sym, ap, ◌∙◌, inl, inr}
+use Rattle.std.proofs.Common.{◌≡◌, ◌⊎◌, ◌↔◌, ℕ, zero, suc, ◌+◌, ◌≤◌, lit≤, rules, List, [], ◌++◌, length, Result, Ok, Err, IsOkAnd, refl, sym, ap, subst, ◌∙◌, inl, inr}
 use Rattle.std.proofs.lemmas.List.{append-nil}
 use Rattle.device_types.specs.Octets.{AreOctets}
+use Rattle.device_types.specs.declared.session.Second.{Second}
+use Rattle.device_types.specs.declared.session.Second.TheVariants as seconds
 use Rattle.device_types.specs.declared.session.Session.{Session}
+use Rattle.device_types.specs.declared.session.Stage.{Stage}
+use Rattle.device_types.specs.declared.session.Stage.TheVariants as stages
+use Rattle.device_types.specs.Rule.{number as stage_number}
+use Rattle.device_types.specs.Second.{second_number}
+use Rattle.device_types.specs.Session.{IsSession}
 use Rattle.echo_base.specs.declared.reason.Reason.TheVariants as reasons
 use Rattle.echo_base.specs.declared.reason.Reason.{Reason}
 use Rattle.echo_base.specs.declared.refusal.Refusal.{Refusal}
@@ -12,9 +19,12 @@ use Rattle.echo_base.specs.Answer.{Answers, IsAnswerTaking}
 use Rattle.echo_base.specs.Reading as readings
 use Rattle.echo_base.specs.Reading.{Read, GivesTaking}
 use Rattle.echo_base.proofs.Answers.{ok_of, ok_err, ok_is, err_is}
-use Rattle.echo_base.proofs.Formats.{value_ok, value_err}
-use Rattle.session_form.specs.Fields.{Input, Format, Code, plain, Field, number, always, octets, counted, either, also, named, number_in, choice_in, format, format_alone, reading_alone, run, InRange}
-use Rattle.session_form.specs.Form.{session_field, start, form_of, IsFormOf, IsWrongAt, TakesMemory, session_at, session_in}
+use Rattle.echo_base.specs.Format.{IsExactly}
+use Rattle.echo_base.proofs.Formats.{value_ok, value_err, just_exactly, behind}
+use Rattle.session_form.specs.Fields.{Input, Format, Code, plain, Field, number, always, octets, counted, either, also, on, named, number_in, choice_in, format, format_alone, run, InRange}
+use Rattle.session_form.specs.Form.{form_field, session_field, session_format, start, form_of, IsInRange, IsFormOf, IsWrongAt, TakesMemory, session_at, session_in}
+use Rattle.session_form.specs.declared.version.Version.{Version}
+use Rattle.session_form.specs.declared.version.Version.TheVariants as versions
 use Rattle.session_form.proofs.Exact.{alone_exactly}
 use Rattle.session_form.proofs.Spelled.{spelled, written}
 
@@ -77,6 +87,13 @@ due (also p q) at e h = elim h [
     | inr y ↦ absurd y.3
   ]
 ]
+due (on p q) at e h = elim h [
+  | inl first ↦ due p at e first
+  | inr x ↦ elim x.3 [
+    | inl second ↦ due (q x.0) x.1 e second
+    | inr y ↦ absurd y.3
+  ]
+]
 due (named same p) at e h = elim h [
   | inl first ↦ due p at e first
   | inr x ↦ absurd x.3
@@ -97,25 +114,44 @@ refusal_is e h = ap (λ (r : Reason). (let d : Refusal = record { reason = r; pl
 
 -- ---- sessions
 
+session_exactly : IsExactly session_format session_at
+unfolding session_format session_at
+session_exactly = behind _ _ _ _ (alone_exactly form_field) (λ form. just_exactly form.1)
+
 pub form_exact : (os : List ℕ) (s : Session) → AreOctets os → (session_in os ≡ Ok s) ↔ IsFormOf os s
-unfolding session_in session_at form_of
+unfolding session_in session_format
 form_exact os s are = (
-  (λ h. (let x = value_ok (reading_alone session_field (start os)) s h in alone_written session_field os s x.0 are ((alone_exactly session_field).found (start os) s x.0 x.1))),
-  (λ f. (let w = alone_spelled session_field s f.0 in rw f.1 (ap readings.value_of ((alone_exactly session_field).only (start (run session_field s)) s w.0 w.1)))),
+  (λ h.
+      let x = value_ok (session_at (start os)) s h in
+      let f = session_exactly.found (start os) s x.0 x.1 in
+      let w = alone_written form_field os f.0 f.1 are f.2 in
+      let is : s ≡ f.0.1 = f.3.0 in
+      let own = subst (λ (t : Session). InRange form_field (f.0.0, t) × (os ≡ run form_field (f.0.0, t))) (sym is) w in
+      (f.0.0, own.0, own.1)),
+  (λ f.
+      let w = alone_spelled form_field (f.0, s) f.1 in
+      rw f.2 (ap readings.value_of (session_exactly.only (start (run form_field (f.0, s))) s w.0 ((f.0, s), w.0, w.1, (refl, refl))))),
 )
 
 pub wrong_exact : (os : List ℕ) (place : ℕ) → (session_in os ≡ Err (record { reason = reasons.BadSession; place = place })) ↔ IsWrongAt os place
-unfolding session_in session_at IsWrongAt
+unfolding session_in IsWrongAt
 wrong_exact os place = (
-  (λ h. (alone_exactly session_field).wrong (start os) _ (value_err (reading_alone session_field (start os)) _ h)),
-  (λ r. ap readings.value_of ((alone_exactly session_field).refused (start os) _ r)),
+  (λ h. session_exactly.wrong (start os) _ (value_err (session_at (start os)) _ h)),
+  (λ r. ap readings.value_of (session_exactly.refused (start os) _ r)),
 )
 
+session_due : IsDue session_format
+unfolding session_format
+session_due at e h = elim h [
+  | inl first ↦ alone_due form_field at e first
+  | inr x ↦ absurd x.3
+]
+
 pub wrong_is : (os : List ℕ) (e : Refusal) → session_in os ≡ Err e → (e.reason ≡ reasons.BadSession) × IsWrongAt os e.place
-unfolding session_in session_at IsWrongAt
+unfolding session_in IsWrongAt
 wrong_is os e h =
-    let r = (alone_exactly session_field).wrong (start os) e (value_err (reading_alone session_field (start os)) e h) in
-    let reason : e.reason ≡ reasons.BadSession = alone_due session_field (start os) e r in
+    let r = session_exactly.wrong (start os) e (value_err (session_at (start os)) e h) in
+    let reason : e.reason ≡ reasons.BadSession = session_due (start os) e r in
     (reason, rw (refusal_is e reason) at r)
 
 -- octets are the form of one session alone
@@ -134,6 +170,32 @@ either_holds os are = by (session_in os) refl
     by : (r : Result Session Refusal) → session_in os ≡ r → ((s : Session) × IsFormOf os s) ⊎ ((place : ℕ) × IsWrongAt os place)
     by (Ok s) h = inl (s, (form_exact os s are).0 h)
     by (Err e) h = inr (e.place, (wrong_is os e h).1)
+
+-- the stages and the states of the second connection end there
+pub stage_most : (stage : Stage) → stage_number stage ≤ 17
+stage_most stages.Detached = lit≤ tt
+stage_most _ = lit≤ tt
+
+pub second_most : (second : Second) → second_number second ≤ 4
+second_most seconds.None = lit≤ tt
+second_most _ = lit≤ tt
+
+-- a session as sessions are stored is in the ranges of form 2
+pub in_range : (s : Session) → IsSession s → IsInRange s
+in_range s h = search (rules, stage_most, second_most)
+
+-- and so is one in the ranges of either form
+pub wider : (version : Version) (s : Session) → InRange (session_field version) s → IsInRange s
+wider versions.One s h = search (rules, stage_most, second_most)
+wider versions.Two s h = h
+
+pub read_in_range : (os : List ℕ) (s : Session) → IsFormOf os s → IsInRange s
+read_in_range os s f = wider f.0 s f.1.1
+
+-- and what is written for it is a form of it
+pub is_form : (s : Session) → IsInRange s → (os : List ℕ) → os ≡ form_of s → IsFormOf os s
+unfolding form_of
+is_form s r os written = (versions.Two, ((lit≤ tt, lit≤ tt), r), written)
 
 -- ---- what the code answered
 

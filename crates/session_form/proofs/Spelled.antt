@@ -6,7 +6,7 @@ use Rattle.std.proofs.lemmas.List.Elements.{All-nil, All-cons, All-head, All-tai
 use Rattle.byteorder.specs.Endian.{big_number, big_bytes}
 use Rattle.byteorder.specs.Numbers.{big_number-reads_back, length-bytes_high_first}
 use Rattle.device_types.specs.Octets.{AreOctets}
-use Rattle.session_form.specs.Fields.{Input, Format, Code, plain, number_of, Field, number, always, octets, counted, either, also, named, is_most, number_in, choice_in, format, number_run, run, written_onto, InRange}
+use Rattle.session_form.specs.Fields.{Input, Format, Code, plain, number_of, Field, number, always, octets, counted, either, also, on, named, is_most, number_in, choice_in, format, number_run, run, written_onto, InRange}
 use Rattle.session_form.proofs.Octets.{octets_back}
 
 -- ---- a run behind what stands in front of it
@@ -21,6 +21,8 @@ onto_is (either p q) (inl a) front = onto_is p a (front ++ number_run 1 0) ∙ a
 onto_is (either p q) (inr b) front = onto_is q b (front ++ number_run 1 1) ∙ append_assoc front (number_run 1 1) (run q b)
 onto_is (also p q) v front =
     onto_is q v.1 (written_onto p v.0 front) ∙ ap (λ (os : List ℕ). os ++ run q v.1) (onto_is p v.0 front) ∙ append_assoc front (run p v.0) (run q v.1)
+onto_is (on p q) v front =
+    onto_is (q v.0) v.1 (written_onto p v.0 front) ∙ ap (λ (os : List ℕ). os ++ run (q v.0) v.1) (onto_is p v.0 front) ∙ append_assoc front (run p v.0) (run (q v.0) v.1)
 onto_is (named same p) v front = onto_is p (same.parts v) front
 
 -- ---- octets of both parts
@@ -97,6 +99,14 @@ spelled (also p q) v r place rest =
       both_spelled (format p) v.0 front back place rest (spelled p v.0 r.0 place (back ++ rest)),
       (v.1, _, at_end (format q) v.1 front back place rest (spelled q v.1 r.1 (place + length front) rest), (refl, refl)),
     )
+spelled (on p q) v r place rest =
+    let front = run p v.0 in
+    let back = run (q v.0) v.1 in (
+      v.0,
+      record { place = place + length front; left = back ++ rest },
+      both_spelled (format p) v.0 front back place rest (spelled p v.0 r.0 place (back ++ rest)),
+      (v.1, _, at_end (format (q v.0)) v.1 front back place rest (spelled (q v.0) v.1 r.1 (place + length front) rest), (refl, refl)),
+    )
 spelled (named same p) v r place rest =
     (same.parts v, _, spelled p (same.parts v) r place rest, (sym (same.again v), refl))
 
@@ -168,6 +178,16 @@ written (also p q) at v rest are s =
     let value : v ≡ (a, b) = s.3.3.0 in
     let end : s.3.1 ≡ rest = s.3.3.1 in
     rw (value, ← end) ((w.0, x.0), joined at between s.3.1 (run p a) (run q b) w.1 x.1)
+written (on p q) at v rest are s =
+    let a = s.0 in
+    let between : Input = s.1 in
+    let w = written p at a between are s.2 in
+    let later : AreOctets between.left = left_octets at between (run p a) are w.1 in
+    let b = s.3.0 in
+    let x = written (q a) between b s.3.1 later s.3.2 in
+    let value : v ≡ (a, b) = s.3.3.0 in
+    let end : s.3.1 ≡ rest = s.3.3.1 in
+    rw (value, ← end) ((w.0, x.0), joined at between s.3.1 (run p a) (run (q a) b) w.1 x.1)
 written (named same p) at v rest are s =
     let w = written p at s.0 s.1 are s.2 in
     let value : v ≡ same.make s.0 = s.3.0 in

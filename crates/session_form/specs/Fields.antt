@@ -1,5 +1,5 @@
 -- Tables of fields of octets: each row is a part of a value, with its octets and its range. Which octets spell the value, how they are read, which refusal is due and which values are in range follow from the table.
-use Rattle.std.specs.Prelude.{◌≡◌, ◌⊎◌, ℕ, zero, suc, ◌+◌, ◌^◌, ◌<◌, ◌≤◌, ◌==◌, ◌&&◌, nat_lt, nat_le, Bool, true, List, [], ◌++◌, length, take, drop, map, slice_get, Option, Some, None, Ok, Err, if◌then◌else◌}
+use Rattle.std.specs.Prelude.{◌≡◌, ◌⊎◌, ℕ, zero, suc, ◌+◌, ◌-◌, ◌^◌, ◌<◌, ◌≤◌, ◌==◌, ◌&&◌, nat_lt, nat_le, Bool, true, List, [], ◌++◌, length, take, drop, map, slice_get, Option, Some, None, Ok, Err, if◌then◌else◌}
 use Rattle.std.specs.List.{range_with_len}
 use Rattle.std.proofs.Common.{inl, inr}
 use Rattle.byteorder.specs.Endian.{big_number, big_bytes}
@@ -40,18 +40,22 @@ pub data Code : Type 0 → Type 1 where
   plain : Code ℕ
   -- one number, which says nothing
   only : ℕ → Code (Unit {0})
+  -- the numbers of another, from k on
+  from : {A : Type 0} → ℕ → Code A → Code A
   -- the values of a list, from 0 in their order
   listed : {A : Type 0} (values : List A) (place : A → ℕ) → ((a : A) → slice_get values (place a) ≡ Some a) → map place values ≡ range_with_len 0 (length values) → Code A
 
 abbrev pub number_of : {A : Type 0} → Code A → A → ℕ
 number_of plain v = v
 number_of (only k) v = k
+number_of (from k code) v = k + number_of code v
 number_of (listed values place each places) v = place v
 
 -- the value that stands for a number, if any
 abbrev pub value_of : {A : Type 0} → Code A → ℕ → Option A
 value_of plain n = Some n
 value_of (only k) n = if n == k then Some tt else None
+value_of (from k code) n = if nat_le k n then value_of code (n - k) else None
 value_of (listed values place each places) n = slice_get values n
 
 -- ---- fields
@@ -80,6 +84,8 @@ pub data Field : Type 0 → Type 1 where
   either : {A B : Type 0} → Field A → Field B → Field (A ⊎ B)
   -- one behind another
   also : {A B : Type 0} → Field A → Field B → Field (A × B)
+  -- one behind another, whose octets depend on it
+  on : {A B : Type 0} → Field A → (A → Field B) → Field (A × B)
   -- the same with other names
   named : {A B : Type 0} → Same A B → Field A → Field B
 
@@ -164,6 +170,7 @@ format (octets n) = octets_in n
 format (counted most fits) = formats.◌>>=◌ (number_in plain 1 0 most) octets_in
 format (either p q) = formats.◌>>=◌ (number_in plain 1 0 1) (choice_in (format p) (format q))
 format (also p q) = formats.◌>>=◌ (format p) (λ a. formats.◌>>=◌ (format q) (λ b. just (a, b)))
+format (on p q) = formats.◌>>=◌ (format p) (λ a. formats.◌>>=◌ (format (q a)) (λ b. just (a, b)))
 format (named same p) = formats.◌>>=◌ (format p) (λ a. just (same.make a))
 
 -- nothing is left
@@ -205,6 +212,7 @@ reading (octets n) = octets_at n
 reading (counted most fits) = counted_at most
 reading (either p q) = readings.◌>>=◌ (number_at 1 0 1) (choice_at (reading p) (reading q))
 reading (also p q) = readings.◌>>=◌ (reading p) (λ a. readings.◌>>=◌ (reading q) (λ b. done (a, b)))
+reading (on p q) = readings.◌>>=◌ (reading p) (λ a. readings.◌>>=◌ (reading (q a)) (λ b. done (a, b)))
 reading (named same p) = readings.◌>>=◌ (reading p) (λ a. done (same.make a))
 
 unfoldable pub end_at : Reader (Unit {0})
@@ -227,6 +235,7 @@ run (counted most fits) v = number_run 1 (length v) ++ v
 run (either p q) (inl a) = number_run 1 0 ++ run p a
 run (either p q) (inr b) = number_run 1 1 ++ run q b
 run (also p q) v = run p v.0 ++ run q v.1
+run (on p q) v = run p v.0 ++ run (q v.0) v.1
 run (named same p) v = run p (same.parts v)
 
 -- what stands in front of it, and behind that the run
@@ -238,6 +247,7 @@ written_onto (counted most fits) v front = (front ++ number_run 1 (length v)) ++
 written_onto (either p q) (inl a) front = written_onto p a (front ++ number_run 1 0)
 written_onto (either p q) (inr b) front = written_onto q b (front ++ number_run 1 1)
 written_onto (also p q) v front = written_onto q v.1 (written_onto p v.0 front)
+written_onto (on p q) v front = written_onto (q v.0) v.1 (written_onto p v.0 front)
 written_onto (named same p) v front = written_onto p (same.parts v) front
 
 -- ---- a value in its range
@@ -250,4 +260,5 @@ InRange (counted most fits) v = (length v ≤ most) × AreOctets v
 InRange (either p q) (inl a) = InRange p a
 InRange (either p q) (inr b) = InRange q b
 InRange (also p q) v = InRange p v.0 × InRange q v.1
+InRange (on p q) v = InRange p v.0 × InRange (q v.0) v.1
 InRange (named same p) v = InRange p (same.parts v)

@@ -1,4 +1,4 @@
--- The form of a session: its table of fields, and what follows from it.
+-- The forms of a session: their table of fields, and what follows from it.
 use Rattle.std.specs.Prelude.{◌≡◌, ◌≢◌, ◌⊎◌, ℕ, Bool, true, false, List, [], ◌∷◌, slice_get, replicate, Some, Result}
 use Rattle.std.proofs.Common.{inl, inr, refl}
 use Rattle.echo_base.specs.declared.reason.Reason.TheVariants as reasons
@@ -12,9 +12,15 @@ use Rattle.device_types.specs.declared.session.Stage.{Stage}
 use Rattle.device_types.specs.declared.session.Stage.TheVariants as stage
 use Rattle.device_types.specs.declared.session.Session.{Session}
 use Rattle.device_types.specs.Rule.{number as stage_number}
+use Rattle.device_types.specs.Second.{second_number}
 use Rattle.echo_base.specs.declared.refusal.Refusal.{Refusal}
-use Rattle.echo_base.specs.Reading.{value_of}
-use Rattle.session_form.specs.Fields.{Input, Reader, plain, only, listed, is_most, Field, number, always, octets, counted, either, also, named, Row, Rows, last, ◌▸◌, section, taken, Table, whole, format_alone, reading_alone, run, InRange}
+use Rattle.echo_base.specs.Format as formats
+use Rattle.echo_base.specs.Format.{just}
+use Rattle.echo_base.specs.Reading as readings
+use Rattle.echo_base.specs.Reading.{done, value_of}
+use Rattle.session_form.specs.Fields.{Input, Format, Reader, Code, plain, only, from, listed, is_most, Field, number, always, octets, counted, either, also, on, named, Row, Rows, last, ◌▸◌, section, taken, Table, whole, format_alone, reading_alone, run, InRange}
+use Rattle.session_form.specs.declared.version.Version.{Version}
+use Rattle.session_form.specs.declared.version.Version.TheVariants as version
 
 -- ---- values by their numbers
 
@@ -30,6 +36,19 @@ abbrev pub bearer_number : Bearer → ℕ
 bearer_number bearer.None = 0
 bearer_number bearer.Made = 1
 bearer_number bearer.Active = 2
+
+-- the forms
+abbrev pub versions : List Version
+versions = version.One ∷ version.Two ∷ []
+
+-- their places in that list
+abbrev pub version_number : Version → ℕ
+version_number version.One = 0
+version_number version.Two = 1
+
+-- the states of the second connection
+abbrev pub seconds : List Second
+seconds = second.None ∷ second.Made ∷ second.Radio ∷ second.Accepted ∷ second.Active ∷ []
 
 -- truth values
 abbrev pub truths : List Bool
@@ -47,18 +66,42 @@ pub each_bearer : (b : Bearer) → slice_get bearers (bearer_number b) ≡ Some 
 each_bearer bearer.None = refl
 each_bearer b = refl
 
+pub each_version : (v : Version) → slice_get versions (version_number v) ≡ Some v
+each_version version.One = refl
+each_version v = refl
+
+pub each_second : (s : Second) → slice_get seconds (second_number s) ≡ Some s
+each_second second.None = refl
+each_second s = refl
+
 pub each_truth : (b : Bool) → slice_get truths (truth_number b) ≡ Some b
 each_truth false = refl
 each_truth true = refl
 
 -- ---- kinds of fields
 
--- a stage, but for those of a second connection
-abbrev pub stage_field : Field Stage
-stage_field = number (listed stages stage_number each_stage refl) 1 0 15 refl
+-- which form it is
+abbrev pub version_field : Field Version
+version_field = number (from 1 (listed versions version_number each_version refl)) 1 1 2 refl
+
+abbrev pub stage_code : Code Stage
+stage_code = listed stages stage_number each_stage refl
+
+-- a stage; form 1 has none of a second connection
+abbrev pub stage_field : Version → Field Stage
+stage_field version.One = number stage_code 1 0 15 refl
+stage_field version.Two = number stage_code 1 0 17 refl
 
 abbrev pub bearer_field : Field Bearer
 bearer_field = number (listed bearers bearer_number each_bearer refl) 1 0 2 refl
+
+abbrev pub second_field : Field Second
+second_field = number (listed seconds second_number each_second refl) 1 0 4 refl
+
+-- a field of form 2; form 1 has no octets for it, and always this value
+abbrev pub later : {A : Type 0} → Version → A → Field A → Field A
+later version.One value field = always value
+later version.Two value field = field
 
 -- a truth value: 0 or 1
 abbrev pub truth_field : Field Bool
@@ -99,9 +142,9 @@ abbrev pub row : {A : Type 0} → (Session → A) → Field A → Row Session A
 row part field = record { part = part; field = field }
 
 -- where the device is, and what it can do
-abbrev pub front : Rows Session (Stage × (Link × (ℕ × (ℕ × (ℕ × (ℕ × ℕ))))))
-front =
-    row (λ s. s.stage) stage_field ▸
+abbrev pub front : Version → Rows Session (Stage × (Link × (ℕ × (ℕ × (ℕ × (ℕ × ℕ))))))
+front version =
+    row (λ s. s.stage) (stage_field version) ▸
     row (λ s. s.link) link_field ▸
     row (λ s. s.plmn) (up_to 3 16777215 refl) ▸
     row (λ s. s.tac) (up_to 2 65535 refl) ▸
@@ -131,34 +174,33 @@ service =
     row (λ s. s.cause.index) (up_to 1 63 refl) ▸
     last (row (λ s. s.radio) (up_to 4 4294967295 refl))
 
--- its second connection, of which the form has no octets: there is none
-abbrev pub no_second : Rows Session (Second × (ℕ × (ℕ × (ℕ × (ℕ × (ℕ × ℕ))))))
-no_second =
-    row (λ s. s.second) (always second.None) ▸
-    row (λ s. s.pti2) (always 0) ▸
-    row (λ s. s.sgw2) (always 0) ▸
-    row (λ s. s.teid2) (always 0) ▸
-    row (λ s. s.ip2) (always 0) ▸
-    row (λ s. s.side2_addr) (always 0) ▸
-    last (row (λ s. s.side2_teid) (always 0))
+-- its second connection
+abbrev pub second_rows : Version → Rows Session (Second × (ℕ × (ℕ × (ℕ × (ℕ × (ℕ × ℕ))))))
+second_rows version =
+    row (λ s. s.second) (later version second.None second_field) ▸
+    row (λ s. s.pti2) (later version 0 (up_to 1 255 refl)) ▸
+    row (λ s. s.sgw2) (later version 0 (up_to 4 4294967295 refl)) ▸
+    row (λ s. s.teid2) (later version 0 (up_to 4 4294967295 refl)) ▸
+    row (λ s. s.ip2) (later version 0 (up_to 4 4294967295 refl)) ▸
+    row (λ s. s.side2_addr) (later version 0 (up_to 4 4294967295 refl)) ▸
+    last (row (λ s. s.side2_teid) (later version 0 (up_to 4 4294967295 refl)))
 
--- form 1: which form it is, and each field of a session in its order, with its octets and its greatest number
-abbrev pub form_1 : Table Session
-form_1 = record {
+-- each field of a session in its order, with its octets and its greatest number
+abbrev pub table : Version → Table Session
+table version = record {
   Parts = _;
   rows =
-      row (λ s. tt) (number (only 1) 1 1 1 refl) ▸
-      section front ▸
+      section (front version) ▸
       row (λ s. s.res) (counted 16 refl) ▸
       row (λ s. s.key) (octets 32) ▸
       section tunnel ▸
       section service ▸
-      last (section no_second);
-  make = λ form in_front res key in_tunnel in_service in_second.
-      taken front (λ stage link plmn tac eea eia pti.
+      last (section (second_rows version));
+  make = λ in_front res key in_tunnel in_service in_second.
+      taken (front version) (λ stage link plmn tac eea eia pti.
       taken tunnel (λ dl ul sgw teid ip side_addr side_teid.
       taken service (λ bearer registered off group extended index radio.
-      taken no_second (λ second pti2 sgw2 teid2 ip2 side2_addr side2_teid. record {
+      taken (second_rows version) (λ second pti2 sgw2 teid2 ip2 side2_addr side2_teid. record {
         stage = stage;
         link = link;
         plmn = plmn;
@@ -192,29 +234,37 @@ form_1 = record {
   again = λ s. refl;
 }
 
-abbrev pub session_field : Field Session
-session_field = whole form_1
+-- a session behind the octet that says which form it is
+abbrev pub session_field : Version → Field Session
+session_field version = whole (table version)
+
+abbrev pub form_field : Field (Version × Session)
+form_field = on version_field session_field
 
 -- ---- what follows from the table
 
 -- a session whose fields are in their ranges
 abbrev pub IsInRange : Session → Type 0
-IsInRange s = InRange session_field s
+IsInRange s = InRange (session_field version.Two) s
 
--- the octets of a session
+-- the octets of a session, in form 2
 unfoldable pub form_of : Session → List ℕ
-form_of s = run session_field s
+form_of s = run form_field (version.Two, s)
 
--- octets that are a session
+-- octets that are a session in one of the forms
 abbrev pub IsFormOf : List ℕ → Session → Type 0
-IsFormOf os s = IsInRange s × (os ≡ form_of s)
+IsFormOf os s = (version : Version) × InRange form_field (version, s) × (os ≡ run form_field (version, s))
 
 abbrev pub start : List ℕ → Input
 start os = record { place = 0; left = os }
 
+-- a session in one of the forms, and nothing behind it
+unfoldable pub session_format : Format Session
+session_format = formats.◌>>=◌ (format_alone form_field) (λ form. just form.1)
+
 -- the first octet of the first field that is not whole or not in its range, or the first octet too many, is at that place
 unfoldable pub IsWrongAt : List ℕ → ℕ → Type 0
-IsWrongAt os place = (format_alone session_field).Refuses (start os) (record { reason = reasons.BadSession; place = place })
+IsWrongAt os place = session_format.Refuses (start os) (record { reason = reasons.BadSession; place = place })
 
 -- a session of which something is kept in memory of its own: RES, and a key that is not zeros
 abbrev pub TakesMemory : Session → Type 0
@@ -222,7 +272,7 @@ TakesMemory s = (s.res ≢ []) ⊎ (s.key ≢ replicate 32 0)
 
 -- what reading gives
 unfoldable pub session_at : Reader Session
-session_at = reading_alone session_field
+session_at = readings.◌>>=◌ (reading_alone form_field) (λ form. done form.1)
 
 unfoldable pub session_in : List ℕ → Result Session Refusal
 session_in os = value_of (session_at (start os))

@@ -5,9 +5,10 @@
 mod laws;
 mod reader;
 mod reading;
+mod version;
 mod writer;
 mod writing;
 
-pub use laws::{one_answer, ranges_are_those_of_sessions};
+pub use laws::{one_answer, ranges_are_those_of_sessions, what_is_read_can_be_written};
 pub use reading::read_session;
 pub use writing::write_session;

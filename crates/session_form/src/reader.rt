@@ -2,10 +2,11 @@
 ghost use Rattle.std.specs.Prelude.{◌≡◌, ◌≤◌, ◌<◌, ◌^◌, ◌-◌, IfOk, length};
 ghost use Rattle.echo_base.specs.Reading.{GivesOrEnds, GivesOrEndsBy};
 ghost use Rattle.session_form.specs.Fields.{bad, only, octets_at, number_at, value_at, counted_at, end_at, reading};
-ghost use Rattle.session_form.specs.Form.{start, stage_field, bearer_field, truth_field, link_field};
+ghost use Rattle.session_form.specs.Form.{start, version_field, stage_code, stage_field, bearer_field, second_field, truth_field, link_field};
 
+use crate::version::Version;
 use byteorder::{BigEndian, ByteOrder};
-use device_types::{Bearer, Link, Stage};
+use device_types::{Bearer, Link, Second, Stage};
 use echo_base::{Reason, Refusal};
 use std::marker::Model;
 
@@ -117,14 +118,40 @@ impl<'a> FormReader<'a> {
         Ok(())
     }
 
-    /// A stage, by its number, but for those of a second connection.
+    /// Which form it is.
     #[inline(always)]
     #[tactic(auto, unfolding(crate::specs::Fields::reading, crate::specs::Fields::value_at))]
-    pub fn stage(&mut self) -> Result<Stage, Refusal>
-        ensures { GivesOrEnds result self.new (reading stage_field self.old) }
+    pub fn version(&mut self) -> Result<Version, Refusal>
+        ensures { GivesOrEnds result self.new (reading version_field self.old) }
     {
         let bad = self.bad();
-        match STAGES.get(self.number(1, 0, 15)? as usize) {
+        match self.number(1, 1, 2)? {
+            1 => Ok(Version::One),
+            2 => Ok(Version::Two),
+            _ => Err(bad),
+        }
+    }
+
+    /// A stage, by its number; form 1 has none of a second connection.
+    #[inline(always)]
+    #[tactic(auto, unfolding(crate::specs::Fields::reading))]
+    pub fn stage(&mut self, version: Version) -> Result<Stage, Refusal>
+        ensures { GivesOrEnds result self.new (reading (stage_field version) self.old) }
+    {
+        match version {
+            Version::One => self.stage_to(15),
+            Version::Two => self.stage_to(17),
+        }
+    }
+
+    /// A stage, by its number, up to one.
+    #[inline(always)]
+    #[tactic(auto, unfolding(crate::specs::Fields::value_at))]
+    fn stage_to(&mut self, most: u64) -> Result<Stage, Refusal>
+        ensures { GivesOrEnds result self.new (value_at stage_code 1 0 most self.old) }
+    {
+        let bad = self.bad();
+        match STAGES.get(self.number(1, 0, most)? as usize) {
             Some(stage) => Ok(*stage),
             None => Err(bad),
         }
@@ -141,6 +168,23 @@ impl<'a> FormReader<'a> {
             0 => Ok(Bearer::None),
             1 => Ok(Bearer::Made),
             2 => Ok(Bearer::Active),
+            _ => Err(bad),
+        }
+    }
+
+    /// The state of the second connection, by its number.
+    #[inline(always)]
+    #[tactic(auto, unfolding(crate::specs::Fields::reading, crate::specs::Fields::value_at))]
+    pub fn second(&mut self) -> Result<Second, Refusal>
+        ensures { GivesOrEnds result self.new (reading second_field self.old) }
+    {
+        let bad = self.bad();
+        match self.number(1, 0, 4)? {
+            0 => Ok(Second::None),
+            1 => Ok(Second::Made),
+            2 => Ok(Second::Radio),
+            3 => Ok(Second::Accepted),
+            4 => Ok(Second::Active),
             _ => Err(bad),
         }
     }

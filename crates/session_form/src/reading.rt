@@ -6,9 +6,11 @@ ghost use Rattle.echo_base.specs.declared.refusal.Bad.TheVariants.{Refused};
 ghost use Rattle.echo_base.specs.Answer.{Answers};
 ghost use Rattle.echo_base.specs.Reading.{GivesOrEnds, GivesTaking};
 ghost use Rattle.session_form.specs.Fields.{fields_of, reading};
-ghost use Rattle.session_form.specs.Form.{front, tunnel, service, session_at, IsFormOf, IsWrongAt, TakesMemory};
+ghost use Rattle.session_form.specs.Form.{front, tunnel, service, second_rows, session_at, IsFormOf, IsWrongAt, TakesMemory};
+ghost use Rattle.session_form.specs.declared.version.Version.TheVariants.{Two};
 
 use crate::reader::FormReader;
+use crate::version::Version;
 use device_types::{Bearer, CauseCode, Key, Link, Octets, Second, Session, Stage};
 use echo_base::{Bad, OutOfMemory, Refusal};
 use std::alloc::Global;
@@ -49,10 +51,13 @@ fn key_of(alloc: Global, octets: &[u8]) -> Result<Key, OutOfMemory>
 /// Where the device is, and what it can do: the stage, the link, the tracking area, the algorithms, the transaction.
 #[inline(always)]
 #[tactic(auto, unfolding(crate::specs::Fields::reading, crate::specs::Fields::value_at))]
-fn read_front(r: &mut FormReader) -> Result<(Stage, (Link, (u32, (u16, (u8, (u8, u8)))))), Refusal>
-    ensures { GivesOrEnds result r.new (reading (fields_of front) r.old) }
+fn read_front(
+    r: &mut FormReader,
+    version: Version,
+) -> Result<(Stage, (Link, (u32, (u16, (u8, (u8, u8)))))), Refusal>
+    ensures { GivesOrEnds result r.new (reading (fields_of (front version)) r.old) }
 {
-    let stage = r.stage()?;
+    let stage = r.stage(version)?;
     let link = r.link()?;
     let plmn = r.number(3, 0, 0xff_ffff)? as u32;
     let tac = r.number(2, 0, 0xffff)? as u16;
@@ -99,17 +104,53 @@ fn read_service(
     ))
 }
 
-/// Reads all fields in their order, and keeps them. There is no second connection.
+/// Its second connection: the state, the transaction, the ends of its tunnel.
+#[inline(always)]
+#[tactic(auto, unfolding(crate::specs::Fields::reading, crate::specs::Fields::value_at))]
+fn read_second(
+    r: &mut FormReader,
+) -> Result<(Second, (u8, (u32, (u32, (u32, (u32, u32)))))), Refusal>
+    ensures { GivesOrEnds result r.new (reading (fields_of (second_rows Two)) r.old) }
+{
+    let second = r.second()?;
+    let pti = r.number(1, 0, 0xff)? as u8;
+    let sgw = r.number(4, 0, 0xffff_ffff)? as u32;
+    let teid = r.number(4, 0, 0xffff_ffff)? as u32;
+    let ip = r.number(4, 0, 0xffff_ffff)? as u32;
+    let side_addr = r.number(4, 0, 0xffff_ffff)? as u32;
+    let side_teid = r.number(4, 0, 0xffff_ffff)? as u32;
+    Ok((second, (pti, (sgw, (teid, (ip, (side_addr, side_teid)))))))
+}
+
+/// Its second connection, of which form 1 has no octets.
+#[inline(always)]
+#[tactic(auto, unfolding(crate::specs::Fields::reading))]
+fn read_later(
+    r: &mut FormReader,
+    version: Version,
+) -> Result<(Second, (u8, (u32, (u32, (u32, (u32, u32)))))), Refusal>
+    ensures { GivesOrEnds result r.new (reading (fields_of (second_rows version)) r.old) }
+{
+    match version {
+        Version::One => Ok((Second::None, (0, (0, (0, (0, (0, 0))))))),
+        Version::Two => read_second(r),
+    }
+}
+
+/// Reads all fields in their order, and keeps them.
 #[tactic(auto, unfolding(crate::specs::Form::session_at, crate::specs::Fields::reading_alone, crate::specs::Fields::reading, crate::specs::Fields::value_at))]
 fn read_fields(alloc: Global, r: &mut FormReader) -> Result<Session, Bad>
     ensures { GivesTaking TakesMemory result r.new (session_at r.old) }
 {
-    r.number(1, 1, 1)?;
-    let (stage, (link, (plmn, (tac, (eea, (eia, pti)))))) = read_front(r)?;
+    let version = r.version()?;
+    let (stage, (link, (plmn, (tac, (eea, (eia, pti)))))) = read_front(r, version)?;
     let res = r.counted(16)?;
     let key = r.key()?;
     let (dl, (ul, (sgw, (teid, (ip, (side_addr, side_teid)))))) = read_tunnel(r)?;
     let (bearer, (registered, (off, (group, (extended, (index, radio)))))) = read_service(r)?;
+    let (second, (pti2, (sgw2, (teid2, (ip2, (side2_addr, side2_teid)))))) = read_later(
+        r, version,
+    )?;
     r.end()?;
     Ok(Session {
         stage,
@@ -137,18 +178,19 @@ fn read_fields(alloc: Global, r: &mut FormReader) -> Result<Session, Bad>
             index,
         },
         radio,
-        second: Second::None,
-        pti2: 0,
-        sgw2: 0,
-        teid2: 0,
-        ip2: 0,
-        side2_addr: 0,
-        side2_teid: 0,
+        second,
+        pti2,
+        sgw2,
+        teid2,
+        ip2,
+        side2_addr,
+        side2_teid,
     })
 }
 
-/// Reads the session whose form the octets are. They are refused as BadSession at the first octet of the first field that is not
-/// whole or not in its range, or at the first octet too many. RES and a key that is not zeros take memory, and nothing else does.
+/// Reads the session of which the octets are a form: form 2, or form 1, in which it has no second connection. They are refused as
+/// BadSession at the first octet of the first field that is not whole or not in its range, or at the first octet too many. RES and a
+/// key that is not zeros take memory, and nothing else does.
 ///
 /// ```rust
 /// let session = read_session(alloc, write_session(alloc, &Session::opening(alloc))?.octets())?;

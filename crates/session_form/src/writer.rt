@@ -1,13 +1,14 @@
 //! Writing the fields of a session behind one another.
 ghost use Rattle.std.specs.Prelude.{◌≡◌, ◌≤◌, ◌<◌, ◌+◌, ◌++◌, [], length};
 ghost use Rattle.session_form.specs.Fields.{number_run, written_onto};
-ghost use Rattle.session_form.specs.Form.{bearer_number, stage_field, bearer_field, truth_field, link_field};
+ghost use Rattle.session_form.specs.Form.{bearer_number, stage_field, bearer_field, second_field, truth_field, link_field};
+ghost use Rattle.session_form.specs.declared.version.Version.TheVariants.{Two};
 
-use device_types::{Bearer, Link, Stage};
+use device_types::{Bearer, Link, Second, Stage};
 use std::marker::Model;
 
 /// The octets of a form whose RES has the most octets.
-pub const MOST_OCTETS: usize = 112;
+pub const MOST_OCTETS: usize = 134;
 
 /// The octets of a form so far, with room for the longest one.
 #[derive(Drop)]
@@ -70,12 +71,12 @@ impl FormWriter {
         self.put(&number.to_be_bytes()[8 - count..]);
     }
 
-    /// Puts a stage.
+    /// Puts a stage, in form 2.
     #[inline(always)]
     #[tactic(auto, unfolding(crate::specs::Fields::written_onto))]
     pub fn stage(&mut self, stage: Stage)
         requires { length self.old + 1 ≤ MOST_OCTETS }
-        ensures octets { self.new ≡ written_onto stage_field stage self.old }
+        ensures octets { self.new ≡ written_onto (stage_field Two) stage self.old }
         ensures count { length self.new ≡ length self.old + 1 }
     {
         self.number(1, u64::from(stage.number()));
@@ -90,6 +91,17 @@ impl FormWriter {
         ensures count { length self.new ≡ length self.old + 1 }
     {
         self.number(1, bearer_number(bearer));
+    }
+
+    /// Puts the state of the second connection.
+    #[inline(always)]
+    #[tactic(auto, unfolding(crate::specs::Fields::written_onto))]
+    pub fn second(&mut self, second: Second)
+        requires { length self.old + 1 ≤ MOST_OCTETS }
+        ensures octets { self.new ≡ written_onto second_field second self.old }
+        ensures count { length self.new ≡ length self.old + 1 }
+    {
+        self.number(1, u64::from(second.number()));
     }
 
     /// Puts a truth value.

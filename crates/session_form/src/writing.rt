@@ -1,7 +1,8 @@
 //! Writing a session.
 ghost use Rattle.std.specs.Prelude.{◌≡◌, ◌≤◌, ◌+◌, IfOk, length};
 ghost use Rattle.session_form.specs.Fields.{fields_of, parts_of, written_onto};
-ghost use Rattle.session_form.specs.Form.{front, tunnel, service, session_field, form_of, IsInRange};
+ghost use Rattle.session_form.specs.Form.{front, tunnel, service, second_rows, form_field, form_of, IsInRange};
+ghost use Rattle.session_form.specs.declared.version.Version.TheVariants.{Two};
 
 use crate::writer::{FormWriter, MOST_OCTETS};
 use device_types::{Octets, Session};
@@ -13,7 +14,7 @@ use std::alloc::Global;
 #[tactic(auto, unfolding(crate::specs::Fields::written_onto))]
 fn put_front(w: &mut FormWriter, s: &Session)
     requires { length w.old + 16 ≤ MOST_OCTETS }
-    ensures octets { w.new ≡ written_onto (fields_of front) (parts_of front s.now) w.old }
+    ensures octets { w.new ≡ written_onto (fields_of (front Two)) (parts_of (front Two) s.now) w.old }
     ensures count { length w.new ≡ length w.old + 16 }
 {
     w.stage(s.stage);
@@ -48,6 +49,7 @@ fn put_tunnel(w: &mut FormWriter, s: &Session)
 fn put_service(w: &mut FormWriter, s: &Session)
     requires { length w.old + 10 ≤ MOST_OCTETS }
     ensures octets { w.new ≡ written_onto (fields_of service) (parts_of service s.now) w.old }
+    ensures count { length w.new ≡ length w.old + 10 }
 {
     w.bearer(s.bearer);
     w.truth(s.registered);
@@ -58,23 +60,40 @@ fn put_service(w: &mut FormWriter, s: &Session)
     w.number(4, s.radio as u64);
 }
 
+/// Its second connection.
+#[inline(always)]
+#[tactic(auto, unfolding(crate::specs::Fields::written_onto))]
+fn put_second(w: &mut FormWriter, s: &Session)
+    requires { length w.old + 22 ≤ MOST_OCTETS }
+    ensures octets { w.new ≡ written_onto (fields_of (second_rows Two)) (parts_of (second_rows Two) s.now) w.old }
+{
+    w.second(s.second);
+    w.number(1, s.pti2 as u64);
+    w.number(4, s.sgw2 as u64);
+    w.number(4, s.teid2 as u64);
+    w.number(4, s.ip2 as u64);
+    w.number(4, s.side2_addr as u64);
+    w.number(4, s.side2_teid as u64);
+}
+
 /// Puts all fields in their order.
 #[inline(always)]
 #[tactic(auto, unfolding(crate::specs::Fields::written_onto))]
 fn put_fields(w: &mut FormWriter, s: &Session)
     requires empty { length w.old ≡ 0 }
     requires range { IsInRange s.now }
-    ensures { w.new ≡ written_onto session_field s.now w.old }
+    ensures { w.new ≡ written_onto form_field (Two, s.now) w.old }
 {
-    w.number(1, 1);
+    w.number(1, 2);
     put_front(w, s);
     w.counted(s.res.octets());
     w.put(s.key.octets());
     put_tunnel(w, s);
     put_service(w, s);
+    put_second(w, s);
 }
 
-/// The octets of a session, in form 1. It fails for want of memory alone.
+/// The octets of a session, in form 2. It fails for want of memory alone.
 #[tactic(auto, unfolding(crate::specs::Form::form_of), using(crate::proofs::Spelled::onto_is))]
 pub fn write_session(alloc: Global, session: &Session) -> Result<Octets, OutOfMemory>
     requires { IsInRange session.now }

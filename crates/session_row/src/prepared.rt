@@ -55,7 +55,7 @@ fn reply_for(
 
 /// Makes room for an entry behind so many messages and for its effects, writes its session, and copies what goes elsewhere in the
 /// row.
-#[tactic(auto, using(crate::proofs::Octets::in_range))]
+#[tactic(auto, using(session_form::proofs::Sessions::in_range))]
 pub(crate) fn prepare(
     journal: &mut Vec<Entry>,
     outbox: &mut Outbox,

@@ -1,6 +1,6 @@
 use Rattle.std.proofs.Common.{[]}
 use Rattle.device_types.specs.Session.{opening}
-use Rattle.session_row.proofs.Octets.{in_range}
+use Rattle.session_form.proofs.Sessions.{in_range}
 use Rattle.session_row.proofs.Steps.{opening_is_session, row_none, seen_settled}
 use Rattle.session_row.proofs.row.Row.new.Goals as goal
 
