@@ -58,7 +58,6 @@ numbered_can_follow charter d journal entry in_form lawful follows =
     rw (← is.2) (record {
       ready = rw (taken, none, late, past, next) refl;
       session = record {
-        stage = omega arith;
         link = tt;
         area = search rules;
         eea = omega arith;
@@ -76,7 +75,12 @@ numbered_can_follow charter d journal entry in_form lawful follows =
         side_teid = omega arith;
         cause = search rules;
         radio = search rules;
-        no_second = (refl, refl, refl, refl, refl, refl, refl);
+        pti2 = omega arith;
+        sgw2 = omega arith;
+        teid2 = omega arith;
+        ip2 = omega arith;
+        side2_addr = omega arith;
+        side2_teid = omega arith;
       };
       calls = omega arith;
     })

@@ -31,23 +31,35 @@ const FAILED_ONCE: &str = "\
 16 3: 2 1
 ";
 
-/// A file of two records, and of half of a third one behind the closed gate at place 222: with one octet changed by 1, and cut
-/// behind so many octets. The first gate is at place 0, the second at 111; a record has 110 octets. The places that come to the
+/// A file of two records, and of half of a third one behind the closed gate at place 266: with one octet changed by 1, and cut
+/// behind so many octets. The first gate is at place 0, the second at 133; a record has 132 octets. The places that come to the
 /// same are told by the first.
 const DAMAGED: &str = "\
 changed
 0: 0 0
 1: Foreign { at: 0 }
-111: 1 0
-112: Foreign { at: 111 }
-222: Foreign { at: 222 }
-223: 1 1
+133: 1 0
+134: Foreign { at: 133 }
+266: Foreign { at: 266 }
+267: 1 1
 cut
 0: 0 0
 2: Foreign { at: 0 }
-112: Foreign { at: 111 }
-223: 1 1
+134: Foreign { at: 133 }
+267: 1 1
 ";
+
+/// A file of one record in form 1, which has 110 octets: what it opens to; how many of three further commits were acknowledged,
+/// how long the file is then, and in which form each of its records is; what it opens to then.
+const FORMS: &str = "\
+1 0
+3 made: 511 octets, forms 1 2 2 2
+3 1
+";
+
+/// Where the octets stand that tell the forms of these four records: each behind a gate and 14 octets. The gates are at places 0,
+/// 111, 244 and 377.
+const FORM_PLACES: &[usize] = &[15, 126, 259, 392];
 
 /// Tells the versions of the two devices.
 fn tell_versions<D: Disk>(
@@ -74,9 +86,9 @@ fn tell_opened<D: Disk + Drop>(
     }
 }
 
-/// Three commits on a disk that passes so many calls: how many were acknowledged, and what reads give then.
-fn run(law: &NumberedLaw, calls: u64) -> Result<(u32, Vec<u8>), AllocError> {
-    let disk = FuseDisk::new(Vec::new(law.alloc()), calls);
+/// Three commits on a disk of these octets that passes so many calls: how many were acknowledged, and what reads give then.
+fn run(law: &NumberedLaw, image: Vec<u8>, calls: u64) -> Result<(u32, Vec<u8>), AllocError> {
+    let disk = FuseDisk::new(image, calls);
     match open_two(law, disk) {
         Ok(mut store) => {
             let made = commit_in_turns(&mut store, law, 3);
@@ -89,7 +101,7 @@ fn run(law: &NumberedLaw, calls: u64) -> Result<(u32, Vec<u8>), AllocError> {
 
 /// A line of the first table.
 fn tell_run(told: &mut String, law: &NumberedLaw, calls: u64) -> Result<(), AllocError> {
-    let (made, image) = run(law, calls)?;
+    let (made, image) = run(law, Vec::new(law.alloc()), calls)?;
     write!(told, "{calls} {made}: ")?;
     tell_opened(told, law, FuseDisk::new(image, 100))
 }
@@ -113,7 +125,7 @@ fn a_crash_loses_no_commit(rt: HostRuntime) -> Result<(), Fail> {
 
 /// A file of two records, and of half of a third one.
 fn two_records(law: &NumberedLaw) -> Result<Vec<u8>, AllocError> {
-    let (_, image) = run(law, 11)?;
+    let (_, image) = run(law, Vec::new(law.alloc()), 11)?;
     Ok(image)
 }
 
@@ -183,5 +195,49 @@ fn a_damaged_file_is_foreign_or_shorter(rt: HostRuntime) -> Result<(), Fail> {
     let mut told = String::new(rt.alloc());
     tell_damage(&mut told, &law)?;
     assert_eq!(rt; told.as_str(), DAMAGED);
+    Ok(())
+}
+
+/// A file of entry 0 of device 1, its session in form 1.
+fn in_form_1(law: &NumberedLaw) -> Result<Vec<u8>, AllocError> {
+    let mut image = vec![in law.alloc(); 0u8; 112]?;
+    // an open gate; device 1, version 1, the 96 octets of a session
+    image[0] = 1;
+    image[4] = 1;
+    image[12] = 1;
+    image[14] = 96;
+    // its form, the gateway's tunnel, the device's address; behind it a closed gate
+    image[15] = 1;
+    image[88] = 1;
+    image[92] = 1;
+    Ok(image)
+}
+
+/// Tells in which form each record is.
+fn tell_forms(told: &mut String, image: &[u8]) -> Result<(), AllocError> {
+    for place in FORM_PLACES {
+        if let Some(form) = image.get(*place) {
+            write!(told, " {form}")?;
+        }
+    }
+    told.push_str("\n")
+}
+
+/// Opens a file in form 1, commits, and opens it again.
+fn tell_form_1(told: &mut String, law: &NumberedLaw) -> Result<(), AllocError> {
+    let image = in_form_1(law)?;
+    tell_opened(told, law, FuseDisk::new(image.to_vec(law.alloc())?, 100))?;
+    let (made, image) = run(law, image, 100)?;
+    write!(told, "{made} made: {} octets, forms", image.len())?;
+    tell_forms(told, &image)?;
+    tell_opened(told, law, FuseDisk::new(image, 100))
+}
+
+#[test]
+fn a_file_in_form_1_gets_records_in_form_2(rt: HostRuntime) -> Result<(), Fail> {
+    let law = NumberedLaw::new(rt.alloc())?;
+    let mut told = String::new(rt.alloc());
+    tell_form_1(&mut told, &law)?;
+    assert_eq!(rt; told.as_str(), FORMS);
     Ok(())
 }

@@ -15,14 +15,14 @@ const FOLDER: &str = "disk_cases_files";
 const PATH: &str = "disk_cases_files/rows";
 
 /// How many of three commits were acknowledged; and the file of three records, cut behind so many octets: a gate and a record have
-/// 111 octets. The counts that come to the same are told by the first. The whole file has 334.
+/// 133 octets. The counts that come to the same are told by the first. The whole file has 400.
 const WRITTEN: &str = "\
 3 made
 0: 0 0
 2: Foreign { at: 0 }
-112: Foreign { at: 111 }
-223: Foreign { at: 222 }
-334: 2 1
+134: Foreign { at: 133 }
+267: Foreign { at: 266 }
+400: 2 1
 ";
 
 /// A disk over the file at that path.

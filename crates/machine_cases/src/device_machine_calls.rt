@@ -176,9 +176,9 @@ fn write_cause(text: &mut String, cause: CauseCode) -> Result<(), AllocError> {
     write!(text, "{}/{}{plus}", cause.group, cause.index)
 }
 
-fn write_down(text: &mut String, down: &Down) -> Result<(), AllocError> {
+/// The setup of a context, with one bearer or with two.
+fn write_setup(text: &mut String, down: &Down) -> Result<(), AllocError> {
     match down {
-        Down::Nas { station, enb, nas } => write!(text, " nas {station}/{enb} {nas:?}"),
         Down::Setup {
             station,
             enb,
@@ -197,6 +197,33 @@ fn write_down(text: &mut String, down: &Down) -> Result<(), AllocError> {
             )?;
             write!(text, " {:?} {accept:?}", key.octets())
         }
+        Down::SetupTwo {
+            station,
+            enb,
+            dl,
+            ul,
+            sgw,
+            teid,
+            eea,
+            eia,
+            key,
+            sgw2,
+            teid2,
+        } => {
+            write!(
+                text,
+                " setup two {station}/{enb} {dl} {ul} {sgw} {teid} {eea} {eia}"
+            )?;
+            write!(text, " {:?} {sgw2} {teid2}", key.octets())
+        }
+        _ => Ok(()),
+    }
+}
+
+fn write_down(text: &mut String, down: &Down) -> Result<(), AllocError> {
+    match down {
+        Down::Nas { station, enb, nas } => write!(text, " nas {station}/{enb} {nas:?}"),
+        Down::Setup { .. } | Down::SetupTwo { .. } => write_setup(text, down),
         Down::Release {
             station,
             enb,
@@ -206,7 +233,14 @@ fn write_down(text: &mut String, down: &Down) -> Result<(), AllocError> {
             write_cause(text, *cause)
         }
         Down::Page { plmn, tac } => write!(text, " page {plmn} {tac}"),
-        Down::Erab { .. } | Down::SetupTwo { .. } => write!(text, " {down:?}"),
+        Down::Erab {
+            station,
+            enb,
+            sgw,
+            teid,
+            pti,
+            ip,
+        } => write!(text, " erab {station}/{enb} {sgw} {teid} {pti} {ip}"),
     }
 }
 

@@ -6,10 +6,14 @@ use session_form::{read_session, write_session};
 use std::alloc::{AllocError, Global};
 use std::test::Fail;
 
-/// A session with everything set, and no two like fields the same: its fields in order, with spaces between them.
-const SET: &str = "01 0b 01 0102 00030405 02f839 0607 08 09 0a 02 b1b2 \
+/// A session with everything set, and no two like fields the same: its fields in order behind the first octet, which says which form
+/// it is, with spaces between them.
+const SET: &str = "0b 01 0102 00030405 02f839 0607 08 09 0a 02 b1b2 \
 c0c1c2c3c4c5c6c7c8c9cacbcccdcecfd0d1d2d3d4d5d6d7d8d9dadbdcdddedf \
 0000000102030405 0000000203040506 c0a80001 0b0c0d0e 0a2d0001 c0a80002 0f101112 02 01 00 03 01 15 16171819";
+
+/// Its second connection, which form 2 has alone.
+const SECOND: &str = "03 1a c0a80003 1b1c1d1e 0a2d8001 c0a80004 1f202122";
 
 /// The same as the program has it.
 const SET_FIELDS: &str = "Session { stage: Connected, link: On { station: 258, enb: 197637 }, \
@@ -17,18 +21,19 @@ plmn: 194617, tac: 1543, eea: 8, eia: 9, pti: 10, res: ListOf { items: [177, 178
 [192, 193, 194, 195, 196, 197, 198, 199, 200, 201, 202, 203, 204, 205, 206, 207, \
 208, 209, 210, 211, 212, 213, 214, 215, 216, 217, 218, 219, 220, 221, 222, 223] } }, dl: 4328719365, ul: 8640529670, \
 sgw: 3232235521, teid: 185339150, ip: 170721281, side_addr: 3232235522, side_teid: 252711186, bearer: Active, \
-registered: true, off: false, cause: CauseCode { group: 3, extended: true, index: 21 }, radio: 370612249, \
-second: None, pti2: 0, sgw2: 0, teid2: 0, ip2: 0, side2_addr: 0, side2_teid: 0 }";
+registered: true, off: false, cause: CauseCode { group: 3, extended: true, index: 21 }, radio: 370612249, ";
 
-/// Changes of that session: at a place so many octets are taken away and others put there. `kept` says that what comes of it is
-/// read, and written as it was; a number is the place where it is BadSession.
+const NO_SECOND_FIELDS: &str =
+    "second: None, pti2: 0, sgw2: 0, teid2: 0, ip2: 0, side2_addr: 0, side2_teid: 0 }";
+
+const SECOND_FIELDS: &str =
+    "second: Accepted, pti2: 26, sgw2: 3232235523, teid2: 454827294, ip2: 170754049, \
+side2_addr: 3232235524, side2_teid: 522199330 }";
+
+/// Changes of that session in either form: at a place so many octets are taken away and others put there. `kept` says that what comes
+/// of it is read, and written as form 2 of the same session; a number is the place where it is BadSession.
 const CHANGES: &str = "\
-form 0 1 01 kept\n\
-form 0 1 00 0\n\
-form 0 1 02 0\n\
 stage 1 1 0f kept\n\
-stage 1 1 10 1\n\
-stage 1 1 11 1\n\
 link 2 1 02 2\n\
 link 2 1 00 3\n\
 off 2 7 00000000000000 kept\n\
@@ -71,19 +76,55 @@ extended 92 1 02 92\n\
 index 93 1 3f kept\n\
 index 93 1 40 93\n\
 radio 94 4 ffffffff kept\n\
+";
+
+/// Changes of form 1.
+const CHANGES_OF_1: &str = "\
+form 0 1 01 kept\n\
+form 0 1 00 0\n\
+form 0 1 02 98\n\
+form 0 1 03 0\n\
+stage 1 1 10 1\n\
+stage 1 1 11 1\n\
 end 98 0 00 98\n\
+";
+
+/// Changes of form 2.
+const CHANGES_OF_2: &str = "\
+form 0 1 02 kept\n\
+form 0 1 00 0\n\
+form 0 1 01 98\n\
+form 0 1 03 0\n\
+stage 1 1 10 kept\n\
+stage 1 1 11 kept\n\
+stage 1 1 12 1\n\
+second 98 1 00 kept\n\
+second 98 1 04 kept\n\
+second 98 1 05 98\n\
+pti2 99 1 ff kept\n\
+sgw2 100 4 ffffffff kept\n\
+teid2 104 4 ffffffff kept\n\
+ip2 108 4 ffffffff kept\n\
+side2_addr 112 4 ffffffff kept\n\
+side2_teid 116 4 ffffffff kept\n\
+end 120 0 00 120\n\
 ";
 
 /// The first so many octets of that session, and what comes of them, where it is another thing than of one octet less: each field
 /// that is not whole is BadSession at its first octet.
 const CUTS: &str =
     "0 0,1 1,2 2,3 3,5 5,9 9,12 12,14 14,15 15,16 16,17 17,18 18,20 20,52 52,60 60,68 68,72 72,76 76,80 80,\
-84 84,88 88,89 89,90 90,91 91,92 92,93 93,94 94,98 kept,";
+84 84,88 88,89 89,90 90,91 91,92 92,93 93,94 94,98 ";
 
-/// The opening session: `01` and 95 octets 00, with spaces between its fields.
-const OPENING: &str = "01 00 00 0000 00000000 000000 0000 00 00 00 00 \
+const CUTS_OF_2: &str = "98,99 99,100 100,104 104,108 108,112 112,116 116,120 kept,";
+
+/// The opening session behind its first octet, with spaces between its fields: 95 octets 00.
+const OPENING: &str = "00 00 0000 00000000 000000 0000 00 00 00 00 \
 0000000000000000000000000000000000000000000000000000000000000000 \
 0000000000000000 0000000000000000 00000000 00000000 00000000 00000000 00000000 00 00 00 00 00 00 00000000";
+
+/// Behind them in form 2: 22 octets 00.
+const NO_SECOND: &str = "00 00 00000000 00000000 00000000 00000000 00000000";
 
 /// Changes of the opening session, as above. With an octet less, its last field is not whole.
 const OPENING_CHANGES: &str = "\
@@ -93,12 +134,24 @@ radio 92 4 000000 92\n\
 end 96 0 00 96\n\
 ";
 
+/// Form 2 of the session of which these octets are a form.
+fn in_form_2(alloc: Global, octets: &[u8]) -> Result<Vec<u8>, AllocError> {
+    let Some((1, fields)) = octets.split_first() else {
+        return Vec::from_slice(alloc, octets);
+    };
+    let mut form_2 = Vec::from_array(alloc, [2])?;
+    form_2.extend_from_slice(fields)?;
+    form_2.extend_from_slice(&[0; 22])?;
+    Ok(form_2)
+}
+
 /// Writes what comes of the octets: `kept`, or the place where they are BadSession.
 fn tell(alloc: Global, text: &mut String, octets: &[u8]) -> Result<(), AllocError> {
     match read_session(alloc, octets) {
         Ok(session) => {
             let written = write_session(alloc, &session)?;
-            text.push_str(if written.octets() == octets {
+            let form_2 = in_form_2(alloc, octets)?;
+            text.push_str(if written.octets() == form_2.as_slice() {
                 "kept"
             } else {
                 "other"
@@ -168,39 +221,65 @@ fn fields_of(alloc: Global, octets: &[u8]) -> Result<String, Fail> {
     Ok(format!(in alloc; "{session:?}")?)
 }
 
+/// What comes of the changes and the beginnings of a form.
+fn tell_form(alloc: Global, form: &[u8], changes: &str) -> Result<String, Fail> {
+    let mut text = String::new(alloc);
+    for line in CHANGES.lines() {
+        tell_change(alloc, &mut text, form, line)?;
+    }
+    for line in changes.lines() {
+        tell_change(alloc, &mut text, form, line)?;
+    }
+    tell_cuts(alloc, &mut text, form)?;
+    Ok(text)
+}
+
 #[test]
 fn each_field_has_its_range_and_place(rt: HostRuntime) -> Result<(), Fail> {
     let alloc = rt.alloc();
-    let set = octets_of(alloc, SET)?;
-    let mut text = String::new(alloc);
-    for line in CHANGES.lines() {
-        tell_change(alloc, &mut text, &set, line)?;
-    }
-    tell_cuts(alloc, &mut text, &set)?;
-    let wanted = format!(in alloc; "{CHANGES}{CUTS}")?;
-    assert_eq!(rt; text.as_str(), wanted.as_str());
+    let form = octets_of(alloc, &format!(in alloc; "01 {SET}")?)?;
+    let wanted = format!(in alloc; "{CHANGES}{CHANGES_OF_1}{CUTS}kept,")?;
+    assert_eq!(rt;
+        tell_form(alloc, &form, CHANGES_OF_1)?.as_str(),
+        wanted.as_str()
+    );
+    let form = octets_of(alloc, &format!(in alloc; "02 {SET} {SECOND}")?)?;
+    let wanted = format!(in alloc; "{CHANGES}{CHANGES_OF_2}{CUTS}{CUTS_OF_2}")?;
+    assert_eq!(rt;
+        tell_form(alloc, &form, CHANGES_OF_2)?.as_str(),
+        wanted.as_str()
+    );
     Ok(())
 }
 
 #[test]
 fn session_with_everything_set_is_read(rt: HostRuntime) -> Result<(), Fail> {
     let alloc = rt.alloc();
-    let octets = octets_of(alloc, SET)?;
-    assert_eq!(rt; fields_of(alloc, &octets)?.as_str(), SET_FIELDS);
+    let form = octets_of(alloc, &format!(in alloc; "01 {SET}")?)?;
+    let wanted = format!(in alloc; "{SET_FIELDS}{NO_SECOND_FIELDS}")?;
+    assert_eq!(rt; fields_of(alloc, &form)?.as_str(), wanted.as_str());
+    let form = octets_of(alloc, &format!(in alloc; "02 {SET} {SECOND}")?)?;
+    let wanted = format!(in alloc; "{SET_FIELDS}{SECOND_FIELDS}")?;
+    assert_eq!(rt; fields_of(alloc, &form)?.as_str(), wanted.as_str());
     Ok(())
 }
 
 #[test]
-fn opening_session_is_one_and_zeros(rt: HostRuntime) -> Result<(), Fail> {
+fn opening_session_is_zeros_behind_its_form(rt: HostRuntime) -> Result<(), Fail> {
     let alloc = rt.alloc();
-    let octets = octets_of(alloc, OPENING)?;
+    let old = octets_of(alloc, &format!(in alloc; "01 {OPENING}")?)?;
     let mut text = String::new(alloc);
     for line in OPENING_CHANGES.lines() {
-        tell_change(alloc, &mut text, &octets, line)?;
+        tell_change(alloc, &mut text, &old, line)?;
     }
     assert_eq!(rt; text.as_str(), OPENING_CHANGES);
     let opening = Session::opening(alloc);
     let wanted = format!(in alloc; "{opening:?}")?;
-    assert_eq!(rt; fields_of(alloc, &octets)?.as_str(), wanted.as_str());
+    assert_eq!(rt; fields_of(alloc, &old)?.as_str(), wanted.as_str());
+    let new = octets_of(alloc, &format!(in alloc; "02 {OPENING} {NO_SECOND}")?)?;
+    assert_eq!(rt; fields_of(alloc, &new)?.as_str(), wanted.as_str());
+    let mut written = String::new(alloc);
+    tell(alloc, &mut written, &new)?;
+    assert_eq!(rt; written.as_str(), "kept");
     Ok(())
 }

@@ -10,7 +10,7 @@ use Rattle.device_types.specs.Finals.{IsEndOf}
 use Rattle.subs_table.specs.Order.{devices_by_imsi}
 use Rattle.entry_edge.specs.declared.admission.RefusedLine.{RefusedLine}
 use Rattle.report_text.specs.Lines.{ended, numbered}
-use Rattle.report_text.specs.Session.{session_line}
+use Rattle.report_text.specs.Session.{session_text}
 use Rattle.report_text.specs.Device.{device_line, sent_line, gateway_line, subscriber_line}
 
 abbrev pub refused_line : RefusedLine → List ℕ
@@ -18,7 +18,7 @@ refused_line r = codes "refused " ++ decimal r.line ++ codes " " ++ refusal_text
 
 -- what became of a device
 unfoldable pub device_text : Subscriber → DeviceEnd → List ℕ
-device_text row end = ended (device_line row.imsi end.messages end.steps) ++ numbered (sent_line row) end.downs ++ numbered gateway_line end.gateway ++ numbered subscriber_line end.subscriber ++ ended (session_line end.session)
+device_text row end = ended (device_line row.imsi end.messages end.steps) ++ numbered (sent_line row) end.downs ++ numbered gateway_line end.gateway ++ numbered subscriber_line end.subscriber ++ session_text end.session
 
 -- an end for each row, whose downs can be written to its device
 pub record AreEnds (rows : List Subscriber) (finals : List DeviceEnd) : Type 0 where

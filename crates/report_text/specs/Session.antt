@@ -1,5 +1,5 @@
--- The line of a session.
-use Rattle.std.specs.Prelude.{ℕ, ◌++◌, List, codes}
+-- The lines of a session.
+use Rattle.std.specs.Prelude.{ℕ, ◌++◌, List, [], codes}
 use Rattle.std.specs.Fmt.{decimal}
 use Rattle.device_types.specs.declared.session.Stage.{Stage}
 use Rattle.device_types.specs.declared.session.Stage.TheVariants.{Detached, AwaitVectors, Authenticating, Securing, AwaitLocation, AwaitCreate, Accepting, AcceptingContext, AcceptingDone, AwaitModify, Connecting, Connected, AwaitRelease, Releasing, Idle, AwaitDelete, AwaitSecond, AwaitSecondModify}
@@ -7,8 +7,10 @@ use Rattle.device_types.specs.declared.session.Link.{Link}
 use Rattle.device_types.specs.declared.session.Link.TheVariants.{Off, On}
 use Rattle.device_types.specs.declared.session.Bearer.{Bearer}
 use Rattle.device_types.specs.declared.session.Bearer.TheVariants as bearer
+use Rattle.device_types.specs.declared.session.Second.{Second}
+use Rattle.device_types.specs.declared.session.Second.TheVariants as second
 use Rattle.device_types.specs.declared.session.Session.{Session}
-use Rattle.report_text.specs.Lines.{hex_filled}
+use Rattle.report_text.specs.Lines.{ended, hex_filled}
 
 abbrev pub stage_name : Stage → List ℕ
 stage_name Detached = codes "detached"
@@ -47,3 +49,13 @@ session_back s = codes "area " ++ hex_filled 6 s.plmn ++ codes " " ++ decimal s.
 
 abbrev pub session_line : Session → List ℕ
 session_line s = session_front s ++ codes " " ++ session_back s
+
+-- the line of a second connection, where there is one: made until the device, its base station and the gateway have it
+abbrev pub second_text : Second → List ℕ
+second_text second.None = []
+second_text second.Active = ended (codes "second active")
+second_text _ = ended (codes "second made")
+
+-- its line, and that of its second connection
+unfoldable pub session_text : Session → List ℕ
+session_text s = ended (session_line s) ++ second_text s.second

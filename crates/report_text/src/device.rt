@@ -9,7 +9,7 @@ ghost use Rattle.report_text.specs.Lines.{ended, numbered, hex_filled};
 ghost use Rattle.report_text.specs.Device.{device_line, down_line, station_of, sent_line, gateway_line, subscriber_line};
 ghost use Rattle.report_text.specs.Final.{device_text};
 
-use crate::session::{SessionLine, put_session};
+use crate::session::put_session_lines;
 use device_types::{DeviceEnd, Down, GwCall, SubCall, Subscriber};
 use echo_base::OutOfMemory;
 use entry_edge::down_bytes;
@@ -242,5 +242,5 @@ pub fn put_device(
     put_downs(alloc, text, row, end.downs.items())?;
     put_gateway(text, end.gateway.items())?;
     put_subscriber(text, end.subscriber.items())?;
-    put_session(text, SessionLine(&end.session))
+    put_session_lines(text, &end.session)
 }

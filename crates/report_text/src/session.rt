@@ -1,10 +1,10 @@
-//! The line of a session.
+//! The lines of a session.
 
 ghost use Rattle.std.specs.Prelude.{◌≡◌, ◌++◌, Some, IfOk, OnOk, string_bytes};
 ghost use Rattle.report_text.specs.Lines.{ended, hex_filled};
-ghost use Rattle.report_text.specs.Session.{stage_name, link_text, bearer_name, session_front, session_back, session_line};
+ghost use Rattle.report_text.specs.Session.{stage_name, link_text, bearer_name, session_front, session_back, session_line, second_text, session_text};
 
-use device_types::{Bearer, Link, Octets, Session, Stage};
+use device_types::{Bearer, Link, Octets, Second, Session, Stage};
 use echo_base::OutOfMemory;
 use std::alloc::Global;
 use std::fmt;
@@ -122,10 +122,30 @@ impl fmt::Display for SessionLine<'_> {
 }
 
 /// Puts the line of a session behind a text.
-pub(crate) fn put_session(text: &mut String, line: SessionLine) -> Result<(), OutOfMemory>
+fn put_session(text: &mut String, line: SessionLine) -> Result<(), OutOfMemory>
     ensures { OnOk result (string_bytes text.new ≡ string_bytes text.old ++ ended (session_line line.entry.0.now)) }
 {
     writeln!(text, "{line}")
+}
+
+/// Puts the line of a second connection behind a text, where there is one.
+fn put_second(text: &mut String, second: Second) -> Result<(), OutOfMemory>
+    ensures { OnOk result (string_bytes text.new ≡ string_bytes text.old ++ second_text second) }
+{
+    match second {
+        Second::None => Ok(()),
+        Second::Made | Second::Radio | Second::Accepted => writeln!(text, "second made"),
+        Second::Active => writeln!(text, "second active"),
+    }
+}
+
+/// Puts the line of a session, and of its second connection where it has one, behind a text.
+#[tactic(auto, unfolding(crate::specs::Session::session_text))]
+pub(crate) fn put_session_lines(text: &mut String, session: &Session) -> Result<(), OutOfMemory>
+    ensures { OnOk result (string_bytes text.new ≡ string_bytes text.old ++ session_text session.now) }
+{
+    put_session(text, SessionLine(session))?;
+    put_second(text, session.second)
 }
 
 /// The line of a session, with the LF that ends it: `session STAGE link LINK area PLMN TAC bearer BEARER radio N`, where N is the count of

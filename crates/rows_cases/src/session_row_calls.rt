@@ -330,11 +330,11 @@ fn lends_the_octets_of_its_session(rt: HostRuntime) -> Result<(), Fail> {
     let mut told = String::new(rt.alloc());
     tell_new_lent(rt.alloc(), &mut told)?;
     let wanted = "\
-96 octets 0:1
+118 octets 0:2
 Committed(1)
-96 octets 0:1 1:14 87:1
+118 octets 0:2 1:14 87:1
 Stale { read: 0, current: 1 }
-96 octets 0:1 1:14 87:1
+118 octets 0:2 1:14 87:1
 ";
     assert_eq!(rt; told.as_str(), wanted);
     Ok(())
@@ -392,7 +392,7 @@ true
 true
 none
 false
-96 octets 0:1
+118 octets 0:2
 ";
     assert_eq!(rt; told.as_str(), wanted);
     Ok(())

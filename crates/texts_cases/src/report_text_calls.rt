@@ -35,6 +35,7 @@ gateway 1 release
 gateway 2 delete
 subscriber 1 purge
 session idle link off area 000000 0 bearer made radio 0
+second made
 device 208930000000001 messages 6 steps 10
 down 1 3 000b4038000003000000020001000800020007001a002524075200000102030405060708090a0b0c0d0e0f10101112131415161718191a1b1c1d1e1f
 down 2 3 000b401b000003000000020001000800020007001a000807075d000002f060
@@ -48,6 +49,7 @@ gateway 4 second-modify c0a80004 5
 subscriber 1 vectors
 subscriber 2 location
 session connected link 3/7 area 02f839 258 bearer active radio 2
+second active
 ";
 
 /// Puts a message to the device of a row behind others.
@@ -156,6 +158,7 @@ fn attached(alloc: Global, row: &Subscriber) -> Result<DeviceEnd, Fail>
     session.tac = 258;
     session.bearer = Bearer::Active;
     session.radio = 2;
+    session.second = Second::Active;
     Ok(DeviceEnd {
         messages: 6,
         steps: 10,
@@ -226,6 +229,7 @@ fn released(alloc: Global, row: &Subscriber) -> Result<DeviceEnd, Fail>
     let mut session = Session::opening(alloc);
     session.stage = Stage::Idle;
     session.bearer = Bearer::Made;
+    session.second = Second::Made;
     Ok(DeviceEnd {
         messages: 4,
         steps: 7,

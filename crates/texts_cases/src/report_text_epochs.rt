@@ -1,11 +1,12 @@
 //! The lines of a device's streams.
 
-use device_types::Session;
+use device_types::{Second, Session};
 use epoch_agents::{EpochAnswer, Merged};
 use report_text::{epoch_line, merge_line, session_line};
 use std::test::Fail;
 
-/// A line for each answer of `answer`, in its order, then a committed message, and the line of a session before any message.
+/// A line for each answer of `answer`, in its order, then a committed message, and the line of a session, which has none of its second
+/// connection.
 const LINES: &str = "\
 event 1: sent
 event 2: void window
@@ -55,7 +56,9 @@ fn tells_streams(rt: HostRuntime) -> Result<(), Fail> {
     };
     let line = merge_line(alloc, 65535, 4, entry)?;
     told.push_str(str::from_utf8(line.octets())?)?;
-    let line = session_line(alloc, &Session::opening(alloc))?;
+    let mut session = Session::opening(alloc);
+    session.second = Second::Active;
+    let line = session_line(alloc, &session)?;
     told.push_str(str::from_utf8(line.octets())?)?;
     assert_eq!(rt; told.as_str(), LINES);
     Ok(())

@@ -1,8 +1,8 @@
 //! One small case for each row of the step table, and for each way in which a row can fit; then what does not fit, in each stage.
 //!
-//! A line is `SESSION | INPUT | FIELDS | EFFECTS`. A session is its stage, its S1 connection, its bearer, and what holds of it; its other
-//! fields are those of `session`. An input is a message or an answer; inputs with commas between them come one by one to the same
-//! session, and to the same end. The fields are those that the step changes.
+//! A line is `SESSION | INPUT | FIELDS | EFFECTS`. A session is its stage, its S1 connection, its bearer, what holds of it, and behind a
+//! plus its second connection, where it has one; its other fields are those of `session`. An input is a message or an answer; inputs with
+//! commas between them come one by one to the same session, and to the same end. The fields are those that the step changes.
 
 use super::{message, octets, pair, subscriber, write_cause, write_effects};
 use device_machine::step;
@@ -17,7 +17,8 @@ use std::test::Fail;
 /// detach (5.3.8.2), row by row: the subscriber is not served in the areas 8 and 9, and is in area 7. Then what fits no row:
 /// messages on the session's own connection that its stage does not take, and those that it would take on others (another number at
 /// its base station, and its number at another one); each kind of message while an answer is awaited; a notice in each stage but
-/// one; answers that are not awaited, in each stage; and the messages and answers of a second connection.
+/// one; and answers that are not awaited, in each stage. A second connection (5.10.2) has rows of its own, and changes of other rows,
+/// among them.
 const STEPS: &str = "\
 Detached none None | 2/5 Attach 9 | stage=Releasing link=2/5 cause=2/0 | nas 2/5 AttachReject { cause: 12 }; release 2/5 2/0;
 Securing 1/3 None | 1/3 Attach 9 | stage=Releasing cause=2/0 | nas 1/3 AttachReject { cause: 12 }; release 1/3 2/0;
@@ -218,6 +219,98 @@ Connected 1/3 Active registered | answer Vectors, answer Located, answer Created
 Releasing 1/3 Made registered | answer Vectors, answer Located, answer Created, answer Modified, answer Freed, answer Deleted, answer Purged | |
 Releasing 1/3 None | answer Vectors, answer Located, answer Created, answer Modified, answer Freed, answer Deleted, answer Purged | |
 Idle none Made registered | answer Vectors, answer Located, answer Created, answer Modified, answer Freed, answer Deleted, answer Purged | |
+Connected 1/3 Active registered | 1/3 PdnRequest | stage=AwaitSecond second=(None, 45, 29) | gateway SecondCreate;
+AwaitSecond 1/3 Active registered | answer SecondCreated | stage=Connected second=(Made, 26, 67) tunnel2=(65, 66) | erab 1/3 65 66 26 67;
+Connected 1/3 Active registered +Made | 1/3 SecondDone | second=(Radio, 26, 29) side2=(46, 47) |
+Connected 1/3 Active registered +Accepted | 1/3 SecondDone | stage=AwaitSecondModify side2=(46, 47) | gateway SecondModify(46, 47);
+Connected 1/3 Active registered +Made | 1/3 PdnAccept | second=(Accepted, 26, 29) |
+Connected 1/3 Active registered +Radio | 1/3 PdnAccept | stage=AwaitSecondModify | gateway SecondModify(30, 31);
+AwaitSecondModify 1/3 Active registered +Radio | answer SecondModified | stage=Connected second=(Active, 26, 29) |
+AwaitSecondModify 1/3 Active registered +Accepted | answer SecondModified | stage=Connected second=(Active, 26, 29) |
+AwaitCreate 1/3 None +Made | answer Created | stage=Accepting bearer=Made tunnel=(57, 58) ip=59 second=(None, 26, 29) | setup 1/3 18 19 57 58 13 14 [17] Yes { plmn: 11, tac: 12, pti: 15, ip: 59 };
+AwaitCreate 1/3 None +Active | answer Created | stage=Accepting bearer=Made tunnel=(57, 58) ip=59 second=(None, 26, 29) | setup 1/3 18 19 57 58 13 14 [17] Yes { plmn: 11, tac: 12, pti: 15, ip: 59 };
+AwaitCreate 1/3 Active +Radio | answer Created | stage=Accepting bearer=Made tunnel=(57, 58) ip=59 second=(None, 26, 29) | setup 1/3 18 19 57 58 13 14 [17] Yes { plmn: 11, tac: 12, pti: 15, ip: 59 };
+AwaitCreate 1/3 Made +Accepted | answer Created | stage=Accepting tunnel=(57, 58) ip=59 second=(None, 26, 29) | setup 1/3 18 19 57 58 13 14 [17] Yes { plmn: 11, tac: 12, pti: 15, ip: 59 };
+AwaitDelete 1/3 Active +Active | answer Deleted | stage=Releasing bearer=None second=(None, 26, 29) | subscriber Purge; nas 1/3 DetachAccept; release 1/3 3/5;
+AwaitDelete 1/3 Made off +Radio | answer Deleted | stage=Releasing bearer=None second=(None, 26, 29) | subscriber Purge; release 1/3 3/5;
+AwaitDelete 1/3 Made +Made | answer Deleted | stage=Releasing bearer=None second=(None, 26, 29) | subscriber Purge; nas 1/3 DetachAccept; release 1/3 3/5;
+AwaitDelete 1/3 Active off +Accepted | answer Deleted | stage=Releasing bearer=None second=(None, 26, 29) | subscriber Purge; release 1/3 3/5;
+AwaitRelease 1/3 Active registered +Made | answer Freed | stage=Releasing bearer=Made | release 1/3 3/5;
+AwaitRelease 1/3 Active registered +Radio | answer Freed | stage=Releasing bearer=Made second=(Made, 26, 29) | release 1/3 3/5;
+AwaitRelease 1/3 Active registered +Accepted | answer Freed | stage=Releasing bearer=Made second=(Made, 26, 29) | release 1/3 3/5;
+AwaitRelease 1/3 Active registered +Active | answer Freed | stage=Releasing bearer=Made second=(Made, 26, 29) | release 1/3 3/5;
+Idle none Made registered +Made | 2/5 Service | stage=Connecting link=2/5 | setup two 2/5 18 19 20 21 13 14 [17] 27 28;
+Connecting 1/3 Made registered +Radio | 1/3 Service | second=(Made, 26, 29) | setup two 1/3 18 19 20 21 13 14 [17] 27 28;
+Connected 1/3 Active registered +Active | 1/4 Service | stage=Connecting link=1/4 second=(Made, 26, 29) | release 1/3 2/0; setup two 1/4 18 19 20 21 13 14 [17] 27 28;
+Releasing 1/3 Made registered +Accepted | 2/3 Service | stage=Connecting link=2/3 second=(Made, 26, 29) | release 1/3 2/0; setup two 2/3 18 19 20 21 13 14 [17] 27 28;
+Releasing 1/3 None +Active | 2/5 Service | | nas 2/5 ServiceReject { cause: 10 };
+Accepting 1/3 Made +Radio | 2/5 Service | | nas 2/5 ServiceReject { cause: 10 };
+Connecting 1/3 Made registered +Made | 1/3 ContextDone second | stage=AwaitModify side=(41, 42) second=(Radio, 26, 29) side2=(43, 44) | gateway Modify(41, 42);
+Connecting 1/3 Made registered +Radio | 1/3 ContextDone second | stage=AwaitModify side=(41, 42) side2=(43, 44) | gateway Modify(41, 42);
+Connecting 1/3 Made registered +Accepted | 1/3 ContextDone second | stage=AwaitModify side=(41, 42) second=(Radio, 26, 29) side2=(43, 44) | gateway Modify(41, 42);
+Connecting 1/3 Made registered +Active | 1/3 ContextDone second | stage=AwaitModify side=(41, 42) second=(Radio, 26, 29) side2=(43, 44) | gateway Modify(41, 42);
+Connecting 1/3 Made registered +Made | 1/3 ContextDone | stage=AwaitModify side=(41, 42) | gateway Modify(41, 42);
+Accepting 1/3 Made +Made | 1/3 ContextDone second | stage=AcceptingContext side=(41, 42) |
+AcceptingDone 1/3 Made +Active | 1/3 ContextDone second | stage=AwaitModify side=(41, 42) | gateway Modify(41, 42);
+AwaitModify 1/3 Made registered +Radio | answer Modified | stage=AwaitSecondModify bearer=Active | gateway SecondModify(30, 31);
+AwaitModify 1/3 Made +Radio | answer Modified | stage=AwaitSecondModify bearer=Active registered=true | gateway SecondModify(30, 31);
+AwaitModify 1/3 Made registered +Made | answer Modified | stage=Connected bearer=Active |
+AwaitModify 1/3 Made registered +Accepted | answer Modified | stage=Connected bearer=Active |
+AwaitModify 1/3 Made registered +Active | answer Modified | stage=Connected bearer=Active |
+Connected 1/3 Active registered +Active | 2/3 Attach 7 | stage=AwaitVectors link=2/3 registered=false area=(31, 7) algorithms=(32, 33) pti=34 | release 1/3 2/0; subscriber Vectors;
+Connected 1/3 Active registered +Active | 2/5 Attach 9 | stage=AwaitDelete link=2/5 registered=false off=true cause=2/0 | release 1/3 2/0; nas 2/5 AttachReject { cause: 12 }; gateway Delete;
+AwaitVectors 1/3 Active +Active | answer Vectors | stage=Authenticating vector=([53], [54]) | nas 1/3 AuthRequest { rand: ListOf { items: [51] }, autn: ListOf { items: [52] } };
+Authenticating 1/3 Active +Active | 1/3 Response 17 | stage=AwaitDelete off=true cause=2/1 | nas 1/3 AuthReject; gateway Delete;
+AwaitLocation 1/3 Active +Made | answer Located | stage=AwaitCreate rates=(55, 56) | gateway Create;
+Connecting 1/3 Made registered +Made | 1/3 ContextFailed | stage=Releasing cause=2/3 | release 1/3 2/3;
+Connected 1/3 Active registered +Active | 1/3 ReleaseAsked | stage=AwaitRelease cause=0/20+ | gateway Release;
+Connected 1/3 Active registered +Radio | 1/3 Capability | radio=3 |
+Releasing 1/3 Made registered +Made | 1/3 Released | stage=Idle link=none |
+Connected 1/3 Active registered +Radio | 1/3 Area later 7 | area=(35, 7) | nas 1/3 AreaAccept;
+Connected 1/3 Active registered +Accepted | 1/3 Area first 7 | stage=AwaitRelease area=(35, 7) cause=2/0 | nas 1/3 AreaAccept; gateway Release;
+Idle none Made registered +Made | 2/5 Area first 7 | stage=Releasing link=2/5 area=(35, 7) cause=2/0 | nas 2/5 AreaAccept; release 2/5 2/0;
+Idle none Made registered +Made | 2/5 Detach first | stage=AwaitDelete link=2/5 registered=false cause=2/2 | gateway Delete;
+Connected 1/3 Active registered +Made | 1/3 Detach later off | stage=AwaitDelete registered=false off=true cause=2/2 | gateway Delete;
+Idle none Made registered +Made | 0/0 Data | | page 11 12;
+Connected 1/3 Active registered +Made | 1/3 PdnRequest, 1/3 SecondRefused, 1/4 SecondDone, 2/3 SecondDone, 1/4 PdnAccept, 2/3 PdnAccept | |
+Connected 1/3 Active registered +Radio | 1/3 PdnRequest, 1/3 SecondDone, 1/3 SecondRefused, 1/4 PdnAccept, 2/3 PdnAccept | |
+Connected 1/3 Active registered +Accepted | 1/3 PdnRequest, 1/3 PdnAccept, 1/3 SecondRefused, 1/4 SecondDone, 2/3 SecondDone | |
+Connected 1/3 Active registered +Active | 1/3 PdnRequest, 1/3 PdnAccept, 1/3 SecondDone, 1/3 SecondRefused | |
+Connected none Active registered | 1/3 PdnRequest, 1/3 PdnAccept, 1/3 SecondDone | |
+Connected none Active registered +Made | 1/3 PdnAccept, 1/3 SecondDone | |
+Detached none None +Made | 1/3 PdnRequest, 1/3 PdnAccept, 1/3 SecondDone, 1/3 SecondRefused | |
+Authenticating 1/3 Active +Made | 1/3 PdnRequest, 1/3 PdnAccept, 1/3 SecondDone, 1/3 SecondRefused | |
+Securing 1/3 Active +Made | 1/3 PdnRequest, 1/3 PdnAccept, 1/3 SecondDone, 1/3 SecondRefused | |
+Accepting 1/3 Made +Made | 1/3 PdnRequest, 1/3 PdnAccept, 1/3 SecondDone, 1/3 SecondRefused | |
+AcceptingContext 1/3 Made +Made | 1/3 PdnRequest, 1/3 PdnAccept, 1/3 SecondDone, 1/3 SecondRefused | |
+AcceptingDone 1/3 Made +Made | 1/3 PdnRequest, 1/3 PdnAccept, 1/3 SecondDone, 1/3 SecondRefused | |
+Connecting 1/3 Made registered +Made | 1/3 PdnRequest, 1/3 PdnAccept, 1/3 SecondDone, 1/3 SecondRefused | |
+Releasing 1/3 Made registered +Made | 1/3 PdnRequest, 1/3 PdnAccept, 1/3 SecondDone, 1/3 SecondRefused | |
+Idle none Made registered +Made | 1/3 PdnRequest, 1/3 PdnAccept, 1/3 SecondDone, 1/3 SecondRefused | |
+AwaitVectors 1/3 Active +Made | 1/3 PdnRequest, 1/3 PdnAccept, 1/3 SecondDone, 1/3 SecondRefused | |
+AwaitLocation 1/3 Active +Made | 1/3 PdnRequest, 1/3 PdnAccept, 1/3 SecondDone, 1/3 SecondRefused | |
+AwaitCreate 1/3 Active +Made | 1/3 PdnRequest, 1/3 PdnAccept, 1/3 SecondDone, 1/3 SecondRefused | |
+AwaitModify 1/3 Made registered +Made | 1/3 PdnRequest, 1/3 PdnAccept, 1/3 SecondDone, 1/3 SecondRefused | |
+AwaitRelease 1/3 Active registered +Made | 1/3 PdnRequest, 1/3 PdnAccept, 1/3 SecondDone, 1/3 SecondRefused | |
+AwaitDelete 1/3 Made +Made | 1/3 PdnRequest, 1/3 PdnAccept, 1/3 SecondDone, 1/3 SecondRefused | |
+AwaitSecond 1/3 Active registered +Made | 1/3 PdnRequest, 1/3 PdnAccept, 1/3 SecondDone, 1/3 SecondRefused | |
+AwaitRelease 1/3 Active registered +Radio | 1/3 PdnRequest, 1/3 PdnAccept, 1/3 SecondDone, 1/3 SecondRefused | |
+AwaitModify 1/3 Made registered +Radio | 1/3 PdnRequest, 1/3 PdnAccept, 1/3 SecondDone, 1/3 SecondRefused | |
+AwaitSecondModify 1/3 Active registered +Radio | 1/3 PdnRequest, 1/3 PdnAccept, 1/3 SecondDone, 1/3 SecondRefused | |
+AwaitSecondModify 1/3 Active registered +Accepted | 1/3 PdnRequest, 1/3 PdnAccept, 1/3 SecondDone, 1/3 SecondRefused | |
+Connected 1/3 Active registered +Made | 1/3 ContextDone second | |
+Releasing 1/3 Made registered +Made | 1/3 ContextDone second | |
+AcceptingContext 1/3 Made +Made | 1/3 ContextDone second | |
+Connecting 1/3 Made registered +Made | 1/4 ContextDone second, 2/3 ContextDone second | |
+AwaitModify 1/3 Made registered +Radio | 1/3 Service, 1/3 ContextDone second | |
+Connecting 1/3 Made registered +Radio | answer Created, answer Modified, answer Freed, answer Deleted | |
+Connected 1/3 Active registered +Active | answer Created, answer Modified, answer Freed, answer Deleted, answer SecondCreated, answer SecondModified | |
+Connected 1/3 Active registered +Radio | answer Created, answer Modified, answer Freed, answer Deleted, answer SecondCreated, answer SecondModified | |
+Idle none Made registered +Made | answer Created, answer Modified, answer Freed, answer Deleted, answer SecondCreated, answer SecondModified | |
+AwaitCreate 1/3 Active +Active | answer Modified, answer Freed, answer Deleted, answer SecondCreated, answer SecondModified | |
+AwaitModify 1/3 Made registered +Radio | answer Created, answer Freed, answer Deleted, answer SecondCreated, answer SecondModified | |
+AwaitRelease 1/3 Active registered +Active | answer Created, answer Modified, answer Deleted, answer SecondCreated, answer SecondModified | |
+AwaitDelete 1/3 Active +Active | answer Created, answer Modified, answer Freed, answer SecondCreated, answer SecondModified | |
 Detached none None | 1/3 PdnRequest, 1/3 PdnAccept, 1/3 SecondDone, 1/3 SecondRefused | |
 Authenticating 1/3 None | 1/3 PdnRequest, 1/3 PdnAccept, 1/3 SecondDone, 1/3 SecondRefused | |
 Securing 1/3 None | 1/3 PdnRequest, 1/3 PdnAccept, 1/3 SecondDone, 1/3 SecondRefused | |
@@ -225,7 +318,7 @@ Accepting 1/3 Made | 1/3 PdnRequest, 1/3 PdnAccept, 1/3 SecondDone, 1/3 SecondRe
 AcceptingContext 1/3 Made | 1/3 PdnRequest, 1/3 PdnAccept, 1/3 SecondDone, 1/3 SecondRefused | |
 AcceptingDone 1/3 Made | 1/3 PdnRequest, 1/3 PdnAccept, 1/3 SecondDone, 1/3 SecondRefused | |
 Connecting 1/3 Made registered | 1/3 PdnRequest, 1/3 PdnAccept, 1/3 SecondDone, 1/3 SecondRefused | |
-Connected 1/3 Active registered | 1/3 PdnRequest, 1/3 PdnAccept, 1/3 SecondDone, 1/3 SecondRefused | |
+Connected 1/3 Active registered | 1/3 PdnAccept, 1/3 SecondDone, 1/3 SecondRefused | |
 Releasing 1/3 Made registered | 1/3 PdnRequest, 1/3 PdnAccept, 1/3 SecondDone, 1/3 SecondRefused | |
 Releasing 1/3 None | 1/3 PdnRequest, 1/3 PdnAccept, 1/3 SecondDone, 1/3 SecondRefused | |
 Idle none Made registered | 1/3 PdnRequest, 1/3 PdnAccept, 1/3 SecondDone, 1/3 SecondRefused | |
@@ -240,9 +333,11 @@ Connected 1/3 Active registered | 1/4 PdnRequest, 2/3 PdnRequest, 1/4 PdnAccept,
 AwaitSecond 1/3 Active registered | 1/3 Attach 7, 2/5 Attach 9, 1/4 Service, 2/5 Area first 7, 1/3 Area first 9, 2/3 Detach first, 1/3 Detach first off, 0/0 Data | |
 AwaitSecond 1/3 Active registered | 1/3 Response 16, 1/3 Secured, 1/3 SecurityRefused, 1/3 AttachDone, 1/3 ContextDone, 1/3 ContextFailed, 1/3 ReleaseAsked, 1/3 Released, 1/3 Capability, 1/3 Area later 7, 1/3 Detach later | |
 AwaitSecond 1/3 Active registered | 1/3 PdnRequest, 1/3 PdnAccept, 1/3 SecondDone, 1/3 SecondRefused | |
-AwaitSecondModify 1/3 Active registered | 1/3 Attach 7, 2/5 Attach 9, 1/4 Service, 2/5 Area first 7, 1/3 Area first 9, 2/3 Detach first, 1/3 Detach first off, 0/0 Data | |
-AwaitSecondModify 1/3 Active registered | 1/3 Response 16, 1/3 Secured, 1/3 SecurityRefused, 1/3 AttachDone, 1/3 ContextDone, 1/3 ContextFailed, 1/3 ReleaseAsked, 1/3 Released, 1/3 Capability, 1/3 Area later 7, 1/3 Detach later | |
+AwaitSecondModify 1/3 Active registered +Radio | 1/3 Attach 7, 2/5 Attach 9, 1/4 Service, 2/5 Area first 7, 1/3 Area first 9, 2/3 Detach first, 1/3 Detach first off, 0/0 Data | |
+AwaitSecondModify 1/3 Active registered +Accepted | 1/3 Response 16, 1/3 Secured, 1/3 SecurityRefused, 1/3 AttachDone, 1/3 ContextDone, 1/3 ContextFailed, 1/3 ReleaseAsked, 1/3 Released, 1/3 Capability, 1/3 Area later 7, 1/3 Detach later | |
 AwaitSecondModify 1/3 Active registered | 1/3 PdnRequest, 1/3 PdnAccept, 1/3 SecondDone, 1/3 SecondRefused | |
+AwaitSecond 1/3 Active registered | answer Vectors, answer Located, answer Created, answer Modified, answer Freed, answer Deleted, answer Purged, answer SecondModified | |
+AwaitSecondModify 1/3 Active registered +Radio | answer Vectors, answer Located, answer Created, answer Modified, answer Freed, answer Deleted, answer Purged, answer SecondCreated | |
 Detached none None | answer SecondCreated, answer SecondModified | |
 Authenticating 1/3 None | answer SecondCreated, answer SecondModified | |
 Securing 1/3 None | answer SecondCreated, answer SecondModified | |
@@ -304,6 +399,17 @@ fn bearer(word: &str) -> Result<Bearer, Fail> {
     }
 }
 
+fn second_state(word: &str) -> Result<Second, Fail> {
+    match word {
+        "None" => Ok(Second::None),
+        "Made" => Ok(Second::Made),
+        "Radio" => Ok(Second::Radio),
+        "Accepted" => Ok(Second::Accepted),
+        "Active" => Ok(Second::Active),
+        _ => Err(Fail::new("no such second connection")),
+    }
+}
+
 /// Whether the device is registered, and whether it detaches since it is switched off.
 fn holds(words: &str) -> Result<(bool, bool), Fail> {
     match words {
@@ -319,6 +425,7 @@ fn holds(words: &str) -> Result<(bool, bool), Fail> {
 fn session(alloc: Global, words: &str) -> Result<Session, Fail> {
     let (stage_word, rest) = words.split_once(" ").ok_or("no connection")?;
     let (link_word, rest) = rest.split_once(" ").ok_or("no bearer")?;
+    let (rest, second_word) = rest.split_once(" +").unwrap_or((rest, "None"));
     let (bearer_word, words) = rest.split_once(" ").unwrap_or((rest, ""));
     let (registered, off) = holds(words)?;
     Ok(Session {
@@ -347,7 +454,7 @@ fn session(alloc: Global, words: &str) -> Result<Session, Fail> {
             index: 5,
         },
         radio: 25,
-        second: Second::None,
+        second: second_state(second_word)?,
         pti2: 26,
         sgw2: 27,
         teid2: 28,
@@ -507,6 +614,34 @@ fn tell_lines(alloc: Global, told: &mut String, wanted: &mut String) -> Result<(
     for line in STEPS.lines() {
         tell_line(alloc, &row, line, told)?;
         want_line(line, wanted)?;
+    }
+    Ok(())
+}
+
+/// A request for a second connection of a subscriber who has no name for it, no address, or neither.
+const REJECTED: &str = "\
+Connected 1/3 Active registered | 1/3 PdnRequest | | nas 1/3 PdnReject { pti: 45, cause: 27 };
+Connected 1/3 Active registered +Made | 1/3 PdnRequest | |
+Connected 1/3 Active registered | 1/4 PdnRequest | |
+Connecting 1/3 Made registered | 1/3 PdnRequest | |
+";
+
+#[test]
+fn second_connection_needs_a_name_and_an_address(rt: HostRuntime) -> Result<(), Fail> {
+    let alloc = rt.alloc();
+    let mut nameless = subscriber(alloc)?;
+    nameless.apn2 = None;
+    let mut homeless = subscriber(alloc)?;
+    homeless.ip2 = None;
+    let mut single = subscriber(alloc)?;
+    single.apn2 = None;
+    single.ip2 = None;
+    for row in [&nameless, &homeless, &single] {
+        let mut told = String::new(alloc);
+        for line in REJECTED.lines() {
+            tell_line(alloc, row, line, &mut told)?;
+        }
+        assert_eq!(rt; told.as_str(), REJECTED);
     }
     Ok(())
 }
