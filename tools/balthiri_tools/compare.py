@@ -8,7 +8,7 @@ from typing import Dict, Iterator, List, Optional, Tuple
 
 from .fields import explanation, fields_of
 from .learnt import NOT_IN_PROFILE
-from .messages import ACTIVATE_REQUEST, PAGING, PDN_REJECT, SESSION_NAMES, elements_of
+from .messages import ACTIVATE_REQUEST, PAGING, PDN_REJECT, PDN_REQUEST, SESSION_NAMES, elements_of
 from .per import Broken
 from .values import ids_of
 
@@ -16,15 +16,14 @@ EQUAL, FIELDS, CAUSE, OTHER = "equal", "other fields", "another cause", "another
 MME_ONLY, MACHINE_ONLY, ORDER = "only the MME's", "only the machine's", "another order"
 VERDICTS = (EQUAL, FIELDS, CAUSE, OTHER, MME_ONLY, MACHINE_ONLY, ORDER)
 ATTACH = "Attach request"
+ASKS, GRANTS, REJECTS = (SESSION_NAMES[it] for it in (PDN_REQUEST, ACTIVATE_REQUEST, PDN_REJECT))  # of a second connection
 BEFORE_THE_CAPTURE = "its attach is not in the capture"
 NEAR = 8  # so many messages of a device apart an answer is looked for, where it is not behind its own message
 
 # The messages to devices that the profile has, by their names.
 OF_THE_PROFILE = ("Authentication request", "Authentication reject", "Security mode command", "Attach accept", "Attach reject", "Service reject")
 OF_THE_PROFILE += ("Detach accept", "Tracking area update accept", "Tracking area update reject", "InitialContextSetupRequest", "UEContextReleaseCommand", PAGING)
-
-# Those that it has, and no step of the machine makes.
-NOT_MADE = (SESSION_NAMES[ACTIVATE_REQUEST], SESSION_NAMES[PDN_REJECT])
+OF_THE_PROFILE += (GRANTS, REJECTS)
 
 
 @dataclass(frozen=True)
@@ -117,7 +116,7 @@ def _differences(mme: Sent, machine: Sent, is_learnt: bool) -> Iterator[Differen
     for name in dict.fromkeys([*both[0], *both[1]]):
         values = [it.get(name, "") for it in both]
         if values[0] != values[1]:
-            yield Difference(name, values[0], values[1], explanation(name, is_learnt))
+            yield Difference(name, values[0], values[1], explanation(name, values[0], values[1], is_learnt))
 
 
 def _pair(mme: Sent, machine: Sent, is_learnt: bool, order: Optional[str] = None) -> Answer:
@@ -188,25 +187,41 @@ class Compared:
                     break
 
     def _rest(self, at: int, it: Exchange) -> None:
-        sent = [one for one in self.mme[at] if not self._why_alone(one, it)]
+        sent = [one for one in self.mme[at] if not self._why_alone(one, at)]
         for mme, machine in zip(sent, list(self.machine[at])):
-            self._add(at, _pair(mme, machine, self.is_learnt) if mme.name == machine.name else Answer(OTHER, mme, machine, [], it.state))
+            is_one = mme.name == machine.name
+            self._add(at, _pair(mme, machine, self.is_learnt) if is_one else Answer(OTHER, mme, machine, [], self._why_other(mme, machine, it)))
             self._drop(self.mme[at], mme)
             self._drop(self.machine[at], machine)
         for mme in self.mme[at]:
-            self._add(at, Answer(MME_ONLY, mme, None, [], self._why_alone(mme, it) or it.state))
+            self._add(at, Answer(MME_ONLY, mme, None, [], self._why_alone(mme, at) or it.state))
         for machine in self.machine[at]:
             self._add(at, Answer(MACHINE_ONLY, None, machine, [], it.state))
 
-    @staticmethod
-    def _why_alone(mme: Sent, it: Exchange) -> str:
+    def _has_second(self, at: int) -> bool:
+        """Whether the machine has granted a second connection since the device attached."""
+        for it in reversed(self.exchanges[: at + 1]):
+            if any(one.name == GRANTS for one in it.machine):
+                return True
+            if it.name == ATTACH:
+                return False
+        return False
+
+    def _why_other(self, mme: Sent, machine: Sent, it: Exchange) -> str:
+        """What explains that they send different messages."""
+        if self.is_learnt and (mme.name, machine.name) == (GRANTS, REJECTS):
+            return "the capture tells no name and address of it that a row takes"
+        return it.state
+
+    def _why_alone(self, mme: Sent, at: int) -> str:
         """What of the profile explains that the MME alone sends a message."""
-        if mme.name in NOT_MADE:
-            return "the machine makes no second connection"
+        it = self.exchanges[at]
         if mme.name not in OF_THE_PROFILE:
             return f"the profile has no {mme.name}"
         if it.is_of_another_profile:
             return f"the profile has no {it.name}"
+        if it.name == ASKS and not it.machine and self._has_second(at):
+            return "the profile has no third connection"
         is_repeat = any(other is not mme and other.message == mme.message for other in it.mme)
         return "no timers: it is a repeat" if is_repeat else ""
 

@@ -27,7 +27,8 @@ OF_THE_PROFILE: Dict[str, str] = {
     "timer": "no timers",
     "TAI list": "one area in a TAI list",
     "result": "no combined attach or update",
-    "bearers": "one E-RAB",
+    "bearers": "no dedicated bearers",
+    "bearer": "E-RABs 5 and 6 alone",
     "quality": "one quality of service",
     "access point labels": "an access point name of one label",
     "options": "mandatory fields alone",
@@ -118,7 +119,7 @@ def _fields_of_nas(carried: bytes) -> Iterator[Tuple[str, str]]:
 
 def _fields_of_bearers(bearers: "list[Bearer]") -> Iterator[Tuple[str, str]]:
     first = bearers[0]
-    yield "bearers", str(len(bearers))
+    yield "bearers", " ".join(str(it.number) for it in bearers)
     yield "bearer", str(first.number)
     yield "quality", f"QCI {first.qci} priority {first.priority}"
     yield "gateway", first.address.hex()
@@ -168,9 +169,12 @@ def fields_of(message: bytes) -> Fields:
     return fields
 
 
-def explanation(field: str, is_learnt: bool) -> str:
-    """What of the profile explains that a field is otherwise; of what a row has once, where that row was learnt. No text where nothing does."""
+def explanation(field: str, mme: str, machine: str, is_learnt: bool) -> str:
+    """What of the profile explains that a field is otherwise; of what a row has once, where that row was learnt. No text where nothing does, and where the MME
+    sets up fewer bearers."""
     base = field.replace(" of NAS", "").replace(" of the bearer", "")
+    if base == "bearers" and len(mme.split()) < len(machine.split()):
+        return ""
     if base in OF_THE_ROW:
         return "one value a subscriber" if is_learnt else ""
     return OF_THE_PROFILE.get(base, "")

@@ -72,7 +72,7 @@ def _devices(run: Run) -> List[Json]:
     for it in run.case.subscribers:
         final = finals[it.imsi]
         made = {"imsi": it.imsi, "tmsi": it.tmsi, "messages": final.messages, "steps": steps[it.imsi], "session": _session_of(it.imsi, final.session)}
-        devices.append({**made, "gateway": final.gateway, "subscriber": final.subscriber})
+        devices.append({**made, "second": final.second, "gateway": final.gateway, "subscriber": final.subscriber})
     return devices
 
 

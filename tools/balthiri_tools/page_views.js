@@ -307,6 +307,7 @@ class Page {
       ["stage", stage], ["link", link], ["area", `${network} ${area}`], ["bearer", bearer], ["radio", `${radio} octets`], ["M-TMSI", it.tmsi],
       ["messages", it.messages], ["steps", it.steps], ["calls", it.gateway.length + it.subscriber.length],
     ];
+    if (it.second) facts.splice(4, 0, ["second connection", it.second]);
     byId("card-imsi").textContent = it.imsi;
     byId("card-facts").replaceChildren(...facts.map(([term, value]) => element("div", {}, element("dt", {}, term), element("dd", {}, String(value)))));
   }

@@ -29,6 +29,7 @@ class Final:
     gateway: List[str] = field(default_factory=list)
     subscriber: List[str] = field(default_factory=list)
     session: str = ""
+    second: str = ""  # made or active, where there is a second connection
 
     def calls(self, lane: str) -> List[str]:
         return self.gateway if lane == "gateway" else self.subscriber
@@ -54,6 +55,7 @@ REFUSED_LINE = re.compile(r"refused ([1-9][0-9]*) ([0-9]+ [A-Za-z]+.*)")
 DEVICE = re.compile(r"device ([0-9]{15}) messages ([0-9]+) steps [0-9]+")
 DOWN = re.compile(r"down ([1-9][0-9]*) (0|[1-9][0-9]*) ((?:[0-9a-f]{2})+)")
 CALL = re.compile(r"(gateway|subscriber) ([1-9][0-9]*) ([a-z-]+(?: [0-9a-f]{8} [0-9]+)?)")
+SECOND = re.compile(r"second (made|active)")
 
 
 def _read_line(printed: Printed, text: str) -> bool:
@@ -72,7 +74,7 @@ def _read_line(printed: Printed, text: str) -> bool:
 
 
 def _read_line_of_device(final: Final, text: str) -> bool:
-    down, call = DOWN.fullmatch(text), CALL.fullmatch(text)
+    down, call, second = DOWN.fullmatch(text), CALL.fullmatch(text), SECOND.fullmatch(text)
     if down:
         final.downs.append(Down(int(down[1]), int(down[2]), bytes.fromhex(down[3])))
         return int(down[1]) == len(final.downs)
@@ -80,6 +82,10 @@ def _read_line_of_device(final: Final, text: str) -> bool:
         calls = final.calls(call[1])
         calls.append(call[3])
         return int(call[2]) == len(calls)
+    if second:
+        is_first_second = bool(final.session) and not final.second
+        final.second = second[1]
+        return is_first_second
     is_first_session = text.startswith("session ") and not final.session
     final.session = text
     return is_first_session

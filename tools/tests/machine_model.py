@@ -11,7 +11,6 @@ import sys
 from typing import Dict, List, Optional, Tuple
 
 Octets = bytes
-SETTLED = ("detached", "authenticating", "securing", "accepting", "accepting-context", "accepting-done", "connecting", "connected", "releasing", "idle")
 ATTACHING = ("authenticating", "securing", "accepting", "accepting-context", "accepting-done")
 NORMAL, FAILED, DETACH, UNSPECIFIED = (bytes([0x20 | cause << 1]) for cause in range(4))  # NAS causes as they are written
 UP = {(0, 12): "first", (0, 13): "later", (0x20, 9): "done", (0x40, 9): "failed", (0, 18): "asked", (0x20, 23): "released", (0, 22): "capability"}
@@ -68,6 +67,7 @@ class Input:
         self.kind, self.pair, self.is_first = kind, pair, False
         self.area, self.algorithms, self.transaction = (b"\0\0\0", 0), b"\0\0", 0
         self.response, self.is_off, self.cause, self.tunnel, self.octets = b"", False, b"", (0, 0), 0
+        self.second_tunnel: Optional[Tuple[int, int]] = None
 
 
 def nas_said(said: Input, nas: bytes, kinds: Tuple[int, ...]) -> Optional[object]:
@@ -104,11 +104,11 @@ def nas_said(said: Input, nas: bytes, kinds: Tuple[int, ...]) -> Optional[object
 
 
 def session_said(said: Input, nas: bytes, is_later: bool) -> None:
-    """A message of session management: of a second connection, of which the machine makes nothing."""
+    """A message of session management: a second connection is asked for, or its bearer accepted."""
     kind = nas[2]
     if not is_later or kind != 0xD0 and (nas[0] >> 4, kind) != (6, 0xC2):
         raise Refused(f"17 NasKind {kind:02x}")
-    said.kind = "second"
+    said.kind, said.transaction = "second_asked" if kind == 0xD0 else "second_accepted", nas[1]
 
 
 class Machine:
@@ -121,7 +121,8 @@ class Machine:
         self.messages = self.steps = 0
         self.downs: List[Tuple[int, bytes]] = []
         self.calls: Dict[str, List[str]] = {"gateway": [], "subscriber": []}
-        self.response, self.creates = b"", 0
+        self.response, self.creates, self.teid = b"", 0, 0
+        self.second, self.second_transaction, self.second_teid, self.second_tunnel = "none", 0, 0, (0, 0)
 
     def ids(self, pair: Tuple[int, int]) -> List[Tuple[int, str, bytes]]:
         return [(0, "r", number_written(self.device)), (8, "r", number_written(pair[1]))]
@@ -133,11 +134,17 @@ class Machine:
     def release(self, pair: Tuple[int, int], cause: bytes) -> None:
         self.downs.append((pair[0], written("001700", (99, "r", joined_ids(self.device, pair[1])), (2, "i", cause))))
 
-    def context(self, accept: bytes) -> None:
-        row, tunnel = self.row, self.row["teid"] + self.creates - 1
-        flag, nas = (0x45, opened(accept)) if accept else (0x05, b"")
-        item = bytes([flag, 0, 9, 0x20, 0x0F, 0x80]) + bytes.fromhex(row["sgw"]) + tunnel.to_bytes(4, "big") + nas
-        bearers = b"\0" + b"\0\x34\0" + opened(item)
+    def bearer_written(self, item: int, first: int, teid: int, nas: bytes = b"") -> bytes:
+        """An item of a list of bearers to set up: what is there and the E-RAB, its quality, the gateway's end."""
+        value = bytes([first, 0, 9, 0x20, 0x0F, 0x80]) + bytes.fromhex(self.row["sgw"]) + teid.to_bytes(4, "big")
+        return bytes([0, item, 0]) + opened(value + (opened(nas) if nas else b""))
+
+    def context(self, accept: bytes = b"") -> None:
+        """Sets up the context with its bearer, and with the second one where there is one."""
+        row, items = self.row, [self.bearer_written(52, 0x45 if accept else 0x05, self.teid, accept)]
+        if self.second != "none":
+            items.append(self.bearer_written(52, 0x06, self.second_teid))
+        bearers = bytes([len(items) - 1]) + b"".join(items)
         rates = rate_written(row["ambr_dl"], 3) + rate_written(row["ambr_ul"], 5)
         bits = "0" * 3 + "".join(f"{(it & 0x7F) << 1:08b}" + "0" * 8 + "0" for it in self.algorithms)
         capabilities = int(bits.ljust(40, "0")[:40], 2).to_bytes(5, "big")
@@ -190,8 +197,13 @@ class Machine:
         self.stage = "await-create"
         self.call("gateway", "create")
 
-    def await_create(self) -> None:
+    def new_teid(self) -> int:
+        """The gateway's end of a session that it creates: each has another one."""
         self.creates += 1
+        return self.row["teid"] + self.creates - 1
+
+    def await_create(self) -> None:
+        self.teid, self.second = self.new_teid(), "none"
         self.bearer, self.stage = "made", "accepting"
         name = self.row["apn"].encode()
         plmn, code = self.area
@@ -200,17 +212,29 @@ class Machine:
 
     def await_modify(self) -> None:
         self.bearer, self.registered, self.stage = "active", True, "connected"
+        if self.second == "radio":
+            self.modify_second()
 
     def await_release(self) -> None:
         self.bearer, self.stage = "made", "releasing"
+        self.second_is_set_up_anew()
         self.release(self.link, self.cause)
 
     def await_delete(self) -> None:
-        self.bearer, self.stage = "none", "releasing"
+        self.bearer, self.second, self.stage = "none", "none", "releasing"
         self.call("subscriber", "purge")
         if not self.off:
             self.say("0746")
         self.release(self.link, self.cause)
+
+    def await_second(self) -> None:
+        self.second_teid, self.second, self.stage = self.new_teid(), "made", "connected"
+        name = self.row["apn2"].encode()
+        asked = bytes([0x62, self.second_transaction, 0xC1, 1, 9, len(name) + 1, len(name)]) + name + b"\x05\x01" + bytes.fromhex(self.row["ip2"])
+        self.downs.append((self.link[0], written("000500", *self.ids(self.link), (16, "r", b"\0" + self.bearer_written(17, 0x0C, self.second_teid, asked)))))
+
+    def await_second_modify(self) -> None:
+        self.second, self.stage = "active", "connected"
 
     # The messages of base stations.
 
@@ -249,6 +273,8 @@ class Machine:
     def take_done(self, it: Input) -> None:
         if self.stage in ("accepting", "accepting-done", "connecting"):
             self.tunnel = it.tunnel
+            if self.stage == "connecting" and it.second_tunnel and self.second != "none":
+                self.second_tunnel, self.second = it.second_tunnel, "radio"
             if self.stage == "accepting":
                 self.stage = "accepting-context"
             else:
@@ -276,7 +302,44 @@ class Machine:
         if self.stage == "releasing":
             self.link, self.stage = None, "idle" if self.registered else "detached"
 
-    def take_second(self, _: Input) -> None:
+    # A second connection.
+
+    def modify_second(self) -> None:
+        self.stage = "await-second-modify"
+        self.call("gateway", f"second-modify {self.second_tunnel[0]:08x} {self.second_tunnel[1]}")
+
+    def second_is_set_up_anew(self) -> None:
+        """The gateway keeps it, and no base station has its bearer."""
+        if self.second != "none":
+            self.second = "made"
+
+    def take_second_asked(self, it: Input) -> None:
+        if self.stage != "connected" or self.second != "none":
+            return
+        if "apn2" not in self.row or "ip2" not in self.row:
+            self.say(f"02{it.transaction:02x}d11b")
+            return
+        self.second_transaction, self.stage = it.transaction, "await-second"
+        self.call("gateway", "second-create")
+
+    def take_second_done(self, it: Input) -> None:
+        if self.stage != "connected" or self.second not in ("made", "accepted"):
+            return
+        self.second_tunnel = it.tunnel
+        if self.second == "made":
+            self.second = "radio"
+        else:
+            self.modify_second()
+
+    def take_second_accepted(self, _: Input) -> None:
+        if self.stage != "connected":
+            return
+        if self.second == "made":
+            self.second = "accepted"
+        elif self.second == "radio":
+            self.modify_second()
+
+    def take_second_refused(self, _: Input) -> None:
         pass
 
     def take_capability(self, it: Input) -> None:
@@ -298,7 +361,8 @@ class Machine:
             self.say("074e0a", it.pair)
             return
         self.move(it)
-        self.context(b"")
+        self.second_is_set_up_anew()
+        self.context()
         self.stage = "connecting"
 
     def take_area(self, it: Input) -> None:
@@ -337,6 +401,18 @@ def joined_ids(mme_id: int, enb_id: int) -> bytes:
     """The pair of UE S1AP IDs: a bit of extension and one of choice, two bits of the sequence, then the two numbers."""
     mme, enb = number_written(mme_id), number_written(enb_id)
     return bytes([mme[0] >> 4]) + mme[1:] + enb
+
+
+def set_up(value: bytes) -> Dict[int, Tuple[int, int]]:
+    """The base station's ends of the bearers that it has set up, by their E-RABs; of one that comes twice the first."""
+    ends: Dict[int, Tuple[int, int]] = {}
+    at = 1
+    for _ in range(value[0] + 1):
+        size, at = length(value, at + 3)
+        item = value[at : at + size]
+        at += size
+        ends.setdefault(item[0] >> 1 & 15, (int.from_bytes(item[2:6], "big"), int.from_bytes(item[6:10], "big")))
+    return ends
 
 
 class Admission:
@@ -380,7 +456,11 @@ class Admission:
         if kind == "later":
             nas_said(said, nas, (0x43, 0x45, 0x48, 0x53, 0x5E, 0x5F))
         elif kind == "done":
-            self.done(said, found[51])
+            ends = set_up(found[51])
+            said.kind, said.tunnel, said.second_tunnel = "done" if 5 in ends else "failed", ends.get(5, (0, 0)), ends.get(6)
+        elif kind == "second":
+            ends = set_up(found[28]) if 28 in found else {}
+            said.kind, said.tunnel = "second_done" if 6 in ends else "second_refused", ends.get(6, (0, 0))
         elif kind == "asked":
             said.cause = found[2]
         elif kind == "capability":
@@ -388,17 +468,6 @@ class Admission:
         if self.bound.get(pair) != number(found[0]) - 1:
             raise Refused(f"31 UnknownPair {pair[0]} {pair[1]}")
         return self.bound[pair]
-
-    @staticmethod
-    def done(said: Input, value: bytes) -> None:
-        said.kind, at = "failed", 1
-        for _ in range(value[0] + 1):
-            size, at = length(value, at + 3)
-            item = value[at : at + size]
-            at += size
-            if item[0] >> 1 & 15 == 5:
-                said.kind, said.tunnel = "done", (int.from_bytes(item[2:6], "big"), int.from_bytes(item[6:10], "big"))
-                return
 
     def bind(self, said: Input, device: int, kind: str) -> None:
         if said.is_first:
@@ -425,7 +494,8 @@ def end_text(it: Machine) -> List[str]:
     lines += [f"down {at} {station} {octets.hex()}" for at, (station, octets) in enumerate(it.downs, 1)]
     lines += [f"{lane} {at} {words}" for lane in ("gateway", "subscriber") for at, words in enumerate(it.calls[lane], 1)]
     link = f"{it.link[0]}/{it.link[1]}" if it.link else "off"
-    return [*lines, f"session {it.stage} link {link} area {it.area[0].hex()} {it.area[1]} bearer {it.bearer} radio {it.radio}"]
+    lines.append(f"session {it.stage} link {link} area {it.area[0].hex()} {it.area[1]} bearer {it.bearer} radio {it.radio}")
+    return lines if it.second == "none" else [*lines, "second active" if it.second == "active" else "second made"]
 
 
 def plain(text: str) -> str:

@@ -24,6 +24,9 @@ REPLAYS = ["replay_1", "replay_2", "replay_3"]
 
 IS_BUILT = is_built()
 
+# What tshark remarks on where a message of session management has no header of protection: it takes the bearer identity for one.
+NO_HEADER = "A security header should use EMM protocol discriminator"
+
 HOW_FAR = re.compile(r"[a-z0-9]+: [0-9]+( of [0-9]+)? (messages of each device|messages that tshark told|frames|frames with SCTP|messages heard|runs)")
 
 

@@ -249,7 +249,7 @@ class Compared(unittest.TestCase):
 class Fields(unittest.TestCase):
     def test_an_attach_accept_with_all_that_a_network_may_send(self) -> None:
         found = fields_of(context_setup(IDS, FIRST, protected(2, FIRST.accept(5, areas=f"0102f8390001{'0002'}")), bearers=2))
-        expected = {"bearers": "2", "TEID": str(0x101), "rate down": "50000000", "security header": "2", "result": "1", "timer": "49", "GUTI": "f602f83980010100000005"}
+        expected = {"bearers": "5 6", "TEID": str(0x101), "rate down": "50000000", "security header": "2", "result": "1", "timer": "49", "GUTI": "f602f83980010100000005"}
         expected.update({"TAI list": "0102f83900010002", "access point name": "internet", "address": "0a2d0001", "options": "17", "quality of NAS": "09"})
         self.assertEqual({it: found[it] for it in expected}, expected)
 

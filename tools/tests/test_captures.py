@@ -16,7 +16,7 @@ from balthiri_tools.packets import PCAP_HEADER, S1AP_PAYLOAD, S1AP_PORT, Frame, 
 from balthiri_tools.printed import Down, Printed
 from balthiri_tools.program import ECHO
 from balthiri_tools.turns import Message, Turn
-from support import DATA, EXAMPLES, PLAIN, InFolder, has_replay, needs, run, run_program, subscribers_of, told, trace_of
+from support import DATA, EXAMPLES, NO_HEADER, PLAIN, InFolder, has_replay, needs, run, run_program, subscribers_of, told, trace_of
 
 # What begins a message of a base station: outcome and procedure.
 FROM_STATIONS = ("000c", "000d", "2009", "4009", "0012", "2017", "0016")
@@ -81,7 +81,7 @@ class Order(unittest.TestCase):
 
 
 # S1AP is there, the checksums of IP and SCTP are right, and nothing is malformed or remarked on, but for the known.
-WHOLE = [f"s1ap|1|1|{it}" for it in ["|", *KNOWN_MALFORMED]]
+WHOLE = [f"s1ap|1|1|{it}" for it in ["|", f"|{NO_HEADER}", *KNOWN_MALFORMED]]
 
 
 def dissected(capture: Path) -> List[str]:

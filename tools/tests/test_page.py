@@ -20,7 +20,7 @@ from support import DATA, EXAMPLES, PLAIN, REPLAYS, TOOLS, InFolder, has_replay,
 
 Json = Dict[str, object]
 FILES = [(DATA / f"{it}.txt", DATA / f"{it}_text.txt") for it in PLAIN + REPLAYS]
-FILES += [(EXAMPLES / f"{it}.txt", EXAMPLES / f"{it}_text.txt") for it in ("attach", "paging", "race", "stop", "replay")]
+FILES += [(EXAMPLES / f"{it}.txt", EXAMPLES / f"{it}_text.txt") for it in ("attach", "paging", "second", "race", "stop", "replay")]
 
 
 def run_of(case_file: Path, text_file: Path) -> Run:
@@ -53,6 +53,7 @@ class Contents(unittest.TestCase):
             self.assertEqual(made, [it for it in lines if it.startswith("device ")])
             sessions = ["session {} link {} area {} {} bearer {} radio {}".format(*cast(List[object], it["session"])) for it in devices]
             self.assertEqual(sorted(sessions), sorted(it for it in lines if it.startswith("session ")))
+            self.assertEqual([f"second {it['second']}" for it in devices if it["second"]], [it for it in lines if it.startswith("second ")])
             for lane in ("gateway", "subscriber"):
                 calls = sum(len(cast(List[str], it[lane])) for it in devices)
                 self.assertEqual(calls, sum(it.startswith(f"{lane} ") for it in lines))

@@ -246,6 +246,11 @@ class SearchAndFilters(InBrowser):
         self.click("#tab-events")
         self.assertEqual(self.events(), self.all_events())
 
+    def test_a_second_connection_is_told_where_there_is_one(self) -> None:
+        for name, is_told in (("second", True), ("attach", False)):
+            self.open_example(name, "#device=208930000000001")
+            self.assertEqual("beareractivesecond connectionactiveradio2 octets" in self.text("#card-facts"), is_told)
+
 
 class Ladder(InBrowser):
     def drawn(self) -> List[Tuple[str, str, str, str]]:

@@ -23,11 +23,12 @@ from balthiri_tools.rows import rows_given
 from balthiri_tools.turns import Call, Message, Turn, turns_of
 from balthiri_tools.values import Bearer, asked_bearers, bearers_of
 from machine_model import plain
-from other_mme import FIRST, FIRST_MME_ID, Ids, Story, Ue, attach_request, imsi, opened, protected, s1ap, ue
-from support import EXAMPLES, TESTS, InFolder, Quiet, needs, subscribers_of, told, trace_of
+from other_mme import FIRST, FIRST_MME_ID, Ids, Story, Ue, attach_request, context_done, context_setup, imsi, opened, protected, s1ap, ue
+from support import EXAMPLES, IS_BUILT, NO_HEADER, TESTS, InFolder, Quiet, needs, run_program, subscribers_of, told, trace_of
 from test_learn import learnt_of
 
 MODEL = TESTS / "machine_model.py"
+CASE, TEXT = EXAMPLES / "second.txt", EXAMPLES / "second_text.txt"
 # Worked by hand: the device asks with transaction 2, bearer 6 is added for "ims" and 10.45.128.1, and is accepted; or cause 27 rejects it.
 ASKS = bytes.fromhex("000d4034000005000000020001000800020001001a000b0a2700000000030202d011006440080002f83900000010004340060002f8390001")
 ACTIVATE = "6202c101090403696d7305010a2d8001"
@@ -42,7 +43,11 @@ PROTECTED = bytes.fromhex(
     "0010002a00" "00110025" "0c0009200f80c0a8000100000002" "16270000000005" + ACTIVATE
 )
 FAILED = bytes.fromhex("2005001b" "000003" "000040020001" "000840020001" "001d4008" "0000234003" "0c0000")
+RELEASE = bytes.fromhex("00124015000003000000020001000800020001000240020280")
 BOTH = {"apn2": "ims", "ip2": "0a2d8001"}
+# The six messages of the attach again; and a detach of a device that is switched off.
+ATTACHES = [bytes.fromhex(it.split(" ")[1]) for it in trace_of((EXAMPLES / "attach.txt").read_bytes())]
+DETACHES = s1ap("000d40", (0, "0001"), (8, "0001"), (26, "0c" "074509" "08" "2908390000000010"), (100, "0002f83900000010"), (67, "0002f8390001"))
 
 
 def example(columns: Dict[str, str], *messages: bytes, lines_of_attach: int = 6) -> bytes:
@@ -111,7 +116,7 @@ class Values(unittest.TestCase):
             self.assertEqual(asked, BearerAsked(6, 2, b"\x09", "ims", bytes.fromhex("0a2d8001"), False))
 
     def test_fields(self) -> None:
-        bearer = {"bearers": "1", "bearer": "6", "quality": "QCI 9 priority 8", "gateway": "c0a80001", "TEID": "2", "other IEs": ""}
+        bearer = {"bearers": "6", "bearer": "6", "quality": "QCI 9 priority 8", "gateway": "c0a80001", "TEID": "2", "other IEs": ""}
         asked = {"bearer of NAS": "6", "transaction": "2", "quality of NAS": "09", "access point name": "ims", "access point labels": "", "address": "0a2d8001"}
         asked["options of the bearer"] = ""
         expected = {"message": "ErabSetupRequest", **bearer, "security header": "6", **asked}
@@ -194,9 +199,64 @@ class Frames(unittest.TestCase):
         self.assertEqual(frames, [Frame(True, 1, ASKS), Frame(False, 1, REQUEST), Frame(True, 1, RESPONSE), Frame(True, 1, ACCEPTS)])
 
 
+# Worked by hand: the messages of a base station behind the attach, by a row with both columns, and what is printed behind the two calls of the attach.
+COURSES = {
+    (ASKS,): (7, 12, "gateway 3 second-create", "second made"),
+    (ASKS, RESPONSE): (8, 13, "gateway 3 second-create", "second made"),
+    (ASKS, ACCEPTS): (8, 13, "gateway 3 second-create", "second made"),
+    (ASKS, FAILED): (8, 13, "gateway 3 second-create", "second made"),
+    (ASKS, RESPONSE, ACCEPTS): (9, 15, "gateway 3 second-create", "gateway 4 second-modify c0a80002 3", "second active"),
+    (ASKS, ACCEPTS, RESPONSE): (9, 15, "gateway 3 second-create", "gateway 4 second-modify c0a80002 3", "second active"),
+    # what comes twice changes nothing, and so does a request for a third connection
+    (ASKS, ASKS, RESPONSE, RESPONSE, ACCEPTS, ACCEPTS, ASKS): (13, 19, "gateway 3 second-create", "gateway 4 second-modify c0a80002 3", "second active"),
+    (RESPONSE, ACCEPTS): (8, 12),
+    # it is kept where the radio bearers are released, and is gone with a detach and with an attach
+    (ASKS, RESPONSE, ACCEPTS, RELEASE): (10, 17, "gateway 3 second-create", "gateway 4 second-modify c0a80002 3", "gateway 5 release", "second made"),
+    (ASKS, RESPONSE, DETACHES): (9, 15, "gateway 3 second-create", "gateway 4 delete"),
+    (ASKS, *ATTACHES): (13, 22, "gateway 3 second-create", "gateway 4 create", "gateway 5 modify c0a80002 2"),
+}
+
+
+class Machine(unittest.TestCase):
+    """What a machine makes of a second connection: a model, and the program where it is built."""
+
+    attached = (EXAMPLES / "attach_text.txt").read_text()
+
+    def makes(self, case: str) -> str:
+        made = plain(case)
+        if IS_BUILT:
+            self.assertEqual(run_program("plain", case.encode()).decode(), made)
+        return made
+
+    def test_the_example(self) -> None:
+        self.assertEqual(self.makes(CASE.read_text()), TEXT.read_text())
+
+    def test_a_device_that_asks_and_accepts(self) -> None:
+        expected = self.attached.replace("messages 6 steps 10", "messages 9 steps 15").replace("gateway 1", f"down 4 1 {REQUEST.hex()}\ngateway 1")
+        expected = expected.replace("subscriber 1", "gateway 3 second-create\ngateway 4 second-modify c0a80002 3\nsubscriber 1") + "second active\n"
+        self.assertEqual(self.makes(example(BOTH, ASKS, RESPONSE, ACCEPTS).decode()), expected)
+
+    def test_a_row_without_both_columns_is_rejected(self) -> None:
+        expected = self.attached.replace("messages 6 steps 10", "messages 9 steps 13").replace("gateway 1", f"down 4 1 {REJECT.hex()}\ngateway 1")
+        for columns in ({}, {"apn2": "ims"}, {"ip2": "0a2d8001"}):
+            self.assertEqual(self.makes(example(columns, ASKS, RESPONSE, ACCEPTS).decode()), expected)
+
+    def test_courses(self) -> None:
+        for messages, (count, steps, *behind) in COURSES.items():
+            lines = self.makes(example(BOTH, *messages).decode()).splitlines()
+            self.assertEqual(lines[0], f"device 208930000000001 messages {count} steps {steps}")
+            found = [it for it in lines if it.startswith(("gateway ", "second ")) and it not in ("gateway 1 create", "gateway 2 modify c0a80002 2")]
+            self.assertEqual(found, behind)
+
+    def test_a_session_that_is_created_anew_has_another_end(self) -> None:
+        text = self.makes(example(BOTH, ASKS, *ATTACHES).decode())
+        self.assertEqual(text.count("450009200f80c0a8000100000001"), 1)
+        self.assertEqual(text.count("450009200f80c0a8000100000003"), 1)
+
+
 @needs("tshark")
 class Tools(InFolder):
-    """The tools over a device that asks, with a model in place of the program. Of the new messages a machine makes nothing."""
+    """The tools over a device that asks, with a model in place of the program."""
 
     case = example(BOTH, ASKS, RESPONSE, ACCEPTS, FAILED)
 
@@ -204,12 +264,9 @@ class Tools(InFolder):
         case, text = self.file("case", self.case), self.file("text", plain(self.case.decode()).encode())
         capture = self.folder / "second.pcap"
         done = self.ran("case2pcap", case, text, "--program", MODEL, "-o", capture)
-        self.assertEqual(told(done), ["case2pcap: 10 messages up, 3 down; left out: 0 lines of the trace that are no message of a base station"])
+        self.assertEqual(told(done), ["case2pcap: 10 messages up, 4 down; left out: 0 lines of the trace that are no message of a base station"])
+        self.assertEqual(capture.read_bytes().count(REQUEST), 1)
         return capture
-
-    def test_the_model_makes_nothing(self) -> None:
-        attached = plain(example(BOTH).decode()).replace("messages 6 steps 10", "messages 10 steps 14")
-        self.assertEqual(plain(self.case.decode()), attached)
 
     def test_a_capture_and_back(self) -> None:
         capture = self.captured()
@@ -288,15 +345,62 @@ class Networks(unittest.TestCase):
             one.is_asked(added, activate(name, address))
             self.assertEqual([it for it in self.row(story)[0] if it in BOTH], expected)
 
-    def test_what_the_mme_alone_sends_is_explained(self) -> None:
-        for sends in (lambda one: one.is_asked(added, activate("ims", "010a2d8001")), lambda one: one.hears(protected(2, "0202d11b"))):
+    def answers(self, story: Story, back: int = 1) -> List[str]:
+        """What stands beside what the MME sent behind the last message of the device, or one before it."""
+        return [told_of(it) for it in beside(story).devices[0].exchanges[-back].answers]
+
+    def test_the_machine_grants_one_too(self) -> None:
+        story, one = asked()
+        one.is_asked(added, activate("ims.mnc093", "010a2d8001"))
+        self.assertEqual(self.answers(story), ["explained: no integrity, an access point name of one label, mandatory fields alone"])
+        one.tells(was_added)
+        one.says(protected(2, "6200c2"))
+        report = beside(story)
+        behind = report.devices[0].exchanges[-2:]
+        self.assertEqual([(it.name, it.answers) for it in behind], [("ErabSetupResponse", []), ("Activate default EPS bearer context accept", [])])
+        self.assertFalse(report.differs(False))
+
+    def test_a_bearer_of_another_number(self) -> None:
+        story, one = asked()
+        one.is_asked(added, activate("ims", "010a2d8001", 7), 7)
+        explained = "no dedicated bearers, E-RABs 5 and 6 alone, no integrity, mandatory fields alone"
+        self.assertEqual(self.answers(story), [f"explained: {explained}"])
+
+    def test_a_reject(self) -> None:
+        for nas, expected in (("0202d11b", "explained: no integrity"), ("0202d121", "another cause: cause 33 / 27")):
             story, one = asked()
+            one.hears(protected(2, nas))
+            self.assertEqual(self.answers(story), [expected])
+
+    def test_what_a_row_does_not_take_is_rejected(self) -> None:
+        story, one = asked()
+        one.is_asked(added, activate("ims", "0220010db800000000"))
+        self.assertEqual(self.answers(story), ["another message (the capture tells no name and address of it that a row takes)"])
+
+    def test_a_third_connection(self) -> None:
+        for sends in (lambda one: one.is_asked(added, activate("other", "010a2d8002", 7), 7), lambda one: one.hears(protected(2, "0203d141"))):
+            story, one = asked()
+            one.is_asked(added, activate("ims", "010a2d8001"))
+            one.tells(was_added)
+            one.says(protected(2, "6200c2"))
+            one.says(protected(2, "0203d011"))
             sends(one)
+            self.assertEqual(self.answers(story), ["only the MME's (the profile has no third connection)"])
+
+    def test_a_service_request_sets_up_both_bearers(self) -> None:
+        for bearers, expected in ((2, "equal"), (1, "other fields: bearers 5 / 5 6"), (3, "explained: no dedicated bearers")):
+            story, one = asked()
+            one.is_asked(added, activate("ims", "010a2d8001"))
+            one.tells(was_added)
+            one.says(protected(2, "6200c2"))
+            one.rests()
+            one.connects(1, FIRST_MME_ID + 1, 2)
+            one.asks_for_service()
+            one.is_asked(context_setup, FIRST, "", bearers)
+            self.assertEqual(self.answers(story), [expected])
+            one.tells(context_done, bearers)
             report = beside(story)
-            last = report.devices[0].exchanges[-1]
-            self.assertEqual((last.name, last.out), ("PDN connectivity request", ""))
-            self.assertEqual([told_of(it) for it in last.answers], ["only the MME's (the machine makes no second connection)"])
-            self.assertFalse(report.differs(False))
+            self.assertEqual(report.devices[0].exchanges[-1].answers, [])
 
     def test_other_session_management_is_of_another_profile(self) -> None:
         story, one = asked()
@@ -328,4 +432,4 @@ class Dissected(InFolder):
         self.assertEqual(self.fields(PROTECTED), ["||5|1||6|00000002|0xc1|6|ims|10.45.128.1|"])
         # Behind no header of protection tshark looks for one in the bearer identity of the worked message, 62, and reads no further. So octet 62 is as TS
         # 24.301, 9.2 and 9.3.2, have it, and what is behind it is as above; S1AP round it is whole.
-        self.assertEqual(self.fields(REQUEST), ["|A security header should use EMM protocol discriminator|5|1||6|00000002|||||"])
+        self.assertEqual(self.fields(REQUEST), [f"|{NO_HEADER}|5|1||6|00000002|||||"])

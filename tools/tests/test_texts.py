@@ -98,6 +98,17 @@ class PrintedTexts(unittest.TestCase):
         self.assertEqual((final.imsi, final.messages, final.gateway, final.subscriber), ("208930000000001", 1, ["create", "modify c0a80002 2"], ["vectors"]))
         self.assertEqual([(it.number, it.station, it.octets) for it in final.downs], [(1, 1, b"\0\xff")])
 
+    def test_a_second_connection(self) -> None:
+        calls = b"gateway 3 second-create\ngateway 4 second-modify c0a80002 3\n"
+        with_calls = FINAL.replace(b"subscriber 1", calls + b"subscriber 1")
+        final = read_printed(with_calls + b"second active\n").finals[0]
+        self.assertEqual((final.gateway[2:], final.second), (["second-create", "second-modify c0a80002 3"], "active"))
+        self.assertEqual(read_printed(FINAL + b"second made\n").finals[0].second, "made")
+        self.assertEqual(read_printed(FINAL).finals[0].second, "")
+        for text in (FINAL + b"second\n", FINAL + b"second radio\n", FINAL + 2 * b"second made\n", FINAL.replace(b"session", b"second made\nsession")):
+            with self.assertRaises(BadInput):
+                read_printed(text)
+
     def test_each_answer_of_a_transcript(self) -> None:
         answers = "sent|taken|stopped|pushed|void replica|void window|void link|void hand|void outbox|ready 0|committed 1|stale 0 1"
         answers += "|waiting gateway 1|old subscriber 2|repeat 1|settled 1|ahead 0|acked 1|accepted 1|old 1"
