@@ -13,7 +13,7 @@ from machine_model import plain
 from support import DATA, EXAMPLES, PLAIN, REPLAYS, TESTS, needs, run, trace_of
 from test_page import FILES, run_of, transcript_of
 
-SECONDS_TO_OPEN = 3.0
+SECONDS_TO_OPEN = 10.0  # where four processors and nothing else to do took 1.3
 MOST_ROWS = 120
 NEVER_SEEN = "device 208930000000001 messages 0 steps 0\nsession detached link off area 000000 0 bearer none radio 0\n"
 
@@ -568,17 +568,26 @@ class Large(InBrowser):
         self.assertLess(max(numbers) - min(numbers), MOST_ROWS)
         self.assertLess(cast(int, self.value('document.querySelectorAll("#events .row").length')), MOST_ROWS)
 
-    def test_scrolling_does_not_stutter(self) -> None:
+    def test_scrolling_takes_no_longer_than_in_a_small_page(self) -> None:
+        case, text = MadeRun(devices=20, messages=10, events=2000).texts()
+        (self.folder / "small.txt").write_bytes(case)
+        (self.folder / "small_text.txt").write_bytes(text)
+        self.open(self.folder / "small.txt", self.folder / "small_text.txt")
+        small = self.seconds_of_ten_steps()
         self.opened()
-        quickest = min(self.seconds_of_ten_steps(first) for first in range(0, 200, 10))  # what else runs slows the others
-        self.assertLess(quickest / 10, 0.016)  # a step within a frame of 60 a second
+        large = self.seconds_of_ten_steps()
+        self.assertLess(large, 2 * small)  # of processor time, so no machine is too slow for it
 
-    def seconds_of_ten_steps(self, first: int) -> float:
-        """The processor time of ten steps down the list."""
+    def seconds_of_ten_steps(self) -> float:
+        """The quickest processor time of ten steps down the list, of twenty times: what else runs slows the others."""
+        return min(self.seconds_of_steps(first, first + 10) for _ in range(4) for first in range(0, 50, 10))
+
+    def seconds_of_steps(self, first: int, behind: int) -> float:
+        """The processor time of the steps from the first to the one behind them."""
         began = self.browser.busy()
         self.value(f"""(() => {{
           const list = document.getElementById("events");
-          for (let step = {first}; step < {first} + 10; step += 1) {{
+          for (let step = {first}; step < {behind}; step += 1) {{
             list.scrollTop = step * 700;
             page.eventRows.draw();
             list.getBoundingClientRect();
