@@ -136,12 +136,13 @@ end 96 0 00 96\n\
 
 /// Form 2 of the session of which these octets are a form.
 fn in_form_2(alloc: Global, octets: &[u8]) -> Result<Vec<u8>, AllocError> {
-    let Some((1, fields)) = octets.split_first() else {
-        return Vec::from_slice(alloc, octets);
-    };
-    let mut form_2 = Vec::from_array(alloc, [2])?;
-    form_2.extend_from_slice(fields)?;
-    form_2.extend_from_slice(&[0; 22])?;
+    let mut form_2 = Vec::from_slice(alloc, octets)?;
+    if let Some(form) = form_2.first_mut()
+        && *form == 1
+    {
+        *form = 2;
+        form_2.extend_from_slice(&[0; 22])?;
+    }
     Ok(form_2)
 }
 
@@ -264,20 +265,35 @@ fn session_with_everything_set_is_read(rt: HostRuntime) -> Result<(), Fail> {
     Ok(())
 }
 
+/// What comes of the opening session with each of its changes.
+fn tell_opening(alloc: Global, opening: &[u8]) -> Result<String, Fail> {
+    let mut text = String::new(alloc);
+    for line in OPENING_CHANGES.lines() {
+        tell_change(alloc, &mut text, opening, line)?;
+    }
+    Ok(text)
+}
+
 #[test]
 fn opening_session_is_zeros_behind_its_form(rt: HostRuntime) -> Result<(), Fail> {
     let alloc = rt.alloc();
     let old = octets_of(alloc, &format!(in alloc; "01 {OPENING}")?)?;
-    let mut text = String::new(alloc);
-    for line in OPENING_CHANGES.lines() {
-        tell_change(alloc, &mut text, &old, line)?;
-    }
-    assert_eq!(rt; text.as_str(), OPENING_CHANGES);
+    assert_eq!(rt; tell_opening(alloc, &old)?.as_str(), OPENING_CHANGES);
     let opening = Session::opening(alloc);
     let wanted = format!(in alloc; "{opening:?}")?;
     assert_eq!(rt; fields_of(alloc, &old)?.as_str(), wanted.as_str());
+    Ok(())
+}
+
+#[test]
+fn opening_session_is_written_in_form_2(rt: HostRuntime) -> Result<(), Fail> {
+    let alloc = rt.alloc();
     let new = octets_of(alloc, &format!(in alloc; "02 {OPENING} {NO_SECOND}")?)?;
-    assert_eq!(rt; fields_of(alloc, &new)?.as_str(), wanted.as_str());
+    let old = octets_of(alloc, &format!(in alloc; "01 {OPENING}")?)?;
+    assert_eq!(rt;
+        fields_of(alloc, &new)?.as_str(),
+        fields_of(alloc, &old)?.as_str()
+    );
     let mut written = String::new(alloc);
     tell(alloc, &mut written, &new)?;
     assert_eq!(rt; written.as_str(), "kept");

@@ -626,22 +626,33 @@ Connected 1/3 Active registered | 1/4 PdnRequest | |
 Connecting 1/3 Made registered | 1/3 PdnRequest | |
 ";
 
+/// The subscriber, with a name and with an address for a second connection or without.
+fn subscriber_with(alloc: Global, name: bool, address: bool) -> Result<Subscriber, AllocError> {
+    let mut row = subscriber(alloc)?;
+    if !name {
+        row.apn2 = None;
+    }
+    if !address {
+        row.ip2 = None;
+    }
+    Ok(row)
+}
+
+/// What the requests come to that are made for the subscriber.
+fn tell_rejected(alloc: Global, row: &Subscriber) -> Result<String, Fail> {
+    let mut told = String::new(alloc);
+    for line in REJECTED.lines() {
+        tell_line(alloc, row, line, &mut told)?;
+    }
+    Ok(told)
+}
+
 #[test]
 fn second_connection_needs_a_name_and_an_address(rt: HostRuntime) -> Result<(), Fail> {
     let alloc = rt.alloc();
-    let mut nameless = subscriber(alloc)?;
-    nameless.apn2 = None;
-    let mut homeless = subscriber(alloc)?;
-    homeless.ip2 = None;
-    let mut single = subscriber(alloc)?;
-    single.apn2 = None;
-    single.ip2 = None;
-    for row in [&nameless, &homeless, &single] {
-        let mut told = String::new(alloc);
-        for line in REJECTED.lines() {
-            tell_line(alloc, row, line, &mut told)?;
-        }
-        assert_eq!(rt; told.as_str(), REJECTED);
+    for (name, address) in [(false, true), (true, false), (false, false)] {
+        let row = subscriber_with(alloc, name, address)?;
+        assert_eq!(rt; tell_rejected(alloc, &row)?.as_str(), REJECTED);
     }
     Ok(())
 }
