@@ -1,0 +1,102 @@
+//! The values of AVPs (RFC 6733, 4.2, 4.3 and 8; 3GPP TS 29.272, 7.3). Each is exact: a value that is longer or shorter is none.
+
+ghost use Rattle.std.specs.Prelude.{◌≡◌, ◌^◌, ◌<◌, ◌≤◌, IfSome, option_map, length};
+ghost use Rattle.tlv_elements.specs.Digits.{number_from};
+ghost use Rattle.dia_avps.specs.Values.{sized, session, unsigned, plmn, digit_of, imsi};
+
+use echo_base::{Reason, Refusal};
+use tlv_elements::Left;
+
+/// What is due inside a value: whatever it is, its AVP is told to be of wrong form.
+const DUE: Refusal = Refusal {
+    reason: Reason::Truncated,
+    place: 0,
+};
+
+/// Octets, from so many to so many (RFC 6733, 4.2, OctetString).
+pub fn sized(octets: &[u8], least: usize, most: usize) -> Option<&[u8]>
+    ensures value { option_map (λ v. v.now) result ≡ (sized least most).decode octets.now }
+    ensures range { IfSome result (λ v. (least ≤ length v.now) × (length v.now ≤ most)) }
+{
+    let size = octets.len();
+    if size < least {
+        return None;
+    }
+    if size > most {
+        return None;
+    }
+    Some(octets)
+}
+
+/// The Session-Id (8.8), of 1 to 1,000 octets.
+pub fn session(octets: &[u8]) -> Option<&[u8]>
+    ensures value { option_map (λ v. v.now) result ≡ session.decode octets.now }
+    ensures range { IfSome result (λ v. (1 ≤ length v.now) × (length v.now ≤ 1000)) }
+{
+    sized(octets, 1, 1000)
+}
+
+/// A number of four octets (4.2, Unsigned32).
+#[tactic(auto, unfolding(tlv_elements::specs::Piece::piece_at))]
+pub fn unsigned(octets: &[u8]) -> Option<u32>
+    ensures { result ≡ unsigned.decode octets.now }
+{
+    let mut left = Left::new(octets);
+    let n = left.u32(DUE).ok()?;
+    left.end(DUE).ok()?;
+    Some(n)
+}
+
+/// A Visited-PLMN-Id (TS 29.272, 7.3.9), as a number of three octets.
+#[tactic(auto, unfolding(tlv_elements::specs::Piece::piece_at))]
+pub fn plmn(octets: &[u8]) -> Option<u32>
+    ensures value { result ≡ plmn.decode octets.now }
+    ensures range { IfSome result (λ n. n < 2 ^ 24) }
+{
+    let mut left = Left::new(octets);
+    let n = left.u24(DUE).ok()?;
+    left.end(DUE).ok()?;
+    Some(n)
+}
+
+/// A digit.
+fn digit_of(octet: u8) -> Option<u8>
+    ensures value { result ≡ digit_of octet }
+    ensures range { IfSome result (λ d. d < 10) }
+{
+    if octet < 48 {
+        return None;
+    }
+    if octet > 57 {
+        return None;
+    }
+    Some(octet - 48)
+}
+
+/// The number of 15 digits.
+fn number_of(octets: &[u8]) -> Option<u64>
+    requires { length octets.now ≡ 15 }
+    ensures value { result ≡ number_from digit_of 10 0 octets.now }
+    ensures range { IfSome result (λ n. n < 10 ^ 15) }
+{
+    let mut number: u64 = 0;
+    for octet in octets {
+        let Some(digit) = digit_of(*octet) else {
+            return None;
+        };
+        number = 10 * number + u64::from(digit);
+    }
+    Some(number)
+}
+
+/// The IMSI of a User-Name (RFC 6733, 8.14).
+#[tactic(auto, unfolding(crate::specs::Values::imsi_decode))]
+pub fn imsi(octets: &[u8]) -> Option<u64>
+    ensures value { result ≡ imsi.decode octets.now }
+    ensures range { IfSome result (λ n. n < 10 ^ 15) }
+{
+    if octets.len() != 15 {
+        return None;
+    }
+    number_of(octets)
+}

@@ -1,0 +1,14 @@
+//! The information elements of GTPv2-C (3GPP TS 29.274, 8), both ways: how they are framed, and the values of those of the gateway's
+//! calls.
+#![tactic(auto)]
+
+mod elements;
+mod frame;
+mod values;
+
+pub use elements::{
+    put_address, put_apn, put_cause, put_fteid, put_head, put_imsi, put_octet, put_qos, put_rates,
+    put_u16, put_u24, put_u32,
+};
+pub use frame::read_frame;
+pub use values::{address, apn, cause, ebi, exactly, fteid, imsi, no_address, qos, rates};
