@@ -1,12 +1,12 @@
 -- clap takes words that are options of a command, and finds in them what they say.
-use Rattle.std.proofs.Common.{◌≡◌, ℕ, Bool, true, false, not, cond, List, [], ◌∷◌, ◌++◌, Option, Some, None, refl, sym, ap, ap₂, subst, ◌∙◌, ◌+◌, ◌<◌, length, take, get_or}
+use Rattle.std.proofs.Common.{◌≡◌, ℕ, Bool, true, false, not, cond, List, [], ◌∷◌, Option, Some, None, refl, sym, ap, ap₂, subst, ◌∙◌, ◌+◌, ◌<◌, length, take, get_or}
 use Rattle.std.proofs.lemmas.List.{map-append, take_more}
 use Rattle.std.specs.Prelude.{◌&&◌, ◌||◌, map, fold, option_map, option_and_then, slice_get, codes}
 use Rattle.std.specs.List.{list_all, list_any}
 use Rattle.std.specs.Option.{option_or}
 use Rattle.clap.specs.Simple.{App, built, is_simple, is_buildable, is_ready, is_ready_leaf, matches_of}
 use Rattle.clap.specs.Takes.{takes, built_takes, default_passes, is_given as is_used}
-use Rattle.clap.specs.Walk.{Row, Rule, first_of, one_of, row_text, is_early_multiple, finished, nothing_held, rows_after, settled, walk, with_default}
+use Rattle.clap.specs.Walk.{Row, Rule, first_of, one_of, row_text, is_early_multiple, finished, nothing_held, rows_after, walk, with_default}
 use Rattle.command_words.specs.declared.options.Name.{Name}
 use Rattle.clap.specs.Simple.{HasMatchesOf, app_of, app_of_fields, new_app, on_top, with_rule}
 use Rattle.clap.specs.Built.{AddsArg}

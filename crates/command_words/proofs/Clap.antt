@@ -1,25 +1,21 @@
 -- What clap reads of the options of a command.
-use Rattle.std.proofs.Common.{◌≡◌, ℕ, ◌+◌, Bool, true, false, not, cond, List, [], ◌∷◌, ◌++◌, length, Option, Some, None, refl, sym, ap, subst, ◌∙◌, append_assoc, arith}
-use Rattle.std.specs.Prelude.{◌&&◌, ◌||◌, if◌then◌else◌, map, find, fold, option_map, option_and_then, is_some, slice_get, codes}
-use Rattle.std.specs.List.{list_all, list_any}
+use Rattle.std.proofs.Common.{◌≡◌, ℕ, Bool, true, false, not, List, [], ◌∷◌, ◌++◌, Option, Some, None, refl, sym, ap, subst, ◌∙◌, append_assoc}
+use Rattle.std.specs.Prelude.{◌&&◌, ◌||◌, if◌then◌else◌, map, fold, option_map, option_and_then, codes}
 use Rattle.std.specs.Option.{option_map_or}
 use Rattle.std.specs.Str.{bytes_eq}
 use Rattle.std.proofs.lemmas.List.{append-nil}
-use Rattle.std.proofs.lemmas.List.Folds.{list_any-append, find-append}
+use Rattle.std.proofs.lemmas.List.Folds.{list_any-append}
 use Rattle.std.proofs.lemmas.Slice.Eq.{bytes_eq-Decides}
-use Rattle.clap.specs.Lexer.{long_of, short_of}
-use Rattle.clap.specs.Simple.{App, Shape, default_of, missing_of, parser_for, values_of, new_rule, new_shape, filled_from}
+use Rattle.clap.specs.Simple.{Shape, default_of, missing_of, parser_for, values_of, new_shape, filled_from}
 use Rattle.clap.specs.Takes.{settle_passes, use_passes, turn_passes, walk_passes}
-use Rattle.clap.specs.Walk.{Held, Row, Rule, Waiting, Walk, arg_by_id, arg_by_long, at_row, has_row, idle, option, reacted, reading_by, settled, used, walked, pushed, more_values}
-use Rattle.clap.specs.declared.builder.action.ArgAction.{ArgAction}
-use Rattle.clap.specs.declared.builder.action.ArgAction.TheVariants.{Set, SetTrue}
-use Rattle.clap.specs.declared.parser.matches.ValueSource.TheVariants.{DefaultValue, CommandLine}
+use Rattle.clap.specs.Walk.{Held, Row, Rule, Waiting, Walk, arg_by_id, arg_by_long, at_row, has_row, idle, option, reacted, reading_by, settled, used, walked, more_values}
+use Rattle.clap.specs.declared.parser.matches.ValueSource.TheVariants.{CommandLine}
 use Rattle.command_words.specs.declared.options.Name.{Name}
-use Rattle.command_words.specs.declared.options.Name.TheVariants.{Replicas, Number, Devices, Rounds, Text, Device, Events, After, Workers}
+use Rattle.command_words.specs.declared.options.Name.TheVariants.{Replicas, Number, Devices, Rounds, Text, Device, Events, After, Kind, Workers}
 use Rattle.command_words.specs.declared.options.Takes.{Takes}
 use Rattle.command_words.specs.declared.options.Takes.TheVariants as takes
 use Rattle.command_words.specs.Matches.{action_for, asked, asked_by, is_flag}
-use Rattle.command_words.specs.Options.{Named, named, names, text_of, takes_of, may_have, option_named, after_option, after_named, all_fit, is_given, is_given_again, each_once, value_at, value_in}
+use Rattle.command_words.specs.Options.{Named, named, names, text_of, takes_of, may_have, option_named, after_option, after_named, all_fit, is_given, is_given_again, each_once}
 use Rattle.command_words.proofs.Spelling.{IsPlain, IsFlag, value_is_plain, flag_word}
 
 -- ---- the rules
@@ -60,7 +56,7 @@ itself a = (bytes_eq-Decides a a).1 refl
 
 -- every option
 every : List Name
-every = Replicas ∷ Number ∷ Devices ∷ Rounds ∷ Text ∷ Device ∷ Events ∷ After ∷ Workers ∷ []
+every = Replicas ∷ Number ∷ Devices ∷ Rounds ∷ Text ∷ Device ∷ Events ∷ After ∷ Kind ∷ Workers ∷ []
 
 has_name : (o : Name) → option_named every (text_of o) ≡ Some o
 unfolding every
@@ -72,6 +68,7 @@ has_name Text = refl
 has_name Device = refl
 has_name Events = refl
 has_name After = refl
+has_name Kind = refl
 has_name Workers = refl
 
 some_name : (o : Name) → text_of o ≡ [] → ⊥
@@ -83,6 +80,7 @@ some_name Text e = cc
 some_name Device e = cc
 some_name Events e = cc
 some_name After e = cc
+some_name Kind e = cc
 some_name Workers e = cc
 
 -- two options of one name are one

@@ -5,12 +5,13 @@ use Rattle.clap.specs.Matches.{first_value, found_of, one_text}
 use Rattle.clap.specs.declared.parser.matches.ArgMatches.{ArgMatches}
 use Rattle.command_words.specs.declared.command.AnyCommand.TheVariants as any
 use Rattle.command_words.specs.declared.command.Command.TheVariants as command
+use Rattle.command_words.specs.declared.command.Protocol.{Protocol}
 use Rattle.command_words.specs.declared.command.ThreadsCommand.TheVariants as threads
 use Rattle.command_words.specs.declared.command.Word.{Word}
-use Rattle.command_words.specs.declared.command.Word.TheVariants.{Replay, Make, Epochs, Crash, Run, Load}
+use Rattle.command_words.specs.declared.command.Word.TheVariants.{Replay, Show, Make, Epochs, Crash, Run, Load}
 use Rattle.command_words.specs.declared.options.Name.{Name}
 use Rattle.command_words.specs.declared.options.Name.TheVariants as option
-use Rattle.command_words.specs.Command.{command_by, options_of}
+use Rattle.command_words.specs.Command.{command_by, options_of, protocol_of}
 use Rattle.command_words.specs.Matches.{HasRead, is_flag}
 use Rattle.command_words.specs.Options.{is_given, number_by, number_in, option_named, takes_of, text_of}
 use Rattle.command_words.proofs.Accepted.{flag_is}
@@ -31,6 +32,10 @@ number_is word this words m o n read named kind e =
 pub replay_read : (word : Word) (words : List (List ℕ)) (m : ArgMatches) (replicas : ℕ) → Read word Replay words m → IsNumber m option.Replicas replicas → any.Replay (command.Replay replicas) ≡ command_by word words
 unfolding command_by
 replay_read word words m replicas read r = rw (read.0, number_is word Replay words m option.Replicas replicas read refl refl r) refl
+
+pub show_read : (word : Word) (words : List (List ℕ)) (m : ArgMatches) (kind : ℕ) (protocol : Protocol) → Read word Show words m → IsNumber m option.Kind kind → protocol ≡ protocol_of kind → any.Replay (command.Show protocol) ≡ command_by word words
+unfolding command_by
+show_read word words m kind protocol read k p = rw (read.0, p, number_is word Show words m option.Kind kind read refl refl k) refl
 
 pub make_read : (word : Word) (words : List (List ℕ)) (m : ArgMatches) (number devices rounds : ℕ) (name : List ℕ) (text : Bool) → Read word Make words m →
     IsNumber m option.Number number → IsNumber m option.Devices devices → IsNumber m option.Rounds rounds →

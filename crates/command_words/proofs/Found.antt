@@ -1,15 +1,13 @@
 -- What clap finds of an option, after words that are options: the value that they give it, or a flag's own word.
-use Rattle.std.proofs.Common.{◌≡◌, ℕ, Bool, true, false, not, cond, List, [], ◌∷◌, ◌++◌, Option, Some, None, refl, sym, ap, subst, ◌∙◌}
-use Rattle.std.specs.Prelude.{◌&&◌, ◌||◌, if◌then◌else◌, map, find, fold, option_map, option_and_then, slice_get, codes}
+use Rattle.std.proofs.Common.{◌≡◌, ℕ, Bool, true, false, cond, List, [], ◌∷◌, ◌++◌, Option, Some, None, refl, sym, ap, subst, ◌∙◌}
+use Rattle.std.specs.Prelude.{◌&&◌, if◌then◌else◌, map, find, fold, option_map, codes}
 use Rattle.std.specs.Option.{option_or}
 use Rattle.std.specs.Str.{bytes_eq}
 use Rattle.std.proofs.lemmas.List.Folds.{find-append}
-use Rattle.clap.specs.Simple.{App, built, is_simple, matches_of}
-use Rattle.clap.specs.Takes.{takes}
-use Rattle.clap.specs.Walk.{Row, Rule, first_of, has_row, more_values, one_of, reading_by, with_default, finished, nothing_held, walk}
+use Rattle.clap.specs.Walk.{Row, has_row, more_values, reading_by, with_default}
 use Rattle.clap.specs.declared.parser.matches.ValueSource.TheVariants.{DefaultValue}
 use Rattle.command_words.specs.declared.options.Name.{Name}
-use Rattle.command_words.specs.Options.{Named, named, names, text_of, takes_of, option_named, all_fit, each_once, is_given, value_in}
+use Rattle.command_words.specs.Options.{named, names, text_of, takes_of, option_named, all_fit, is_given, value_in}
 use Rattle.command_words.proofs.Spelling.{IsPlain}
 use Rattle.command_words.proofs.Clap.{Reads, joined, begun, alone, at_end, one_name, row, rows_of, rows_said, rule, rule_by, same, reads, value_reads}
 use Rattle.command_words.specs.Matches.{is_flag}

@@ -7,7 +7,7 @@ use Rattle.command_words.specs.declared.command.AnyCommand.TheVariants as any
 use Rattle.command_words.specs.declared.command.TopCall.{TopCall}
 use Rattle.command_words.specs.declared.command.TopCall.TheVariants as top
 use Rattle.command_words.specs.declared.command.Word.{Word}
-use Rattle.command_words.specs.declared.command.Word.TheVariants.{Plain, Replay, Show, Make, Epochs, Crash, Run, Load}
+use Rattle.command_words.specs.declared.command.Word.TheVariants.{Plain, Replay, Show, S11, S6a, Make, Epochs, Crash, Run, Load}
 use Rattle.command_words.specs.Command.{are_of, command_by, command_in, command_with, of_replay, of_threads, word_of}
 
 abbrev call_of : AnyCommand → TopCall
@@ -29,9 +29,11 @@ words_own top.Replay name =
     either top.Replay (bytes_eq name (codes "plain")) Plain _ (λ words. refl) (
     either top.Replay (bytes_eq name (codes "replay")) Replay _ (λ words. refl) (
     either top.Replay (bytes_eq name (codes "show")) Show _ (λ words. refl) (
+    either top.Replay (bytes_eq name (codes "s11")) S11 _ (λ words. refl) (
+    either top.Replay (bytes_eq name (codes "s6a")) S6a _ (λ words. refl) (
     either top.Replay (bytes_eq name (codes "make")) Make _ (λ words. refl) (
     either top.Replay (bytes_eq name (codes "epochs")) Epochs _ (λ words. refl) (
-    either top.Replay (bytes_eq name (codes "crash")) Crash None (λ words. refl) tt)))))
+    either top.Replay (bytes_eq name (codes "crash")) Crash None (λ words. refl) tt)))))))
 words_own top.Threads name =
     either top.Threads (bytes_eq name (codes "run")) Run _ (λ words. refl) (
     either top.Threads (bytes_eq name (codes "load")) Load None (λ words. refl) tt)

@@ -1,10 +1,8 @@
 -- What a word is to clap, where it names an option or is a value.
-use Rattle.std.proofs.Common.{◌≡◌, ℕ, ◌+◌, ◌<◌, ◌≤◌, Bool, true, false, not, cond, eqb, leb, List, [], ◌∷◌, length, take, drop, Option, Some, None, refl, sym, ap, ◌∙◌, take_all, inl, inr, arith, rules}
-use Rattle.std.specs.Prelude.{nat_lt, suc, ◌&&◌, ◌==◌, position, option_map, is_some}
-use Rattle.std.specs.List.{list_all, list_any, position_or_len}
-use Rattle.std.specs.Char.{is_ascii_digit}
+use Rattle.std.proofs.Common.{◌≡◌, ℕ, ◌+◌, Bool, true, false, cond, List, [], ◌∷◌, length, take, Option, Some, None, refl, sym, ap, ◌∙◌, take_all, arith}
+use Rattle.std.specs.Prelude.{nat_lt, suc, ◌&&◌, ◌==◌, option_map}
+use Rattle.std.specs.List.{list_any, position_or_len}
 use Rattle.std.specs.Str.{bytes_eq}
-use Rattle.std.specs.Str.Parse.{digits_value}
 use Rattle.std.proofs.lemmas.Bool.Decides.{nat_tests}
 use Rattle.clap.specs.Lexer.{long_of, short_of, name_and_value}
 use Rattle.command_words.specs.declared.options.Takes.{Takes}

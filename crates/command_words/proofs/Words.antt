@@ -13,7 +13,7 @@ use Rattle.std.proofs.lemmas.Str.Parse.{IsNumeralModel, numerals_by_value, parse
 use Rattle.std.proofs.lemmas.Str.{IsUtf8-from_ascii}
 use Rattle.std.proofs.lemmas.Fmt.{IsAscii-from_digits}
 use Rattle.command_words.specs.declared.command.Word.{Word}
-use Rattle.command_words.specs.declared.command.Word.TheVariants.{Plain, Replay, Show, Make, Epochs, Crash, Run, Load}
+use Rattle.command_words.specs.declared.command.Word.TheVariants.{Plain, Replay, Show, S11, S6a, Make, Epochs, Crash, Run, Load}
 use Rattle.command_words.specs.declared.options.Name.TheVariants.{Devices, Rounds, Workers}
 use Rattle.device_types.specs.Numbers.{IsWithin}
 use Rattle.command_words.specs.Command.{are_of, command_by, has_few_visits, options_of, HasFewVisits, IsAnyInLimits}
@@ -75,6 +75,8 @@ unfolding are_of command_by number_in
 in_limits Plain words e = tt
 in_limits Replay words e = number_within 1 16 2 (value_in (codes "replicas") words) (omega arith) (omega arith)
 in_limits Show words e = tt
+in_limits S11 words e = tt
+in_limits S6a words e = tt
 in_limits Make words e = few_visits words (are_options (options_of Make) words) e
 in_limits Epochs words e = (
   number_within 1 4096 1 (value_in (codes "device") words) (omega arith) (omega arith),

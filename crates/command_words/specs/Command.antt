@@ -1,10 +1,12 @@
 -- The words of a command.
-use Rattle.std.specs.Prelude.{ℕ, ◌+◌, ◌*◌, ◌≤◌, ◌&&◌, nat_le, Bool, true, List, [], ◌∷◌, codes, map, string_bytes, String, Option, Some, None, option_and_then, if◌then◌else◌}
+use Rattle.std.specs.Prelude.{ℕ, ◌+◌, ◌*◌, ◌≤◌, ◌==◌, ◌&&◌, nat_le, Bool, true, List, [], ◌∷◌, codes, map, string_bytes, String, Option, Some, None, option_and_then, if◌then◌else◌}
 use Rattle.std.specs.Str.{bytes_eq}
 use Rattle.std.specs.declared.alloc.Global.{Global}
 use Rattle.device_types.specs.Numbers.{IsWithin}
 use Rattle.command_words.specs.declared.command.Command.{Command}
 use Rattle.command_words.specs.declared.command.Command.TheVariants as command
+use Rattle.command_words.specs.declared.command.Protocol.{Protocol}
+use Rattle.command_words.specs.declared.command.Protocol.TheVariants as protocol
 use Rattle.command_words.specs.declared.command.ThreadsCommand.{ThreadsCommand}
 use Rattle.command_words.specs.declared.command.ThreadsCommand.TheVariants as threads
 use Rattle.command_words.specs.declared.command.AnyCommand.{AnyCommand}
@@ -12,9 +14,9 @@ use Rattle.command_words.specs.declared.command.AnyCommand.TheVariants as any
 use Rattle.command_words.specs.declared.command.TopCall.{TopCall}
 use Rattle.command_words.specs.declared.command.TopCall.TheVariants as top
 use Rattle.command_words.specs.declared.command.Word.{Word}
-use Rattle.command_words.specs.declared.command.Word.TheVariants.{Plain, Replay, Show, Make, Epochs, Crash, Run, Load}
+use Rattle.command_words.specs.declared.command.Word.TheVariants.{Plain, Replay, Show, S11, S6a, Make, Epochs, Crash, Run, Load}
 use Rattle.command_words.specs.declared.options.Name.{Name}
-use Rattle.command_words.specs.declared.options.Name.TheVariants.{Replicas, Number, Devices, Rounds, Text, Device, Events, After, Workers}
+use Rattle.command_words.specs.declared.options.Name.TheVariants.{Replicas, Number, Devices, Rounds, Text, Device, Events, After, Kind, Workers}
 use Rattle.command_words.specs.Options.{are_options, is_given, number_in, text_of}
 
 -- the word of a command; each top call knows its own commands only
@@ -23,6 +25,8 @@ word_of top.Replay name =
     if bytes_eq name (codes "plain") then Some Plain
     else if bytes_eq name (codes "replay") then Some Replay
     else if bytes_eq name (codes "show") then Some Show
+    else if bytes_eq name (codes "s11") then Some S11
+    else if bytes_eq name (codes "s6a") then Some S6a
     else if bytes_eq name (codes "make") then Some Make
     else if bytes_eq name (codes "epochs") then Some Epochs
     else if bytes_eq name (codes "crash") then Some Crash
@@ -36,7 +40,9 @@ word_of top.Threads name =
 abbrev pub options_of : Word → List Name
 options_of Plain = []
 options_of Replay = Replicas ∷ []
-options_of Show = []
+options_of Show = Kind ∷ []
+options_of S11 = []
+options_of S6a = []
 options_of Make = Number ∷ Devices ∷ Rounds ∷ Text ∷ []
 options_of Epochs = Device ∷ Number ∷ Events ∷ []
 options_of Crash = After ∷ []
@@ -55,17 +61,25 @@ abbrev pub is_small : Word → List (List ℕ) → Bool
 is_small Plain words = true
 is_small Replay words = true
 is_small Show words = true
+is_small S11 words = true
+is_small S6a words = true
 is_small Make words = has_few_visits words
 is_small Epochs words = true
 is_small Crash words = true
 is_small Run words = true
 is_small Load words = has_few_visits words
 
+-- the protocol of a number
+abbrev pub protocol_of : ℕ → Protocol
+protocol_of kind = if kind == 0 then protocol.S1ap else (if kind == 1 then protocol.Gtp else protocol.Diameter)
+
 -- the command of that word, with its options
 unfoldable pub command_by : Word → List (List ℕ) → AnyCommand
 command_by Plain words = any.Replay command.Plain
 command_by Replay words = any.Replay (command.Replay (number_in words Replicas))
-command_by Show words = any.Replay command.Show
+command_by Show words = any.Replay (command.Show (protocol_of (number_in words Kind)))
+command_by S11 words = any.Replay command.S11
+command_by S6a words = any.Replay command.S6a
 command_by Make words = any.Replay (command.Make (number_in words Number) (number_in words Devices) (number_in words Rounds) (is_given words (text_of Text)))
 command_by Epochs words = any.Replay (command.Epochs (number_in words Device) (number_in words Number) (number_in words Events))
 command_by Crash words = any.Replay (command.Crash (number_in words After))
@@ -107,7 +121,9 @@ HasFewVisits devices rounds = (1 ≤ devices) × (devices * (rounds + 1) ≤ mos
 abbrev pub IsInLimits : Command → Type 0
 IsInLimits command.Plain = Unit {0}
 IsInLimits (command.Replay replicas) = IsWithin 16 replicas
-IsInLimits command.Show = Unit {0}
+IsInLimits (command.Show protocol) = Unit {0}
+IsInLimits command.S11 = Unit {0}
+IsInLimits command.S6a = Unit {0}
 IsInLimits (command.Make number devices rounds text) = HasFewVisits devices rounds
 IsInLimits (command.Epochs device number events) = IsWithin 4096 device × (events ≤ 100000)
 IsInLimits (command.Crash after) = Unit {0}

@@ -1,5 +1,5 @@
 -- The options of a command as `clap` is asked for them, and what it finds.
-use Rattle.std.specs.Prelude.{◌≡◌, Bool, true, false, List, [], map, codes, Option, Some, if◌then◌else◌}
+use Rattle.std.specs.Prelude.{◌≡◌, Bool, true, false, List, [], codes, Some, if◌then◌else◌}
 use Rattle.clap.specs.Matches.{first_value, found_of, one_text}
 use Rattle.clap.specs.Simple.{App, new_rule, new_shape}
 use Rattle.clap.specs.Walk.{Rule, Text}

@@ -7,7 +7,7 @@ use Rattle.std.specs.Char.{is_ascii_digit}
 use Rattle.std.specs.Str.{bytes_eq}
 use Rattle.std.specs.Str.Parse.{digits_value}
 use Rattle.command_words.specs.declared.options.Name.{Name}
-use Rattle.command_words.specs.declared.options.Name.TheVariants.{Replicas, Number, Devices, Rounds, Text, Device, Events, After, Workers}
+use Rattle.command_words.specs.declared.options.Name.TheVariants.{Replicas, Number, Devices, Rounds, Text, Device, Events, After, Kind, Workers}
 use Rattle.command_words.specs.declared.options.Takes.{Takes}
 use Rattle.command_words.specs.declared.options.Takes.TheVariants as takes
 
@@ -22,6 +22,7 @@ text_of Text = codes "text"
 text_of Device = codes "device"
 text_of Events = codes "events"
 text_of After = codes "after"
+text_of Kind = codes "kind"
 text_of Workers = codes "workers"
 
 -- a number from the first to the second, and the one where no word gives it; or nothing
@@ -34,6 +35,7 @@ takes_of Text = takes.Nothing
 takes_of Device = takes.Number 1 4096 None
 takes_of Events = takes.Number 0 100000 (Some 100)
 takes_of After = takes.Number 0 4294967295 None
+takes_of Kind = takes.Number 0 2 (Some 0)
 takes_of Workers = takes.Number 1 16 (Some 4)
 
 abbrev pub is_required : Takes → Bool

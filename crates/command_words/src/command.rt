@@ -3,7 +3,7 @@
 ghost use Rattle.std.specs.Prelude.{◌≡◌, ℕ, List, true, Ok, None, map, string_bytes, IfSome, IfOk};
 ghost use Rattle.std.specs.Str.{bytes_eq};
 ghost use Rattle.command_words.specs.Matches.{HasRead};
-ghost use Rattle.command_words.specs.Command.{word_of, options_of, is_small, command_by, are_of, command_in, command_of, threads_command_of, IsInLimits, IsAnyInLimits, IsThreadsInLimits};
+ghost use Rattle.command_words.specs.Command.{word_of, options_of, is_small, protocol_of, command_by, are_of, command_in, command_of, threads_command_of, IsInLimits, IsAnyInLimits, IsThreadsInLimits};
 
 use crate::matches::{number, read};
 use crate::options::{Name, are_options, number_in, text_of};
@@ -25,7 +25,14 @@ pub enum Command {
         replicas: u32,
     },
     /// What the lines of the trace are.
-    Show,
+    Show {
+        /// As messages of which protocol they are read.
+        protocol: Protocol,
+    },
+    /// The calls of the gateway and its answers.
+    S11,
+    /// The calls of the subscriber server and its answers.
+    S6a,
     /// A made case.
     Make {
         /// The number that it is made from.
@@ -51,6 +58,17 @@ pub enum Command {
         /// How many calls it passes.
         after: u32,
     },
+}
+
+/// A protocol whose messages a trace may have.
+#[derive(Clone, Copy, Debug, PartialEq, Eq)]
+pub enum Protocol {
+    /// That of base stations (3GPP TS 36.413).
+    S1ap,
+    /// That of the gateway (TS 29.274).
+    Gtp,
+    /// That of the subscriber server (RFC 6733, TS 29.272).
+    Diameter,
 }
 
 /// A command of the top call that runs threads.
@@ -94,6 +112,8 @@ enum Word {
     Plain,
     Replay,
     Show,
+    S11,
+    S6a,
     Make,
     Epochs,
     Crash,
@@ -109,6 +129,8 @@ fn word_of(top: TopCall, name: &str) -> Option<Word>
         (TopCall::Replay, "plain") => Some(Word::Plain),
         (TopCall::Replay, "replay") => Some(Word::Replay),
         (TopCall::Replay, "show") => Some(Word::Show),
+        (TopCall::Replay, "s11") => Some(Word::S11),
+        (TopCall::Replay, "s6a") => Some(Word::S6a),
         (TopCall::Replay, "make") => Some(Word::Make),
         (TopCall::Replay, "epochs") => Some(Word::Epochs),
         (TopCall::Replay, "crash") => Some(Word::Crash),
@@ -123,8 +145,9 @@ fn options_of(word: Word) -> &'static [Name]
     ensures { result.now ≡ options_of word }
 {
     match word {
-        Word::Plain | Word::Show => &[],
+        Word::Plain | Word::S11 | Word::S6a => &[],
         Word::Replay => &[Name::Replicas],
+        Word::Show => &[Name::Kind],
         Word::Make => &[Name::Number, Name::Devices, Name::Rounds, Name::Text],
         Word::Epochs => &[Name::Device, Name::Number, Name::Events],
         Word::Crash => &[Name::After],
@@ -138,7 +161,14 @@ fn is_small(word: Word, words: &[String]) -> bool
     ensures { result ≡ is_small word (map string_bytes words.now) }
 {
     match word {
-        Word::Plain | Word::Replay | Word::Show | Word::Epochs | Word::Crash | Word::Run => true,
+        Word::Plain
+        | Word::Replay
+        | Word::Show
+        | Word::S11
+        | Word::S6a
+        | Word::Epochs
+        | Word::Crash
+        | Word::Run => true,
         Word::Make | Word::Load => {
             let devices = u64::from(number_in(words, Name::Devices));
             let rounds = u64::from(number_in(words, Name::Rounds));
@@ -155,6 +185,17 @@ fn are_of(word: Word, words: &[String]) -> bool
     are_options(options_of(word), words) && is_small(word, words)
 }
 
+/// The protocol of that number.
+fn protocol_of(kind: u32) -> Protocol
+    ensures { result ≡ protocol_of kind }
+{
+    match kind {
+        0 => Protocol::S1ap,
+        1 => Protocol::Gtp,
+        _ => Protocol::Diameter,
+    }
+}
+
 /// The command of that word, whose options `clap` has read.
 #[tactic(auto, unfolding(crate::specs::Command::command_by, crate::specs::Options::number_in))]
 fn command_from(word: Word, matches: &ArgMatches<'_>) -> AnyCommand
@@ -165,7 +206,11 @@ fn command_from(word: Word, matches: &ArgMatches<'_>) -> AnyCommand
         Word::Replay => AnyCommand::Replay(Command::Replay {
             replicas: number(matches, Name::Replicas),
         }),
-        Word::Show => AnyCommand::Replay(Command::Show),
+        Word::Show => AnyCommand::Replay(Command::Show {
+            protocol: protocol_of(number(matches, Name::Kind)),
+        }),
+        Word::S11 => AnyCommand::Replay(Command::S11),
+        Word::S6a => AnyCommand::Replay(Command::S6a),
         Word::Make => AnyCommand::Replay(Command::Make {
             number: number(matches, Name::Number),
             devices: number(matches, Name::Devices),

@@ -5,4 +5,4 @@ mod command;
 mod matches;
 mod options;
 
-pub use command::{Command, ThreadsCommand, command_of, threads_command_of};
+pub use command::{Command, Protocol, ThreadsCommand, command_of, threads_command_of};

@@ -27,6 +27,8 @@ pub(crate) enum Name {
     Events,
     /// How many calls a disk passes before it fails.
     After,
+    /// The number of the protocol that a trace is read by.
+    Kind,
     /// How many workers there are.
     Workers,
 }
@@ -60,6 +62,7 @@ pub(crate) fn text_of(name: Name) -> &'static str
         Name::Device => "device",
         Name::Events => "events",
         Name::After => "after",
+        Name::Kind => "kind",
         Name::Workers => "workers",
     }
 }
@@ -76,6 +79,7 @@ pub(crate) fn takes_of(name: Name) -> Takes
         Name::Text => return Takes::Nothing,
         Name::Device => (1, 4096, None),
         Name::Events => (0, 100_000, Some(100)),
+        Name::Kind => (0, 2, Some(0)),
         Name::Workers => (1, 16, Some(4)),
     };
     Takes::Number {

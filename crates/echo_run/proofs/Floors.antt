@@ -32,7 +32,7 @@ use Rattle.echo_run.specs.Summary.{made_replicas, scheduled_of, summary_by}
 use Rattle.top_calls.specs.Summary.{summary_of}
 use Rattle.echo_run.specs.Top.{Tells}
 use Rattle.command_words.specs.declared.command.Command.{Command}
-use Rattle.command_words.specs.declared.command.Command.TheVariants.{Plain, Replay, Show, Make, Epochs, Crash}
+use Rattle.command_words.specs.declared.command.Command.TheVariants.{Plain, Replay, Show, S11, S6a, Make, Epochs, Crash}
 
 -- ---- what was given first is still there first
 
@@ -91,7 +91,9 @@ whole_world words (Replay replicas) before after o text is runs told whole =
     let ran = subst (λ (c : Command). Ran c told.octets true (setting_by o) (given_by o) (ends_by o)) same told.ran refl in
     let rows = rows_of (lines_of told.octets) in
     whole (setting_of rows (admission.history rows (trace_of (lines_of told.octets))) replicas) ran.of_case (ran.exact_ends refl)
-whole_world words Show before after o text is runs told whole = absurd (runs tt)
+whole_world words (Show protocol) before after o text is runs told whole = absurd (runs tt)
+whole_world words S11 before after o text is runs told whole = absurd (runs tt)
+whole_world words S6a before after o text is runs told whole = absurd (runs tt)
 whole_world words (Make number devices rounds wanted) before after o text is runs told whole =
     let same : told.command ≡ Make number devices rounds wanted = cc in
     let ran = subst (λ (c : Command). Ran c told.octets true (setting_by o) (given_by o) (ends_by o)) same told.ran (false_from_ne_true wanted runs) in

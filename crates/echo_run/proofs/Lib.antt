@@ -1,3 +1,4 @@
+pub mod Callers
 pub mod Floors
 pub mod Lines
 pub mod Schedule

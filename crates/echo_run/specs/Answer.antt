@@ -11,9 +11,15 @@ use Rattle.schedule_laws.specs.Counts.{Turn as Answered}
 use Rattle.schedule_laws.specs.Setting.{Setting}
 use Rattle.crash_run.specs.Text.{crash_text}
 use Rattle.epoch_run.specs.Text.{device_text}
+use Rattle.device_machine.specs.Ends.{finals_of}
+use Rattle.report_text.specs.Calls.{s11_text, s6a_text}
 use Rattle.report_text.specs.Show.{show_text}
+use Rattle.report_text.specs.ShowGtp.{show_gtp_text}
+use Rattle.report_text.specs.ShowDia.{show_dia_text}
 use Rattle.command_words.specs.declared.command.Command.{Command}
-use Rattle.command_words.specs.declared.command.Command.TheVariants.{Plain, Replay, Show, Make, Epochs, Crash}
+use Rattle.command_words.specs.declared.command.Command.TheVariants.{Plain, Replay, Show, S11, S6a, Make, Epochs, Crash}
+use Rattle.command_words.specs.declared.command.Protocol.{Protocol}
+use Rattle.command_words.specs.declared.command.Protocol.TheVariants as protocol
 use Rattle.top_calls.specs.declared.no_text.NoText.{NoText}
 use Rattle.top_calls.specs.declared.no_text.NoText.TheVariants as no
 use Rattle.top_calls.specs.Answers.{unless_bad}
@@ -33,11 +39,27 @@ epochs_of rows H device number events = device_text rows (book_of (length rows) 
 abbrev pub crash_of : List Subscriber → List Turn → ℕ → List ℕ
 crash_of rows H after = crash_text rows (book_of (length rows) H) after
 
+-- what the lines of a trace are as messages of a protocol
+abbrev pub show_of : Protocol → List TraceLine → List ℕ
+show_of protocol.S1ap trace = show_text trace
+show_of protocol.Gtp trace = show_gtp_text trace
+show_of protocol.Diameter trace = show_dia_text trace
+
+-- what the devices that are alone with their admitted messages call of the gateway, and what it answers
+abbrev pub s11_of : List Subscriber → List Turn → List ℕ
+s11_of rows H = s11_text rows (finals_of rows (book_of (length rows) H))
+
+-- the same of the subscriber server
+abbrev pub s6a_of : List Subscriber → List Turn → List ℕ
+s6a_of rows H = s6a_text rows (finals_of rows (book_of (length rows) H))
+
 -- the case text itself is wanted, and not what comes of it
 abbrev pub is_case_wanted : Command → Bool
 is_case_wanted Plain = false
 is_case_wanted (Replay replicas) = false
-is_case_wanted Show = false
+is_case_wanted (Show protocol) = false
+is_case_wanted S11 = false
+is_case_wanted S6a = false
 is_case_wanted (Make number devices rounds text) = text
 is_case_wanted (Epochs device number events) = false
 is_case_wanted (Crash after) = false
@@ -46,7 +68,9 @@ is_case_wanted (Crash after) = false
 unfoldable pub text_of : Command → List Subscriber → List TraceLine → List Event → List ℕ
 text_of Plain rows trace schedule = plain_of rows (history rows trace)
 text_of (Replay replicas) rows trace schedule = replay_of rows (history rows trace) schedule replicas
-text_of Show rows trace schedule = show_text trace
+text_of (Show protocol) rows trace schedule = show_of protocol trace
+text_of S11 rows trace schedule = s11_of rows (history rows trace)
+text_of S6a rows trace schedule = s6a_of rows (history rows trace)
 text_of (Make number devices rounds text) rows trace schedule = summary_by rows (history rows trace) schedule
 text_of (Epochs device number events) rows trace schedule = epochs_of rows (history rows trace) device number events
 text_of (Crash after) rows trace schedule = crash_of rows (history rows trace) after
@@ -63,7 +87,9 @@ answer_of command octets =
 abbrev pub text_on : Command → List Subscriber → List TraceLine → List Event → List Answered → List DeviceEnd → List ℕ
 text_on Plain rows trace schedule given ends = plain_of rows (history rows trace)
 text_on (Replay replicas) rows trace schedule given ends = told_of rows (history rows trace) schedule given ends
-text_on Show rows trace schedule given ends = show_text trace
+text_on (Show protocol) rows trace schedule given ends = show_of protocol trace
+text_on S11 rows trace schedule given ends = s11_of rows (history rows trace)
+text_on S6a rows trace schedule given ends = s6a_of rows (history rows trace)
 text_on (Make number devices rounds text) rows trace schedule given ends = summary_on rows (history rows trace) schedule given ends
 text_on (Epochs device number events) rows trace schedule given ends = epochs_of rows (history rows trace) device number events
 text_on (Crash after) rows trace schedule given ends = crash_of rows (history rows trace) after
@@ -78,7 +104,9 @@ told_by command octets given ends =
 abbrev pub RunsOn : Command → List Subscriber → List TraceLine → List Event → Bool → Option Setting → List Answered → List DeviceEnd → Type 0
 RunsOn Plain rows trace schedule exact setting given ends = Unit {0}
 RunsOn (Replay replicas) rows trace schedule exact setting given ends = IsRun rows (history rows trace) schedule replicas exact setting given ends
-RunsOn Show rows trace schedule exact setting given ends = Unit {0}
+RunsOn (Show protocol) rows trace schedule exact setting given ends = Unit {0}
+RunsOn S11 rows trace schedule exact setting given ends = Unit {0}
+RunsOn S6a rows trace schedule exact setting given ends = Unit {0}
 RunsOn (Make number devices rounds text) rows trace schedule exact setting given ends = IsRun rows (history rows trace) schedule made_replicas exact setting given ends
 RunsOn (Epochs device number events) rows trace schedule exact setting given ends = Unit {0}
 RunsOn (Crash after) rows trace schedule exact setting given ends = Unit {0}
@@ -93,7 +121,9 @@ Ran command octets exact setting given ends =
 abbrev pub IsWithoutFloor : Command → Type 0
 IsWithoutFloor Plain = Unit {0}
 IsWithoutFloor (Replay replicas) = ⊥
-IsWithoutFloor Show = Unit {0}
+IsWithoutFloor (Show protocol) = Unit {0}
+IsWithoutFloor S11 = Unit {0}
+IsWithoutFloor S6a = Unit {0}
 IsWithoutFloor (Make number devices rounds text) = text ≡ true
 IsWithoutFloor (Epochs device number events) = Unit {0}
 IsWithoutFloor (Crash after) = Unit {0}

@@ -2,7 +2,7 @@
 use Rattle.std.specs.Prelude.{◌≡◌, ℕ, Bool, true, List, Option, Some, None, is_some, option_map, Result, Ok, String}
 use Rattle.std.specs.declared.alloc.Global.{Global}
 use Rattle.command_words.specs.declared.command.Command.{Command}
-use Rattle.command_words.specs.declared.command.Command.TheVariants.{Plain, Replay, Show, Make, Epochs, Crash}
+use Rattle.command_words.specs.declared.command.Command.TheVariants.{Plain, Replay, Show, S11, S6a, Make, Epochs, Crash}
 use Rattle.command_words.specs.Command.{command_of}
 use Rattle.device_types.specs.declared.finals.DeviceEnd.{DeviceEnd}
 use Rattle.schedule_laws.specs.Counts.{Turn}
@@ -18,7 +18,9 @@ use Rattle.echo_run.specs.Answer.{answer_of, told_by, Ran}
 abbrev pub made_in : Command → Option MadeCase
 made_in Plain = None
 made_in (Replay replicas) = None
-made_in Show = None
+made_in (Show protocol) = None
+made_in S11 = None
+made_in S6a = None
 made_in (Make number devices rounds text) = Some (record { number = number; devices = devices; rounds = rounds })
 made_in (Epochs device number events) = None
 made_in (Crash after) = None

@@ -3,7 +3,7 @@
 ghost use Rattle.std.specs.Prelude.{◌≡◌, ◌≢◌, ◌≤◌, ℕ, length, true, false, Ok, Err, IfOk, IfErr, OnOk, All};
 ghost use Rattle.device_types.specs.Numbers.{IsWithin};
 ghost use Rattle.entry_edge.specs.Trace.{history};
-ghost use Rattle.echo_run.specs.Answer.{replay_of, epochs_of, crash_of, is_case_wanted, text_of, answer_of, text_on, told_by, RunsOn, Ran, IsWithoutFloor, IsAnswer};
+ghost use Rattle.echo_run.specs.Answer.{replay_of, epochs_of, crash_of, show_of, is_case_wanted, text_of, answer_of, text_on, told_by, RunsOn, Ran, IsWithoutFloor, IsAnswer};
 ghost use Rattle.command_words.specs.Command.{IsInLimits};
 ghost use Rattle.echo_run.specs.Replay.{told_of, IsRun};
 ghost use Rattle.echo_run.specs.Summary.{made_replicas, summary_by, summary_on};
@@ -13,17 +13,18 @@ ghost use Rattle.top_calls.specs.Answers.{IsOfLine};
 ghost use Rattle.top_calls.specs.Ends.{IsAdmitted, plain_of};
 ghost use Rattle.top_calls.specs.declared.no_text.NoText.TheVariants as no_text;
 
+use crate::calls::{s6a, s11};
 use crate::ends::finals_of;
 use crate::replay::transcript;
 use crate::summary::scheduled;
 use case_form::{Case, CaseBad, read_case};
-use command_words::Command;
+use command_words::{Command, Protocol};
 use crash_run::crash_text;
 use device_types::{Finals, Octets};
 use echo_base::OutOfMemory;
 use epoch_run::device_text;
 use link_schedule::Floor;
-use report_text::{final_text, show_text};
+use report_text::{final_text, show_dia_text, show_gtp_text, show_text};
 use std::alloc::Global;
 use top_calls::{NoText, admitted, ends_text, summary_text};
 
@@ -125,6 +126,17 @@ fn crash(alloc: Global, case: &Case, after: u32) -> Result<Octets, OutOfMemory>
     crash_text(alloc, case.table(), &admitted.book, after)
 }
 
+/// What the lines of the trace of a case are as messages of a protocol.
+fn show(alloc: Global, case: &Case, protocol: Protocol) -> Result<Octets, OutOfMemory>
+    ensures { IfOk result (λ text. text ≡ show_of protocol case.now.trace) }
+{
+    match protocol {
+        Protocol::S1ap => show_text(alloc, case.trace()),
+        Protocol::Gtp => show_gtp_text(alloc, case.trace()),
+        Protocol::Diameter => show_dia_text(alloc, case.trace()),
+    }
+}
+
 /// Is the case text itself wanted, and not what comes of it?
 fn is_case_wanted(command: Command) -> bool
     ensures { result ≡ is_case_wanted command }
@@ -151,7 +163,9 @@ fn text_of<F: Floor>(
     match command {
         Command::Plain => plain(alloc, case),
         Command::Replay { replicas } => replay(alloc, case, replicas, floor),
-        Command::Show => show_text(alloc, case.trace()),
+        Command::Show { protocol } => show(alloc, case, protocol),
+        Command::S11 => s11(alloc, case),
+        Command::S6a => s6a(alloc, case),
         Command::Make { .. } => summary(alloc, case, floor),
         Command::Epochs {
             device,

@@ -24,7 +24,9 @@ fn made(command: Command) -> Option<MadeCase>
     match command {
         Command::Plain
         | Command::Replay { .. }
-        | Command::Show
+        | Command::Show { .. }
+        | Command::S11
+        | Command::S6a
         | Command::Epochs { .. }
         | Command::Crash { .. } => None,
         Command::Make {
@@ -43,10 +45,12 @@ fn made(command: Command) -> Option<MadeCase>
 /// Makes a text of a case text, and writes it to the sink. The words, without the program's name, are the command: `plain` tells which
 /// lines of the trace are refused, and what becomes of the devices, whose calls are answered at once; `replay` first tells what each
 /// event of the schedule comes to, with two replicas, or as many as `--replicas` says, 1 to 16; `show` tells what the lines of the trace
-/// are; `epochs` tells what events come to that are drawn of the streams of `--device` from `--number`, 100 or as many as `--events`
-/// says, and what its session is then; `crash` tells what a disk keeps of the devices that fails after `--after` calls. They read the
-/// case text from the source. `make` makes it, of `--number`, `--devices` and `--rounds`, and reads nothing: with `--text` it is the
-/// text itself, and else a line that sums up its replay with two replicas.
+/// are, as messages of base stations, or with `--kind=1` as those of the gateway, with `--kind=2` of the subscriber server; `s11` tells
+/// what the devices call of the gateway and what it answers, as octets, where each call is answered at once, and `s6a` the same of the
+/// subscriber server; `epochs` tells what events come to that are drawn of the streams of `--device` from `--number`, 100 or as many as
+/// `--events` says, and what its session is then; `crash` tells what a disk keeps of the devices that fails after `--after` calls. They
+/// read the case text from the source. `make` makes it, of `--number`, `--devices` and `--rounds`, and reads nothing: with `--text` it
+/// is the text itself, and else a line that sums up its replay with two replicas.
 ///
 /// The statuses, in the order in which they are found: `Usage`, before anything is read; `ReadFault`, where the source failed;
 /// `CaseRefused` with the number 6 (TooLong) and the line 0 for more than 67,108,864 octets, and with the number of the reason and

@@ -8,7 +8,14 @@ use std::test::Fail;
 /// Words, and the command that they are.
 const COMMANDS: &str = "\
 plain: Plain
-show: Show
+show: Show { protocol: S1ap }
+show --kind=0: Show { protocol: S1ap }
+show --kind 1: Show { protocol: Gtp }
+show --kind=0000000001: Show { protocol: Gtp }
+show --kind=2: Show { protocol: Diameter }
+show --kind 02: Show { protocol: Diameter }
+s11: S11
+s6a: S6a
 replay: Replay { replicas: 2 }
 replay --replicas=1: Replay { replicas: 1 }
 replay --replicas 1: Replay { replicas: 1 }
@@ -56,6 +63,8 @@ load --number=0 --devices=800 --rounds=0: Load { number: 0, devices: 800, rounds
 const THREADS_USAGES: &str = "
 plain
 show
+s11
+s6a
 replay --replicas=2
 make --number=7 --devices=40 --rounds=19
 epochs --device=3 --number=7
@@ -97,9 +106,32 @@ plain --
 plain plain
 plain --replicas=2
 plain --text
+plain --kind=0
 show show
 show --replicas 2
 show --number=1
+show --kind
+show --kind=
+show --kind=3
+show --kind 3
+show --kind=-1
+show --kind=x
+show --kind=00000000001
+show --kind=1 --kind=1
+show --kind=1 1
+show kind=1
+S11
+s1
+s11 s11
+s11 --
+s11 --kind=1
+s11 --replicas=2
+s11 --text
+S6A
+s6a s6a
+s6a s11
+s6a --kind=2
+s6a 1
 run
 run --workers=4
 load

@@ -1,9 +1,12 @@
+pub mod Calls
 pub mod Device
 pub mod Epochs
 pub mod Final
 pub mod Lines
 pub mod Session
 pub mod Show
+pub mod ShowGtp
+pub mod ShowDia
 pub mod Status
 pub mod Summary
 pub mod Transcript

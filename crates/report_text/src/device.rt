@@ -18,7 +18,7 @@ use std::fmt;
 
 /// An IMSI, in its 15 digits.
 #[derive(Clone, Copy)]
-struct Imsi(u64);
+pub(crate) struct Imsi(pub(crate) u64);
 
 impl fmt::Display for Imsi {
     ghost output = { λ imsi. Some (zero_filled 15 imsi.0) };

@@ -38,7 +38,7 @@ fn put_message(
 }
 
 /// Puts the line of a refusal behind a text.
-fn put_refusal(text: &mut String, line: u32, refusal: Refusal) -> Result<(), OutOfMemory>
+pub(crate) fn put_refusal(text: &mut String, line: u32, refusal: Refusal) -> Result<(), OutOfMemory>
     ensures { OnOk result (string_bytes text.new ≡ string_bytes text.old ++ ended (refusal_line line refusal)) }
 {
     writeln!(text, "line {line} refused {refusal}")

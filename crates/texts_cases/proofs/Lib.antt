@@ -1,2 +1,3 @@
+mod Callers
 mod Ends
 mod Keys

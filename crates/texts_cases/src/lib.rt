@@ -14,6 +14,8 @@ mod report_text_epochs;
 #[cfg(test)]
 mod report_text_lines;
 #[cfg(test)]
+mod report_text_peers;
+#[cfg(test)]
 mod report_text_summaries;
 #[cfg(test)]
 mod report_text_transcripts;

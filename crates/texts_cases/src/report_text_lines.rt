@@ -5,7 +5,7 @@ use crate::report_text_calls::FIRST;
 use case_form::{TraceKind, TraceLine};
 use device_types::*;
 use echo_base::Status;
-use report_text::{final_text, show_text, status_line};
+use report_text::{final_text, show_dia_text, show_gtp_text, show_text, status_line};
 use std::alloc::Global;
 use std::str;
 use std::test::Fail;
@@ -66,11 +66,11 @@ fn line(alloc: Global, line: u32, text: &str) -> Result<TraceLine, Fail> {
     Ok(TraceLine { line, kind })
 }
 
-/// The lines of the trace.
-fn trace(alloc: Global) -> Result<Vec<TraceLine>, Fail> {
+/// The lines of a trace with these texts.
+fn trace(alloc: Global, texts: &str) -> Result<Vec<TraceLine>, Fail> {
     let mut trace = Vec::new(alloc);
     let mut number = 6_u32;
-    for text in TRACE.lines() {
+    for text in texts.lines() {
         number = number.saturating_add(1);
         trace.push(line(alloc, number, text)?)?;
     }
@@ -80,9 +80,71 @@ fn trace(alloc: Global) -> Result<Vec<TraceLine>, Fail> {
 #[test]
 fn lines_are_shown(rt: HostRuntime) -> Result<(), Fail> {
     let alloc = rt.alloc();
-    let trace = trace(alloc)?;
+    let trace = trace(alloc, TRACE)?;
     let text = show_text(alloc, &trace)?;
     assert_eq!(rt; str::from_utf8(text.octets())?, SHOWN);
+    Ok(())
+}
+
+/// Texts of a trace of the gateway's calls and answers, whose first line is line 7.
+const GTP_TRACE: &str = "\
+4822001e00000001000002FF5D0012004900010005570009008000000002c0a80002
+482600080000000100000100
+4822001e00000001000002005d0012004900010005570009008000000002c0a8000
+data
+0017001000000200630004000100070002400122
+48AA000C000000010000030003000000
+4821000e0000000100000500020002004000
+";
+
+/// What they are: a spare octet that is not 0, a type that is not read, half an octet, a notice, a message of S1AP, an element that is
+/// passed over, an answer that rejects.
+const GTP_SHOWN: &str = "\
+line 7 gtp 34 4822001e00000001000002005d0012004900010005570009008000000002c0a80002
+line 8 refused 41 GtpType 38 at 1
+line 9 refused 29 BadHex
+line 11 refused 40 GtpHeader at 0
+line 12 gtp 170 48aa00080000000100000300
+line 13 gtp 33 4821000e0000000100000500020002004000
+";
+
+#[test]
+fn lines_of_the_gateway_are_shown(rt: HostRuntime) -> Result<(), Fail> {
+    let alloc = rt.alloc();
+    let trace = trace(alloc, GTP_TRACE)?;
+    let text = show_gtp_text(alloc, &trace)?;
+    assert_eq!(rt; str::from_utf8(text.octets())?, GTP_SHOWN);
+    Ok(())
+}
+
+/// Texts of a trace of the subscriber server's calls and answers, whose first line is line 7.
+const DIA_TRACE: &str = "\
+010000a0c000013e01000023000000010000000100000107400000146d6d652e6563686f3b313b31000001154000000c0000000100000108400000106d6d652e6563686f000001284000000c6563686f0000011b4000000c6563686f0000000140000017323038393330303030303030303031000000057fc000000f000028af02f8390000000580c000001c000028af00000582c0000010000028af00000001
+020000a0c000013e01000023000000010000000100000107400000146d6d652e6563686f3b313b31000001154000000c0000000100000108400000106d6d652e6563686f000001284000000c6563686f0000011b4000000c6563686f0000000140000017323038393330303030303030303031000000057fc000000f000028af02f8390000000580c000001c000028af00000582c0000010000028af00000001
+010000a0c000013e01000023000000010000000100000107400000146d6d652e6563686f3b313b31000001154000000c0000000100000108400000106d6d652e6563686f000001284000000c6563686f0000011b4000000c6563686f0000000140000017323038393330303030303030303031000000057fc000000f000028af02f8390000000580c000001c000028af00000582c0000010000028af0000000
+data
+0017001000000200630004000100070002400122
+010000344000013C01000023000000010000000100000107400000146D6D652E6563686F3B313B310000010C4000000C00001394
+01
+";
+
+/// What they are: a call as it is written, with another version, and without its last half octet; a notice; a message of S1AP; an answer
+/// that does not succeed, without what is passed over; a message that is cut.
+const DIA_SHOWN: &str = "\
+line 7 dia 318 010000a0c000013e01000023000000010000000100000107400000146d6d652e6563686f3b313b31000001154000000c0000000100000108400000106d6d652e6563686f000001284000000c6563686f0000011b4000000c6563686f0000000140000017323038393330303030303030303031000000057fc000000f000028af02f8390000000580c000001c000028af00000582c0000010000028af00000001
+line 8 refused 50 DiaHeader at 0
+line 9 refused 29 BadHex
+line 11 refused 50 DiaHeader at 0
+line 12 dia 316 0100005c4000013c01000023000000010000000100000107400000146d6d652e6563686f3b313b310000010c4000000c00001394000001154000000c0000000100000108400000106873732e6563686f000001284000000c6563686f
+line 13 refused 1 Truncated at 1
+";
+
+#[test]
+fn lines_of_the_subscriber_server_are_shown(rt: HostRuntime) -> Result<(), Fail> {
+    let alloc = rt.alloc();
+    let trace = trace(alloc, DIA_TRACE)?;
+    let text = show_dia_text(alloc, &trace)?;
+    assert_eq!(rt; str::from_utf8(text.octets())?, DIA_SHOWN);
     Ok(())
 }
 

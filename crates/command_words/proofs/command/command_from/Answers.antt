@@ -1,8 +1,11 @@
-use Rattle.command_words.proofs.Commands.{replay_read, make_read, epochs_read, crash_read, run_read, load_read}
+use Rattle.command_words.proofs.Commands.{replay_read, show_read, make_read, epochs_read, crash_read, run_read, load_read}
 use Rattle.command_words.proofs.command.command_from.Goals as goal
 
 pub returns-in-Replay : goal.returns-in-Replay
 returns-in-Replay c = λ words read. replay_read c.args.word words c.args.matches.now c.number.result (c.in-Replay.is, read) c.number.ensures
+
+pub returns-in-Show : goal.returns-in-Show
+returns-in-Show c = λ words read. show_read c.args.word words c.args.matches.now c.number-in-Show.result c.protocol_of.result (c.in-Show.is, read) c.number-in-Show.ensures c.protocol_of.ensures
 
 pub returns-in-Make : goal.returns-in-Make
 returns-in-Make c = λ words read. make_read c.args.word words c.args.matches.now c.number-in-Make.result c.number-in-Make-2.result c.number-in-Make-3.result c.text_of.result.now c.get_flag.result (c.in-Make.is, read) c.number-in-Make.ensures c.number-in-Make-2.ensures c.number-in-Make-3.ensures c.text_of.ensures c.get_flag.ensures.value c.get_flag.ensures.other
