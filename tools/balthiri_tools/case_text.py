@@ -36,11 +36,12 @@ EVENT_FIELDS: Dict[str, List[str]] = {
 
 @dataclass(frozen=True)
 class Subscriber:
-    """What a row says that names its device; the device's number is the row's, from 1."""
+    """What a row says that names its device, and the address of its gateway in hexadecimal; the device's number is the row's, from 1."""
 
     device: int
     imsi: str
     tmsi: int
+    gateway: str = ""
 
 
 @dataclass(frozen=True)
@@ -112,7 +113,7 @@ def read_event(number: int, text: str) -> Event:
 def _read_subscriber(device: int, line: int, octets: bytes) -> Subscriber:
     try:
         row = json.loads(octets)
-        return Subscriber(device, str(row["imsi"]), int(row["tmsi"]))
+        return Subscriber(device, str(row["imsi"]), int(row["tmsi"]), str(row.get("sgw", "")))
     except (ValueError, KeyError, TypeError):
         raise BadInput(f"line {line}: no row of a subscriber") from None
 

@@ -9,7 +9,7 @@ import sys
 import tempfile
 from dataclasses import dataclass
 from pathlib import Path
-from typing import List, Tuple
+from typing import List, Optional, Tuple
 
 from .case_text import CaseText, Event
 from .command import BadInput
@@ -86,4 +86,12 @@ def printed_for(program: Program, case_octets: bytes, case: CaseText, text: byte
         command = ["replay", f"--replicas={_replicas_of(case.schedule, printed.answers)}"]
     if not belongs(case, printed) or program.printed(command, case_octets) != text:
         raise BadInput(f"the printed text is not what the program prints for the case text (`{' '.join(command)}`)")
+    return printed
+
+
+def calls_printed(program: Program, command: str, case_octets: bytes, text: Optional[bytes]) -> bytes:
+    """What the program prints by `s11` or `s6a` for the case, which the text is to be, if there is one."""
+    printed = program.printed([command], case_octets)
+    if text not in (None, printed):
+        raise BadInput(f"the text is not what the program prints for the case text (`{command}`)")
     return printed

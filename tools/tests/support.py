@@ -38,9 +38,14 @@ def needs(*commands: str) -> Callable[[type], type]:
     return unittest.skipIf(bool(missing), f"missing: {', '.join(missing)}")
 
 
+def has_command(word: str) -> bool:
+    """Whether the built program has this command."""
+    return IS_BUILT and subprocess.run([str(ECHO), word], input=b"", stdout=subprocess.DEVNULL, stderr=subprocess.DEVNULL, check=False).returncode == 0
+
+
 def has_replay() -> bool:
     """Whether the built program has the command `replay`."""
-    return IS_BUILT and subprocess.run([str(ECHO), "replay"], input=b"", stdout=subprocess.DEVNULL, stderr=subprocess.DEVNULL, check=False).returncode == 0
+    return has_command("replay")
 
 
 def run_program(word: str, case: bytes) -> bytes:
