@@ -2,10 +2,10 @@
 
 ghost use Rattle.std.specs.Prelude.{◌≡◌, ◌<◌};
 ghost use Rattle.echo_base.specs.Reading.{GivesOrEnds};
-ghost use Rattle.dia_avps.specs.Frame.{padding, head_size, mark_at, frame_at};
+ghost use Rattle.dia_avps.specs.Frame.{padding, head_size, mark_at, frame_at, dia};
 
 use echo_base::{Reason, Refusal};
-use tlv_elements::{Found, Left};
+use tlv_elements::{Found, Framing, Left};
 
 /// The mark of the AVPs of 3GPP, whose vendor is 10415: one more than that. An AVP without a vendor has the mark 0.
 pub const TGPP: u64 = 10416;
@@ -44,7 +44,7 @@ pub(crate) fn padding(size: u32) -> u32
 /// the padding, and a vendor where the flags say so. One that is not whole, padding too, is Truncated at its first octet, and one whose
 /// length is below its head is a DiaAvp with its code there.
 #[tactic(auto, unfolding(crate::specs::Frame::frame_at))]
-pub fn read_frame<'a>(end: u64, left: &mut Left<'a>) -> Result<Found<'a>, Refusal>
+fn read_frame<'a>(end: u64, left: &mut Left<'a>) -> Result<Found<'a>, Refusal>
     ensures { GivesOrEnds result left.new (frame_at end left.old) }
 {
     let place = left.here(end);
@@ -75,4 +75,23 @@ pub fn read_frame<'a>(end: u64, left: &mut Left<'a>) -> Result<Found<'a>, Refusa
         stop,
         value,
     })
+}
+
+/// The AVPs of Diameter: how they are framed, and why they are refused.
+pub struct Avps;
+
+impl Framing for Avps {
+    ghost protocol = { dia };
+
+    fn frame<'a>(end: u64, left: &mut Left<'a>) -> Result<Found<'a>, Refusal> {
+        read_frame(end, left)
+    }
+
+    fn repeated(tag: u32) -> Reason {
+        Reason::RepeatedAvp(tag)
+    }
+
+    fn missing(tag: u32) -> Reason {
+        Reason::MissingAvp(tag)
+    }
 }

@@ -5,9 +5,8 @@ ghost use Rattle.tlv_elements.specs.Grammar.{wrong_at};
 ghost use Rattle.dia_avps.specs.Frame.{dia};
 
 use crate::tables::{check_authentication_info, check_part, check_subscription_data};
-use dia_avps::read_frame;
 use echo_base::{Reason, Refusal};
-use tlv_elements::{Content as ElementContent, Found, Left};
+use tlv_elements::{Content as ElementContent, Found};
 
 /// What the value of an AVP outside of groups is (RFC 6733, 4.2; 3GPP TS 29.272, 7.3).
 #[derive(Clone, Copy)]
@@ -60,21 +59,7 @@ fn told(right: bool, element: &Found) -> Result<(), Refusal>
 impl ElementContent for Member {
     ghost use Rattle.dia_wire.specs.Checks.{member_check};
 
-    ghost protocol = { dia };
-
     ghost check_of = { member_check };
-
-    fn frame<'a>(end: u64, left: &mut Left<'a>) -> Result<Found<'a>, Refusal> {
-        read_frame(end, left)
-    }
-
-    fn repeated(tag: u32) -> Reason {
-        Reason::RepeatedAvp(tag)
-    }
-
-    fn missing(tag: u32) -> Reason {
-        Reason::MissingAvp(tag)
-    }
 
     fn check(self, element: &Found) -> Result<(), Refusal> {
         let value = element.value;
@@ -91,21 +76,7 @@ impl ElementContent for Member {
 impl ElementContent for Part {
     ghost use Rattle.dia_wire.specs.Checks.{part_check};
 
-    ghost protocol = { dia };
-
     ghost check_of = { part_check };
-
-    fn frame<'a>(end: u64, left: &mut Left<'a>) -> Result<Found<'a>, Refusal> {
-        read_frame(end, left)
-    }
-
-    fn repeated(tag: u32) -> Reason {
-        Reason::RepeatedAvp(tag)
-    }
-
-    fn missing(tag: u32) -> Reason {
-        Reason::MissingAvp(tag)
-    }
 
     fn check(self, element: &Found) -> Result<(), Refusal> {
         check_part(self, element)
@@ -115,21 +86,7 @@ impl ElementContent for Part {
 impl ElementContent for Content {
     ghost use Rattle.dia_wire.specs.Checks.{content_check};
 
-    ghost protocol = { dia };
-
     ghost check_of = { content_check };
-
-    fn frame<'a>(end: u64, left: &mut Left<'a>) -> Result<Found<'a>, Refusal> {
-        read_frame(end, left)
-    }
-
-    fn repeated(tag: u32) -> Reason {
-        Reason::RepeatedAvp(tag)
-    }
-
-    fn missing(tag: u32) -> Reason {
-        Reason::MissingAvp(tag)
-    }
 
     fn check(self, element: &Found) -> Result<(), Refusal> {
         let value = element.value;

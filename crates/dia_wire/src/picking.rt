@@ -6,18 +6,17 @@ ghost use Rattle.dia_wire.specs.Commands.{code_of};
 ghost use Rattle.dia_wire.specs.Messages.{succeeded};
 ghost use Rattle.dia_wire.specs.Written.{IsSession, IsSaid};
 
-use crate::content::Content;
 use crate::dia::DiaBody;
 use crate::kind::{Command, code_of};
 use crate::said::{PlainParts, VectorsParts};
-use dia_avps::TGPP;
+use dia_avps::{Avps, TGPP};
 use tlv_elements::{Found, find};
 
 /// The first AVP of that code and vendor.
 fn found<'a>(code: u32, mark: u64, end: u64, octets: &'a [u8]) -> Option<Found<'a>>
     ensures { result ≡ found code mark end octets.now }
 {
-    find::<Content>(end, octets, code, mark)
+    find::<Avps>(end, octets, code, mark)
 }
 
 /// The session.

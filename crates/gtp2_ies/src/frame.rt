@@ -1,15 +1,15 @@
 //! The frame of an information element.
 
 ghost use Rattle.echo_base.specs.Reading.{GivesOrEnds};
-ghost use Rattle.gtp2_ies.specs.Frame.{frame_at};
+ghost use Rattle.gtp2_ies.specs.Frame.{frame_at, gtp};
 
 use echo_base::{Reason, Refusal};
-use tlv_elements::{Found, Left};
+use tlv_elements::{Found, Framing, Left};
 
 /// Reads the frame of an element (3GPP TS 29.274, 8.2.1) in front of octets that end at that place: its type, the length of its
 /// value, and an octet whose low half is its instance. One that is not whole is Truncated at its first octet.
 #[tactic(auto, unfolding(crate::specs::Frame::frame_at))]
-pub fn read_frame<'a>(end: u64, left: &mut Left<'a>) -> Result<Found<'a>, Refusal>
+fn read_frame<'a>(end: u64, left: &mut Left<'a>) -> Result<Found<'a>, Refusal>
     ensures { GivesOrEnds result left.new (frame_at end left.old) }
 {
     let place = left.here(end);
@@ -29,4 +29,23 @@ pub fn read_frame<'a>(end: u64, left: &mut Left<'a>) -> Result<Found<'a>, Refusa
         stop,
         value,
     })
+}
+
+/// The information elements of GTPv2-C: how they are framed, and why they are refused.
+pub struct Ies;
+
+impl Framing for Ies {
+    ghost protocol = { gtp };
+
+    fn frame<'a>(end: u64, left: &mut Left<'a>) -> Result<Found<'a>, Refusal> {
+        read_frame(end, left)
+    }
+
+    fn repeated(tag: u32) -> Reason {
+        Reason::RepeatedIe((tag % 65536) as u16)
+    }
+
+    fn missing(tag: u32) -> Reason {
+        Reason::MissingIe((tag % 65536) as u16)
+    }
 }

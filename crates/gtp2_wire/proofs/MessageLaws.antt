@@ -78,19 +78,24 @@ body_refused kind end behind octets x r = by_refused (rejection kind end octets)
 
 -- ---- the header
 
-kind_found : (octet : ℕ) (kind : Kind) → kind_of octet ≡ Some kind → octet ≡ type_of kind
-kind_found octet kind h = by (eqb octet 32) (eqb octet 33) (eqb octet 34) (eqb octet 35) (eqb octet 36) (eqb octet 37) (eqb octet 170) (eqb octet 171) refl refl refl refl refl refl refl refl h
+kind_next : (octet : ℕ) (one : Kind) (others : Option Kind) (kind : Kind) → (others ≡ Some kind → octet ≡ type_of kind) → cond (eqb octet (type_of one)) (Some one) others ≡ Some kind → octet ≡ type_of kind
+kind_next octet one others kind later h = by (eqb octet (type_of one)) refl h
   where
-    by : (a b c d e f g i : Bool) → eqb octet 32 ≡ a → eqb octet 33 ≡ b → eqb octet 34 ≡ c → eqb octet 35 ≡ d → eqb octet 36 ≡ e → eqb octet 37 ≡ f → eqb octet 170 ≡ g → eqb octet 171 ≡ i → cond a (Some kinds.Create) (cond b (Some kinds.Created) (cond c (Some kinds.Modify) (cond d (Some kinds.Modified) (cond e (Some kinds.Delete) (cond f (Some kinds.Deleted) (cond g (Some kinds.Release) (cond i (Some kinds.Released) None))))))) ≡ Some kind → octet ≡ type_of kind
-    by true b c d e f g i pa pb pc pd pe pf pg pi h = eqb-true octet 32 pa ∙ ap type_of (same_Some kinds.Create kind h)
-    by false true c d e f g i pa pb pc pd pe pf pg pi h = eqb-true octet 33 pb ∙ ap type_of (same_Some kinds.Created kind h)
-    by false false true d e f g i pa pb pc pd pe pf pg pi h = eqb-true octet 34 pc ∙ ap type_of (same_Some kinds.Modify kind h)
-    by false false false true e f g i pa pb pc pd pe pf pg pi h = eqb-true octet 35 pd ∙ ap type_of (same_Some kinds.Modified kind h)
-    by false false false false true f g i pa pb pc pd pe pf pg pi h = eqb-true octet 36 pe ∙ ap type_of (same_Some kinds.Delete kind h)
-    by false false false false false true g i pa pb pc pd pe pf pg pi h = eqb-true octet 37 pf ∙ ap type_of (same_Some kinds.Deleted kind h)
-    by false false false false false false true i pa pb pc pd pe pf pg pi h = eqb-true octet 170 pg ∙ ap type_of (same_Some kinds.Release kind h)
-    by false false false false false false false true pa pb pc pd pe pf pg pi h = eqb-true octet 171 pi ∙ ap type_of (same_Some kinds.Released kind h)
-    by false false false false false false false false pa pb pc pd pe pf pg pi h = absurd cc
+    by : (b : Bool) → eqb octet (type_of one) ≡ b → cond b (Some one) others ≡ Some kind → octet ≡ type_of kind
+    by true e h = eqb-true octet (type_of one) e ∙ ap type_of (same_Some one kind h)
+    by false e h = later h
+
+kind_found : (octet : ℕ) (kind : Kind) → kind_of octet ≡ Some kind → octet ≡ type_of kind
+kind_found octet kind =
+    kind_next octet kinds.Create _ kind (
+    kind_next octet kinds.Created _ kind (
+    kind_next octet kinds.Modify _ kind (
+    kind_next octet kinds.Modified _ kind (
+    kind_next octet kinds.Delete _ kind (
+    kind_next octet kinds.Deleted _ kind (
+    kind_next octet kinds.Release _ kind (
+    kind_next octet kinds.Released _ kind (
+    λ h. absurd cc))))))))
 
 kind_back : (kind : Kind) → kind_of (type_of kind) ≡ Some kind
 kind_back kinds.Create = refl

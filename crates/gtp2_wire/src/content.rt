@@ -6,8 +6,7 @@ ghost use Rattle.gtp2_ies.specs.Frame.{gtp};
 
 use crate::tables::check_bearer;
 use echo_base::{Reason, Refusal};
-use gtp2_ies::read_frame;
-use tlv_elements::{Content as ElementContent, Found, Left};
+use tlv_elements::{Content as ElementContent, Found};
 
 /// What the value of an element outside of groups is (3GPP TS 29.274, 8).
 #[derive(Clone, Copy)]
@@ -60,20 +59,6 @@ pub enum Member {
     Fteid(u8),
 }
 
-/// Why a second one is refused.
-fn repeated_one(tag: u32) -> Reason
-    ensures { result ≡ gtp.repeated tag }
-{
-    Reason::RepeatedIe((tag % 65536) as u16)
-}
-
-/// Why a message without one is refused.
-fn missing_one(tag: u32) -> Reason
-    ensures { result ≡ gtp.missing tag }
-{
-    Reason::MissingIe((tag % 65536) as u16)
-}
-
 /// The refusal of an element of wrong form.
 pub fn wrong(element: &Found) -> Refusal
     ensures { result ≡ wrong_at gtp element.now }
@@ -98,21 +83,7 @@ fn told(right: bool, element: &Found) -> Result<(), Refusal>
 impl ElementContent for Member {
     ghost use Rattle.gtp2_wire.specs.Checks.{member_check};
 
-    ghost protocol = { gtp };
-
     ghost check_of = { member_check };
-
-    fn frame<'a>(end: u64, left: &mut Left<'a>) -> Result<Found<'a>, Refusal> {
-        read_frame(end, left)
-    }
-
-    fn repeated(tag: u32) -> Reason {
-        repeated_one(tag)
-    }
-
-    fn missing(tag: u32) -> Reason {
-        missing_one(tag)
-    }
 
     fn check(self, element: &Found) -> Result<(), Refusal> {
         let value = element.value;
@@ -128,21 +99,7 @@ impl ElementContent for Member {
 impl ElementContent for Content {
     ghost use Rattle.gtp2_wire.specs.Checks.{content_check};
 
-    ghost protocol = { gtp };
-
     ghost check_of = { content_check };
-
-    fn frame<'a>(end: u64, left: &mut Left<'a>) -> Result<Found<'a>, Refusal> {
-        read_frame(end, left)
-    }
-
-    fn repeated(tag: u32) -> Reason {
-        repeated_one(tag)
-    }
-
-    fn missing(tag: u32) -> Reason {
-        missing_one(tag)
-    }
 
     fn check(self, element: &Found) -> Result<(), Refusal> {
         let value = element.value;

@@ -4,16 +4,16 @@ ghost use Rattle.std.specs.Prelude.{◌≡◌, IfSome};
 ghost use Rattle.gtp2_wire.specs.Shapes.{found, pick_create, pick_created, pick_modify, pick_modified, pick_delete};
 ghost use Rattle.gtp2_wire.specs.Written.{IsBody};
 
-use crate::content::Content;
 use crate::gtp::GtpBody;
 use crate::parts::CreateParts;
+use gtp2_ies::Ies;
 use tlv_elements::{Found, find};
 
 /// The first element of that type and instance 0.
 pub fn found<'a>(tag: u32, end: u64, octets: &'a [u8]) -> Option<Found<'a>>
     ensures { result ≡ found tag end octets.now }
 {
-    find::<Content>(end, octets, tag, 0)
+    find::<Ies>(end, octets, tag, 0)
 }
 
 /// What a Create Session Request says.

@@ -12,22 +12,11 @@ ghost use Rattle.gtp2_wire.specs.Shapes.{kind_rules};
 use crate::content::{Bearer, Content, Member, wrong};
 use crate::kind::Kind;
 use echo_base::Refusal;
+use gtp2_ies::Ies;
 use tlv_elements::{Found, Row, read_whole};
 
-/// A row of a message.
-fn row(tag: u32, needed: bool, content: Content) -> Row<Content>
-    ensures { result ≡ record { tag = tag; mark = 0; needed = needed; content = content } }
-{
-    Row {
-        tag,
-        mark: 0,
-        needed,
-        content,
-    }
-}
-
-/// A row of a bearer context.
-fn member(tag: u32, needed: bool, content: Member) -> Row<Member>
+/// A row of a table.
+fn row<T>(tag: u32, needed: bool, content: T) -> Row<T>
     ensures { result ≡ record { tag = tag; mark = 0; needed = needed; content = content } }
 {
     Row {
@@ -46,22 +35,22 @@ fn read_bearer(which: Bearer, all: bool, element: &Found) -> Result<(), Refusal>
     let end = element.stop;
     let octets = element.value;
     match which {
-        Bearer::Create => read_whole(&[
-            member(73, true, Member::Ebi),
-            member(80, true, Member::Qos),
+        Bearer::Create => read_whole::<Ies, Member>(&[
+            row(73, true, Member::Ebi),
+            row(80, true, Member::Qos),
         ], end, false, octets),
-        Bearer::Created => read_whole(&[
-            member(73, all, Member::Ebi),
-            member(2, all, Member::Cause),
-            member(87, all, Member::Fteid(0x81)),
+        Bearer::Created => read_whole::<Ies, Member>(&[
+            row(73, all, Member::Ebi),
+            row(2, all, Member::Cause),
+            row(87, all, Member::Fteid(0x81)),
         ], end, false, octets),
-        Bearer::Modify => read_whole(&[
-            member(73, true, Member::Ebi),
-            member(87, true, Member::Fteid(0x80)),
+        Bearer::Modify => read_whole::<Ies, Member>(&[
+            row(73, true, Member::Ebi),
+            row(87, true, Member::Fteid(0x80)),
         ], end, false, octets),
-        Bearer::Modified => read_whole(&[
-            member(73, all, Member::Ebi),
-            member(2, all, Member::Cause),
+        Bearer::Modified => read_whole::<Ies, Member>(&[
+            row(73, all, Member::Ebi),
+            row(2, all, Member::Cause),
         ], end, false, octets),
     }
 }
@@ -82,7 +71,7 @@ pub fn read_elements(kind: Kind, all: bool, end: u64, behind: bool, octets: &[u8
     ensures { result ≡ whole_at gtp (kind_rules kind all) end behind octets.now }
 {
     match kind {
-        Kind::Create => read_whole(&[
+        Kind::Create => read_whole::<Ies, Content>(&[
             row(1, true, Content::Imsi),
             row(82, true, Content::Exactly(6)),
             row(87, true, Content::Fteid(0x8a)),
@@ -92,19 +81,19 @@ pub fn read_elements(kind: Kind, all: bool, end: u64, behind: bool, octets: &[u8
             row(72, true, Content::Rates),
             row(93, true, Content::Bearer(Bearer::Create, true)),
         ], end, behind, octets),
-        Kind::Created => read_whole(&[
+        Kind::Created => read_whole::<Ies, Content>(&[
             row(2, true, Content::Cause),
             row(87, all, Content::Fteid(0x8b)),
             row(79, all, Content::Address),
             row(93, all, Content::Bearer(Bearer::Created, all)),
         ], end, behind, octets),
-        Kind::Modify => read_whole(&[row(93, true, Content::Bearer(Bearer::Modify, true))], end, behind, octets),
-        Kind::Modified => read_whole(&[
+        Kind::Modify => read_whole::<Ies, Content>(&[row(93, true, Content::Bearer(Bearer::Modify, true))], end, behind, octets),
+        Kind::Modified => read_whole::<Ies, Content>(&[
             row(2, true, Content::Cause),
             row(93, all, Content::Bearer(Bearer::Modified, all)),
         ], end, behind, octets),
-        Kind::Delete => read_whole(&[row(73, true, Content::Ebi)], end, behind, octets),
-        Kind::Deleted | Kind::Released => read_whole(&[row(2, true, Content::Cause)], end, behind, octets),
-        Kind::Release => read_whole::<Content>(&[], end, behind, octets),
+        Kind::Delete => read_whole::<Ies, Content>(&[row(73, true, Content::Ebi)], end, behind, octets),
+        Kind::Deleted | Kind::Released => read_whole::<Ies, Content>(&[row(2, true, Content::Cause)], end, behind, octets),
+        Kind::Release => read_whole::<Ies, Content>(&[], end, behind, octets),
     }
 }
