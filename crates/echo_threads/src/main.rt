@@ -3,6 +3,7 @@
 #![tactic(auto)]
 
 use echo_base::{RealSink, RealSource};
+use std::mem;
 use std::process::ExitCode;
 use thread_run::threads_top;
 use top_calls::{program_end, program_words};
@@ -14,7 +15,7 @@ fn main(rt: HostRuntime) -> ExitCode {
             let mut input = RealSource::new(rt.stdin());
             let mut output = RealSink::new(rt.stdout());
             let mut floor = None;
-            threads_top(
+            let status = threads_top(
                 &rt,
                 rt.alloc(),
                 &words,
@@ -22,7 +23,9 @@ fn main(rt: HostRuntime) -> ExitCode {
                 &mut output,
                 &OpenGate,
                 &mut floor,
-            )
+            );
+            mem::forget(floor); // its memory goes with the process, at once
+            status
         }
         Err(status) => status,
     };
