@@ -19,7 +19,7 @@ use std::alloc::AllocError;
 use std::sync::Wait;
 
 /// With how many inputs of a device a worker goes on by itself, and with more while an answer is awaited.
-const GOES_ON: u32 = 32;
+const GOES_ON: u32 = 128;
 
 /// The answer to call `k` of a lane, brought to its peer behind those before it that have not come. None where the row does not
 /// give a call.
