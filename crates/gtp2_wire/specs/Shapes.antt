@@ -41,36 +41,36 @@ make_delete f = body.Delete f.0
 abbrev pub found : ℕ → ℕ → List ℕ → Option Element
 found tag end octets = find_at gtp end tag 0 octets
 
+-- the bearer that it says, and the tunnel of an interface
+abbrev pub ebi_at : ℕ → List ℕ → Option ℕ
+ebi_at end octets = and_then (found 73 end octets) (λ e. ebi.decode e.value)
+
+abbrev pub fteid_at : ℕ → ℕ → List ℕ → Option (ℕ × ℕ)
+fteid_at whose end octets = and_then (found 87 end octets) (λ e. (fteid whose).decode e.value)
+
 abbrev pub pick_create : ℕ → List ℕ → Option GtpBody
 pick_create end octets =
-    and_then (found 1 end octets) (λ e. and_then (imsi.decode e.value) (λ subscriber.
-    and_then (found 87 end octets) (λ e. and_then ((fteid 0x8a).decode e.value) (λ sender.
-    and_then (found 71 end octets) (λ e. and_then (apn.decode e.value) (λ name.
-    and_then (found 72 end octets) (λ e. and_then (rates.decode e.value) (λ rate.
-    and_then (found 93 end octets) (λ bearer. and_then (found 73 bearer.stop bearer.value) (λ e. and_then (ebi.decode e.value) (λ id.
-    Some (body.Create subscriber id name rate.0 rate.1 sender.1 sender.0))))))))))))
+    and_then (found 1 end octets) (λ e. and_then (imsi.decode e.value) (λ subscriber. and_then (fteid_at 0x8a end octets) (λ sender.
+    and_then (found 71 end octets) (λ e. and_then (apn.decode e.value) (λ name. and_then (found 72 end octets) (λ e. and_then (rates.decode e.value) (λ rate.
+    and_then (found 93 end octets) (λ bearer. and_then (ebi_at bearer.stop bearer.value) (λ id.
+    Some (body.Create subscriber id name rate.0 rate.1 sender.1 sender.0))))))))))
 
 abbrev pub pick_created : ℕ → List ℕ → Option GtpBody
 pick_created end octets =
-    and_then (found 87 end octets) (λ e. and_then ((fteid 0x8b).decode e.value) (λ sender.
-    and_then (found 79 end octets) (λ e. and_then (address.decode e.value) (λ ip.
-    and_then (found 93 end octets) (λ bearer. and_then (found 73 bearer.stop bearer.value) (λ e. and_then (ebi.decode e.value) (λ id.
-    and_then (found 87 bearer.stop bearer.value) (λ e. and_then ((fteid 0x81).decode e.value) (λ tunnel.
-    Some (body.Created sender.1 sender.0 ip id tunnel.1 tunnel.0))))))))))
+    and_then (fteid_at 0x8b end octets) (λ sender. and_then (found 79 end octets) (λ e. and_then (address.decode e.value) (λ ip.
+    and_then (found 93 end octets) (λ bearer. and_then (ebi_at bearer.stop bearer.value) (λ id. and_then (fteid_at 0x81 bearer.stop bearer.value) (λ tunnel.
+    Some (body.Created sender.1 sender.0 ip id tunnel.1 tunnel.0)))))))
 
 abbrev pub pick_modify : ℕ → List ℕ → Option GtpBody
 pick_modify end octets =
-    and_then (found 93 end octets) (λ bearer. and_then (found 73 bearer.stop bearer.value) (λ e. and_then (ebi.decode e.value) (λ id.
-    and_then (found 87 bearer.stop bearer.value) (λ e. and_then ((fteid 0x80).decode e.value) (λ tunnel.
-    Some (body.Modify id tunnel.1 tunnel.0))))))
+    and_then (found 93 end octets) (λ bearer. and_then (ebi_at bearer.stop bearer.value) (λ id. and_then (fteid_at 0x80 bearer.stop bearer.value) (λ tunnel.
+    Some (body.Modify id tunnel.1 tunnel.0))))
 
 abbrev pub pick_modified : ℕ → List ℕ → Option GtpBody
-pick_modified end octets =
-    and_then (found 93 end octets) (λ bearer. and_then (found 73 bearer.stop bearer.value) (λ e. and_then (ebi.decode e.value) (λ id.
-    Some (body.Modified id))))
+pick_modified end octets = and_then (found 93 end octets) (λ bearer. and_then (ebi_at bearer.stop bearer.value) (λ id. Some (body.Modified id)))
 
 abbrev pub pick_delete : ℕ → List ℕ → Option GtpBody
-pick_delete end octets = and_then (found 73 end octets) (λ e. and_then (ebi.decode e.value) (λ id. Some (body.Delete id)))
+pick_delete end octets = and_then (ebi_at end octets) (λ id. Some (body.Delete id))
 
 -- ---- all kinds
 

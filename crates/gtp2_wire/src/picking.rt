@@ -1,8 +1,8 @@
 //! What messages say, picked out of octets that are known to be right.
 
 ghost use Rattle.std.specs.Prelude.{◌≡◌, IfSome};
-ghost use Rattle.gtp2_wire.specs.Shapes.{found, pick_create, pick_created, pick_modify, pick_modified, pick_delete};
-ghost use Rattle.gtp2_wire.specs.Written.{IsBody};
+ghost use Rattle.gtp2_wire.specs.Shapes.{found, ebi_at, fteid_at, pick_create, pick_created, pick_modify, pick_modified, pick_delete};
+ghost use Rattle.gtp2_wire.specs.Written.{IsBearer, IsBody};
 
 use crate::gtp::GtpBody;
 use crate::parts::CreateParts;
@@ -16,6 +16,23 @@ pub fn found<'a>(tag: u32, end: u64, octets: &'a [u8]) -> Option<Found<'a>>
     find::<Ies>(end, octets, tag, 0)
 }
 
+/// The bearer.
+fn ebi(end: u64, octets: &[u8]) -> Option<u8>
+    ensures value { result ≡ ebi_at end octets.now }
+    ensures range { IfSome result IsBearer }
+{
+    let id = found(73, end, octets)?;
+    gtp2_ies::ebi(id.value)
+}
+
+/// The TEID and the address of the tunnel at that interface.
+fn fteid(whose: u8, end: u64, octets: &[u8]) -> Option<(u32, u32)>
+    ensures { result ≡ fteid_at whose end octets.now }
+{
+    let tunnel = found(87, end, octets)?;
+    gtp2_ies::fteid(tunnel.value, whose)
+}
+
 /// What a Create Session Request says.
 pub fn pick_create<'a>(end: u64, octets: &'a [u8]) -> Option<CreateParts<'a>>
     ensures picked { result ≡ pick_create end octets.now }
@@ -23,15 +40,13 @@ pub fn pick_create<'a>(end: u64, octets: &'a [u8]) -> Option<CreateParts<'a>>
 {
     let subscriber = found(1, end, octets)?;
     let imsi = gtp2_ies::imsi(subscriber.value)?;
-    let sender = found(87, end, octets)?;
-    let (control, addr) = gtp2_ies::fteid(sender.value, 0x8a)?;
+    let (control, addr) = fteid(0x8a, end, octets)?;
     let name = found(71, end, octets)?;
     let apn = gtp2_ies::apn(name.value)?;
     let rates = found(72, end, octets)?;
     let (ul, dl) = gtp2_ies::rates(rates.value)?;
     let bearer = found(93, end, octets)?;
-    let id = found(73, bearer.stop, bearer.value)?;
-    let ebi = gtp2_ies::ebi(id.value)?;
+    let ebi = ebi(bearer.stop, bearer.value)?;
     Some(CreateParts {
         imsi,
         ebi,
@@ -48,15 +63,12 @@ pub fn pick_created(end: u64, octets: &[u8]) -> Option<GtpBody>
     ensures picked { result ≡ pick_created end octets.now }
     ensures written { IfSome result IsBody }
 {
-    let sender = found(87, end, octets)?;
-    let (control, control_addr) = gtp2_ies::fteid(sender.value, 0x8b)?;
+    let (control, control_addr) = fteid(0x8b, end, octets)?;
     let allocation = found(79, end, octets)?;
     let ip = gtp2_ies::address(allocation.value)?;
     let bearer = found(93, end, octets)?;
-    let id = found(73, bearer.stop, bearer.value)?;
-    let ebi = gtp2_ies::ebi(id.value)?;
-    let tunnel = found(87, bearer.stop, bearer.value)?;
-    let (teid, addr) = gtp2_ies::fteid(tunnel.value, 0x81)?;
+    let ebi = ebi(bearer.stop, bearer.value)?;
+    let (teid, addr) = fteid(0x81, bearer.stop, bearer.value)?;
     Some(GtpBody::Created {
         control_addr,
         control,
@@ -73,10 +85,8 @@ pub fn pick_modify(end: u64, octets: &[u8]) -> Option<GtpBody>
     ensures written { IfSome result IsBody }
 {
     let bearer = found(93, end, octets)?;
-    let id = found(73, bearer.stop, bearer.value)?;
-    let ebi = gtp2_ies::ebi(id.value)?;
-    let tunnel = found(87, bearer.stop, bearer.value)?;
-    let (teid, addr) = gtp2_ies::fteid(tunnel.value, 0x80)?;
+    let ebi = ebi(bearer.stop, bearer.value)?;
+    let (teid, addr) = fteid(0x80, bearer.stop, bearer.value)?;
     Some(GtpBody::Modify { ebi, addr, teid })
 }
 
@@ -86,8 +96,7 @@ pub fn pick_modified(end: u64, octets: &[u8]) -> Option<GtpBody>
     ensures written { IfSome result IsBody }
 {
     let bearer = found(93, end, octets)?;
-    let id = found(73, bearer.stop, bearer.value)?;
-    let ebi = gtp2_ies::ebi(id.value)?;
+    let ebi = ebi(bearer.stop, bearer.value)?;
     Some(GtpBody::Modified { ebi })
 }
 
@@ -96,7 +105,6 @@ pub fn pick_delete(end: u64, octets: &[u8]) -> Option<GtpBody>
     ensures picked { result ≡ pick_delete end octets.now }
     ensures written { IfSome result IsBody }
 {
-    let id = found(73, end, octets)?;
-    let ebi = gtp2_ies::ebi(id.value)?;
+    let ebi = ebi(end, octets)?;
     Some(GtpBody::Delete { ebi })
 }
