@@ -13,9 +13,7 @@ use Rattle.crash_run.specs.Text.{crash_text}
 use Rattle.epoch_run.specs.Text.{device_text}
 use Rattle.device_machine.specs.Ends.{finals_of}
 use Rattle.report_text.specs.Calls.{s11_text, s6a_text}
-use Rattle.report_text.specs.Show.{show_text}
-use Rattle.report_text.specs.ShowGtp.{show_gtp_text}
-use Rattle.report_text.specs.ShowDia.{show_dia_text}
+use Rattle.report_text.specs.Show.{show_text, show_gtp_text, show_dia_text}
 use Rattle.command_words.specs.declared.command.Command.{Command}
 use Rattle.command_words.specs.declared.command.Command.TheVariants.{Plain, Replay, Show, S11, S6a, Make, Epochs, Crash}
 use Rattle.command_words.specs.declared.command.Protocol.{Protocol}

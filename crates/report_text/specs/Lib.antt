@@ -5,8 +5,6 @@ pub mod Final
 pub mod Lines
 pub mod Session
 pub mod Show
-pub mod ShowGtp
-pub mod ShowDia
 pub mod Status
 pub mod Summary
 pub mod Transcript
