@@ -8,25 +8,7 @@ ghost use Rattle.dia_avps.specs.Values.{unsigned, plmn, imsi, digit_run, imsi_ru
 use crate::frame::{TGPP, padding};
 use byteorder::{BigEndian, ByteOrder};
 use echo_base::OutOfMemory;
-
-/// A number of three octets.
-pub fn put_u24(out: &mut Vec<u8>, n: u32) -> Result<(), OutOfMemory>
-    requires { n < 2 ^ 24 }
-    ensures { OnOk result (out.new.items ≡ out.old.items ++ number_run 3 n) }
-{
-    let mut octets = [0; 3];
-    BigEndian::write_u24(&mut octets, n);
-    out.extend_from_slice(&octets)
-}
-
-/// A number of four octets.
-pub fn put_u32(out: &mut Vec<u8>, n: u32) -> Result<(), OutOfMemory>
-    ensures { OnOk result (out.new.items ≡ out.old.items ++ number_run 4 n) }
-{
-    let mut octets = [0; 4];
-    BigEndian::write_u32(&mut octets, n);
-    out.extend_from_slice(&octets)
-}
+use tlv_elements::{put_u24, put_u32};
 
 /// The head of an AVP whose value has so many octets: mandatory, and with its vendor where it has one.
 pub fn put_head(out: &mut Vec<u8>, code: u32, mark: u64, count: u32) -> Result<(), OutOfMemory>

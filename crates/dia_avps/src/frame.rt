@@ -5,7 +5,7 @@ ghost use Rattle.echo_base.specs.Reading.{GivesOrEnds};
 ghost use Rattle.dia_avps.specs.Frame.{padding, head_size, mark_at, frame_at, dia};
 
 use echo_base::{Reason, Refusal};
-use tlv_elements::{Found, Framing, Left};
+use tlv_elements::{Found, Framing, Left, truncated};
 
 /// The mark of the AVPs of 3GPP, whose vendor is 10415: one more than that. An AVP without a vendor has the mark 0.
 pub const TGPP: u64 = 10416;
@@ -48,10 +48,7 @@ fn read_frame<'a>(end: u64, left: &mut Left<'a>) -> Result<Found<'a>, Refusal>
     ensures { GivesOrEnds result left.new (frame_at end left.old) }
 {
     let place = left.here(end);
-    let short = Refusal {
-        reason: Reason::Truncated,
-        place,
-    };
+    let short = truncated(place);
     let tag = left.u32(short)?;
     let flags = left.octet(short)?;
     let size = left.u24(short)?;

@@ -6,6 +6,6 @@ mod avps;
 mod frame;
 mod values;
 
-pub use avps::{put, put_head, put_imsi, put_plmn, put_u24, put_u32, put_unsigned};
+pub use avps::{put, put_head, put_imsi, put_plmn, put_unsigned};
 pub use frame::{Avps, TGPP};
 pub use values::{imsi, plmn, session, sized, unsigned};

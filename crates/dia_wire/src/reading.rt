@@ -5,7 +5,6 @@ ghost use Rattle.echo_base.specs.declared.refusal.Refusal.{Refusal};
 ghost use Rattle.echo_base.specs.declared.refusal.Bad.TheVariants.{Refused};
 ghost use Rattle.echo_base.specs.Answer.{Answers, IsAnswerTaking};
 ghost use Rattle.echo_base.specs.Reading.{GivesOrEnds, GivesTaking};
-ghost use Rattle.tlv_elements.specs.Element.{refusal_at, truncated};
 ghost use Rattle.tlv_elements.specs.Reading.{or_wrong};
 ghost use Rattle.dia_wire.specs.declared.dia.Dia.{Dia};
 ghost use Rattle.dia_wire.specs.Shapes.{shape_of};
@@ -23,7 +22,7 @@ use crate::said::{PlainParts, Said, VectorsParts};
 use crate::tables::read_avps;
 use echo_base::{Bad, Reason, Refusal};
 use std::alloc::Global;
-use tlv_elements::Left;
+use tlv_elements::{Left, truncated};
 
 /// What would be told of a value that is missing in octets that are right: none ever is.
 const NEVER: Refusal = Refusal {
@@ -106,20 +105,6 @@ fn read_said(alloc: Global, kind: Kind, end: u64, behind: bool, octets: &[u8]) -
     pick(alloc, kind, end, octets)
 }
 
-/// A refusal at a place.
-fn at(reason: Reason, place: u64) -> Refusal
-    ensures { result ≡ refusal_at reason place }
-{
-    Refusal { reason, place }
-}
-
-/// The refusal of what is not whole.
-fn truncated(place: u64) -> Refusal
-    ensures { result ≡ truncated place }
-{
-    at(Reason::Truncated, place)
-}
-
 /// The header (RFC 6733, 3), and the octets that its length counts behind it.
 #[tactic(auto, unfolding(crate::specs::Messages::header_at))]
 fn read_header<'a>(left: &mut Left<'a>) -> Result<Header<'a>, Refusal>
@@ -127,7 +112,10 @@ fn read_header<'a>(left: &mut Left<'a>) -> Result<Header<'a>, Refusal>
 {
     let version = left.octet(truncated(0))?;
     if version != 1 {
-        return Err(at(Reason::DiaHeader, 0));
+        return Err(Refusal {
+            reason: Reason::DiaHeader,
+            place: 0,
+        });
     }
     let short = truncated(1);
     let size = left.u24(short)?;
@@ -138,11 +126,17 @@ fn read_header<'a>(left: &mut Left<'a>) -> Result<Header<'a>, Refusal>
     let flags = left.octet(short)?;
     let code = left.u24(short)?;
     let Some(command) = command_of(code) else {
-        return Err(at(Reason::DiaCommand(code), 5));
+        return Err(Refusal {
+            reason: Reason::DiaCommand(code),
+            place: 5,
+        });
     };
     let application = left.u32(short)?;
     if application != 0x0100_0023 {
-        return Err(at(Reason::DiaHeader, 8));
+        return Err(Refusal {
+            reason: Reason::DiaHeader,
+            place: 8,
+        });
     }
     let hop = left.u32(short)?;
     let end_to_end = left.u32(short)?;

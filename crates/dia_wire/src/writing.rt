@@ -10,9 +10,10 @@ ghost use Rattle.dia_wire.specs.Written.{flags_of, body_run, head_run, dia_run, 
 
 use crate::dia::{Dia, DiaBody};
 use device_types::Octets;
-use dia_avps::{TGPP, put, put_head, put_imsi, put_plmn, put_u24, put_u32, put_unsigned};
+use dia_avps::{TGPP, put, put_head, put_imsi, put_plmn, put_unsigned};
 use echo_base::OutOfMemory;
 use std::alloc::Global;
+use tlv_elements::{put_u24, put_u32};
 
 /// The AVPs that stand aside between Session-Id and User-Name of a request.
 fn put_asker(out: &mut Vec<u8>) -> Result<(), OutOfMemory>

@@ -4,7 +4,7 @@ ghost use Rattle.echo_base.specs.Reading.{GivesOrEnds};
 ghost use Rattle.gtp2_ies.specs.Frame.{frame_at, gtp};
 
 use echo_base::{Reason, Refusal};
-use tlv_elements::{Found, Framing, Left};
+use tlv_elements::{Found, Framing, Left, truncated};
 
 /// Reads the frame of an element (3GPP TS 29.274, 8.2.1) in front of octets that end at that place: its type, the length of its
 /// value, and an octet whose low half is its instance. One that is not whole is Truncated at its first octet.
@@ -13,10 +13,7 @@ fn read_frame<'a>(end: u64, left: &mut Left<'a>) -> Result<Found<'a>, Refusal>
     ensures { GivesOrEnds result left.new (frame_at end left.old) }
 {
     let place = left.here(end);
-    let short = Refusal {
-        reason: Reason::Truncated,
-        place,
-    };
+    let short = truncated(place);
     let tag = left.octet(short)?;
     let size = left.u16(short)?;
     let instance = left.octet(short)?;

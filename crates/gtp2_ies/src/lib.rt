@@ -8,7 +8,6 @@ mod values;
 
 pub use elements::{
     put_address, put_apn, put_cause, put_fteid, put_head, put_imsi, put_octet, put_qos, put_rates,
-    put_u16, put_u24, put_u32,
 };
 pub use frame::Ies;
 pub use values::{address, apn, cause, ebi, exactly, fteid, imsi, no_address, qos, rates};

@@ -5,7 +5,6 @@ ghost use Rattle.echo_base.specs.declared.refusal.Refusal.{Refusal};
 ghost use Rattle.echo_base.specs.declared.refusal.Bad.TheVariants.{Refused};
 ghost use Rattle.echo_base.specs.Answer.{Answers, IsAnswerTaking};
 ghost use Rattle.echo_base.specs.Reading.{GivesOrEnds, GivesTaking};
-ghost use Rattle.tlv_elements.specs.Element.{refusal_at, truncated};
 ghost use Rattle.tlv_elements.specs.Reading.{or_wrong};
 ghost use Rattle.gtp2_wire.specs.declared.gtp.Gtp.{Gtp};
 ghost use Rattle.gtp2_wire.specs.declared.gtp.GtpBody.TheVariants.{Rejected};
@@ -21,7 +20,7 @@ use crate::picking::{found, pick_create, pick_created, pick_delete, pick_modifie
 use crate::tables::read_elements;
 use echo_base::{Bad, Reason, Refusal};
 use std::alloc::Global;
-use tlv_elements::Left;
+use tlv_elements::{Left, truncated};
 
 /// What would be told of a value that is missing in octets that are right: none ever is.
 const NEVER: Refusal = Refusal {
@@ -108,20 +107,6 @@ fn read_body(
     pick(alloc, kind, end, octets)
 }
 
-/// A refusal at a place.
-fn at(reason: Reason, place: u64) -> Refusal
-    ensures { result ≡ refusal_at reason place }
-{
-    Refusal { reason, place }
-}
-
-/// The refusal of what is not whole.
-fn truncated(place: u64) -> Refusal
-    ensures { result ≡ truncated place }
-{
-    at(Reason::Truncated, place)
-}
-
 /// The header (5.1), and the octets that its length counts behind it.
 #[tactic(auto, unfolding(crate::specs::Messages::header_at))]
 fn read_header<'a>(left: &mut Left<'a>) -> Result<Header<'a>, Refusal>
@@ -130,11 +115,17 @@ fn read_header<'a>(left: &mut Left<'a>) -> Result<Header<'a>, Refusal>
 {
     let first = left.octet(truncated(0))?;
     if first != 0x48 {
-        return Err(at(Reason::GtpHeader, 0));
+        return Err(Refusal {
+            reason: Reason::GtpHeader,
+            place: 0,
+        });
     }
     let octet = left.octet(truncated(1))?;
     let Some(kind) = kind_of(octet) else {
-        return Err(at(Reason::GtpType(octet), 1));
+        return Err(Refusal {
+            reason: Reason::GtpType(octet),
+            place: 1,
+        });
     };
     let short = truncated(2);
     let size = left.u16(short)?;

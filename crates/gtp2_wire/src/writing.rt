@@ -14,9 +14,9 @@ use device_types::Octets;
 use echo_base::OutOfMemory;
 use gtp2_ies::{
     put_address, put_apn, put_cause, put_fteid, put_head, put_imsi, put_octet, put_qos, put_rates,
-    put_u16, put_u24, put_u32,
 };
 use std::alloc::Global;
+use tlv_elements::{put_u16, put_u24, put_u32};
 
 /// The bearer context of a Create Session Request.
 fn put_create_bearer(out: &mut Vec<u8>, ebi: u8) -> Result<(), OutOfMemory>

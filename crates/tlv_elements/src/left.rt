@@ -3,12 +3,12 @@
 ghost use Rattle.std.specs.Prelude.{◌≡◌, ◌-◌, ◌^◌, ◌<◌, [], ◌↔◌, IsTrue, IfOk, length};
 ghost use Rattle.byteorder.specs.Endian.{big_number};
 ghost use Rattle.echo_base.specs.Field.{octet_at, octets_at, number_at};
-ghost use Rattle.tlv_elements.specs.Element.{room_at};
+ghost use Rattle.tlv_elements.specs.Element.{room_at, truncated};
 ghost use Rattle.tlv_elements.specs.Piece.{end_at, given_at};
 ghost use Rattle.echo_base.specs.Reading.{GivesOrEnds, GivesOrEndsBy};
 
 use byteorder::{BigEndian, ByteOrder};
-use echo_base::Refusal;
+use echo_base::{Reason, Refusal};
 use std::marker::Model;
 
 /// The number of three octets, the highest first.
@@ -18,6 +18,16 @@ fn number_of_three(octets: &[u8]) -> u32
     ensures range { result < 2 ^ 24 }
 {
     BigEndian::read_u24(octets)
+}
+
+/// The refusal of what is not whole.
+pub fn truncated(place: u64) -> Refusal
+    ensures { result ≡ truncated place }
+{
+    Refusal {
+        reason: Reason::Truncated,
+        place,
+    }
 }
 
 /// The octets of a message that are still to be read.
