@@ -16,9 +16,9 @@ mod whole;
 
 pub use epochs::{epoch_line, merge_line};
 pub use gateway_calls::s11_text;
+pub use messages::{show_dia_text, show_gtp_text, show_text};
 pub use server_calls::s6a_text;
 pub use session::session_line;
-pub use messages::{show_dia_text, show_gtp_text, show_text};
 pub use status::status_line;
 pub use summary::{Scheduled, Summary, summary_line};
 pub use transcript::transcript_line;
