@@ -8,7 +8,7 @@ use Rattle.echo_base.specs.Refusal.{refusal_text}
 use Rattle.echo_base.specs.Answer.{◌>>=◌}
 use Rattle.case_form.specs.declared.case.TraceLine.{TraceLine}
 use Rattle.case_form.specs.declared.case.TraceKind.{TraceKind}
-use Rattle.case_form.specs.declared.case.TraceKind.TheVariants as line
+use Rattle.case_form.specs.declared.case.TraceKind.TheVariants as kinds
 use Rattle.s1ap_pdu.specs.declared.pdu.Pdu.{Pdu}
 use Rattle.s1ap_pdu.specs.Messages.{kind_of, name_of}
 use Rattle.s1ap_pdu.specs.Built.{message_at}
@@ -61,8 +61,8 @@ shown p line (Err e) = ended (refusal_line line e)
 
 -- a notice is passed over
 abbrev pub kind_text : {M : Type 0} → Shown M → ℕ → TraceKind → List ℕ
-kind_text p line (line.Pdu station text) = shown p line (message_of p text)
-kind_text p line (line.Data imsi) = []
+kind_text p line (kinds.Pdu station text) = shown p line (message_of p text)
+kind_text p line (kinds.Data imsi) = []
 
 abbrev pub line_text : {M : Type 0} → Shown M → TraceLine → List ℕ
 line_text p line = kind_text p line.line line.kind
