@@ -12,6 +12,8 @@ mod s1ap_ies_values;
 #[cfg(test)]
 mod s1ap_messages_changed;
 #[cfg(test)]
+mod s1ap_messages_damaged;
+#[cfg(test)]
 mod s1ap_messages_long;
 #[cfg(test)]
 mod s1ap_messages_orders;

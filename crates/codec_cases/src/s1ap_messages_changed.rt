@@ -21,11 +21,16 @@ const CASES: [(&str, &str); 3] = [
     ),
 ];
 
-/// The octets with the one at that place inverted.
-fn inverted(alloc: Global, octets: &[u8], place: usize) -> Result<Vec<u8>, OutOfMemory> {
+/// The octets with these bits of the one at that place inverted.
+pub(crate) fn changed(
+    alloc: Global,
+    octets: &[u8],
+    place: usize,
+    bits: u8,
+) -> Result<Vec<u8>, OutOfMemory> {
     let mut changed = Vec::from_slice(alloc, octets)?;
     if let Some(octet) = changed.get_mut(place) {
-        *octet = !*octet;
+        *octet ^= bits;
     }
     Ok(changed)
 }
@@ -43,7 +48,7 @@ fn cut(alloc: Global, octets: &[u8], left: usize) -> Result<Vec<u8>, OutOfMemory
 /// Writes what is told of the octets with each of them inverted, and cut behind the first four to all but one, a line each.
 fn tell_changes(alloc: Global, text: &mut String, octets: &[u8]) -> Result<(), OutOfMemory> {
     for place in 0..octets.len() {
-        tell_refusal(alloc, text, &inverted(alloc, octets, place)?)?;
+        tell_refusal(alloc, text, &changed(alloc, octets, place, 0xff)?)?;
         text.push('\n')?;
     }
     for left in 4..octets.len() {

@@ -69,6 +69,8 @@ const MESSAGES: &str = "
 # three IEs, 65535 IEs, of which there are two
 2017000f000003000040020001000840020001 1 Truncated at 19
 2017000f00ffff000040020001000840020001 1 Truncated at 19
+# 65535 IEs, of which there is none
+000c400300ffff 1 Truncated at 7
 # one IE, none, of which there are two
 2017000f000001000040020001000840020001 13 TrailingBytes at 13
 2017000f000000000040020001000840020001 13 TrailingBytes at 7
@@ -248,46 +250,3 @@ const MESSAGES: &str = "
 200900220000030000400200010008400200010033400f000027400a0a1fc0a8000200000002 11 MissingIe 50 at 24
 0009002600000300000002000100080002000100180013000011000e050009200f80c0a8000100000002 11 MissingIe 52 at 24
 ";
-
-/// Messages that are cut anywhere: at the length where it is there, and else where the octets end.
-const CUT: [&str; 6] = [
-    "000c403e000005000800020001001a00161507417108298039000000001002e0e000040201d011004300060002f8390001006440080002f839000000100086400130",
-    "000c4037000006000800020001001a000504c7000000004300060002f8390001006440080002f83900000010008640014000600006004000000001",
-    "0017001000000200630004000100010002400120",
-    "000a4027000004005040020040002b4006001000000001006d400100002e400b00002f40060002f8390001",
-    "0005003700000300000002000100080002000100100024000011001f0c0009200f80c0a8000100000002106202c101090403696d7305010a2d8001",
-    "20050022000003000040020001000840020001001c400f000027400a0c1fc0a8000200000003",
-];
-
-/// Writes why each beginning of the octets is refused, and in the other text what is wanted.
-fn tell_cuts(
-    alloc: Global,
-    text: &mut String,
-    wanted: &mut String,
-    octets: &[u8],
-) -> Result<(), OutOfMemory> {
-    for n in 0..octets.len() {
-        tell_refusal(alloc, text, &octets[..n])?;
-        text.push('\n')?;
-        let place = n.min(3);
-        write!(wanted, "1 Truncated at {place}\n")?;
-    }
-    Ok(())
-}
-
-/// Writes what `tell_cuts` writes of each message.
-fn tell_all_cuts(alloc: Global, text: &mut String, wanted: &mut String) -> Result<(), Fail> {
-    for digits in CUT {
-        tell_cuts(alloc, text, wanted, &hex::decode(alloc, digits)?)?;
-    }
-    Ok(())
-}
-
-#[test]
-fn cut_messages(rt: HostRuntime) -> Result<(), Fail> {
-    let mut text = String::new(rt.alloc());
-    let mut wanted = String::new(rt.alloc());
-    tell_all_cuts(rt.alloc(), &mut text, &mut wanted)?;
-    assert_eq!(rt; text.as_str(), wanted.as_str());
-    Ok(())
-}

@@ -8,7 +8,7 @@ use std::alloc::Global;
 use std::test::Fail;
 
 /// Are both printed alike?
-fn are_alike(alloc: Global, one: &Pdu, other: &Pdu) -> Result<bool, Fail> {
+pub(crate) fn are_alike(alloc: Global, one: &Pdu, other: &Pdu) -> Result<bool, Fail> {
     let one = format!(in alloc; "{one:?}")?;
     let other = format!(in alloc; "{other:?}")?;
     Ok(one.as_str() == other.as_str())

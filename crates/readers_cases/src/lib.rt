@@ -12,6 +12,8 @@ mod command_words_calls;
 #[cfg(test)]
 mod nas_kinds_calls;
 #[cfg(test)]
+mod nas_kinds_damaged;
+#[cfg(test)]
 mod nas_kinds_written;
 #[cfg(test)]
 mod subs_table_calls;

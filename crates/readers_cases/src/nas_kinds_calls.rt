@@ -181,35 +181,6 @@ fn told(alloc: Global, table: &str, behind: &[u8]) -> Result<String, Fail> {
     Ok(text)
 }
 
-/// Writes what is read of each beginning of the octets, and in the other text what is wanted.
-fn tell_cuts(
-    alloc: Global,
-    text: &mut String,
-    wanted: &mut String,
-    octets: &[u8],
-) -> Result<(), AllocError> {
-    for n in 0..octets.len() {
-        tell(alloc, text, &octets[..n])?;
-        wanted.push_str("15 NasShort\n")?;
-    }
-    Ok(())
-}
-
-/// The same for each message of a table.
-fn tell_beginnings(
-    alloc: Global,
-    text: &mut String,
-    wanted: &mut String,
-    table: &str,
-) -> Result<(), Fail> {
-    for line in table.lines() {
-        let (digits, _) = line.split_once(' ').ok_or("no answer")?;
-        let octets = hex::decode(alloc, digits)?;
-        tell_cuts(alloc, text, wanted, &octets)?;
-    }
-    Ok(())
-}
-
 #[test]
 fn reads_messages(rt: HostRuntime) -> Result<(), Fail> {
     assert_eq!(rt; told(rt.alloc(), MESSAGES, &[])?.as_str(), MESSAGES);
@@ -225,17 +196,6 @@ fn reads_session_management(rt: HostRuntime) -> Result<(), Fail> {
     assert_eq!(rt; told(rt.alloc(), SESSION, &[])?.as_str(), SESSION);
     assert_eq!(rt; told(rt.alloc(), SESSION, &[0x07])?.as_str(), SESSION);
     assert_eq!(rt; told(rt.alloc(), OTHERS, &[])?.as_str(), OTHERS);
-    Ok(())
-}
-
-/// A message that is cut anywhere before its end is short.
-#[test]
-fn reads_no_beginnings(rt: HostRuntime) -> Result<(), Fail> {
-    let mut text = String::new(rt.alloc());
-    let mut wanted = String::new(rt.alloc());
-    tell_beginnings(rt.alloc(), &mut text, &mut wanted, MESSAGES)?;
-    tell_beginnings(rt.alloc(), &mut text, &mut wanted, SESSION)?;
-    assert_eq!(rt; text.as_str(), wanted.as_str());
     Ok(())
 }
 
