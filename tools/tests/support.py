@@ -48,8 +48,8 @@ def has_replay() -> bool:
     return has_command("replay")
 
 
-def run_program(word: str, case: bytes) -> bytes:
-    return subprocess.run([str(ECHO), word], input=case, stdout=subprocess.PIPE, stderr=subprocess.DEVNULL, check=True).stdout
+def run_program(word: str, case: bytes, *options: str) -> bytes:
+    return subprocess.run([str(ECHO), word, *options], input=case, stdout=subprocess.PIPE, stderr=subprocess.DEVNULL, check=True).stdout
 
 
 def run(tool: str, *words: object, given: bytes = b"") -> "subprocess.CompletedProcess[bytes]":
