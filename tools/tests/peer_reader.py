@@ -1,8 +1,9 @@
 """Messages of GTPv2-C and of Diameter S6a, read and written again: what `show` prints of octets with `--kind=1` and `--kind=2`.
 
-It shares no code and no tables with the program. It rests on the standards: for GTPv2-C on 3GPP TS 29.274, 5.1 (the header), 6.1 (types of messages), 7.2 (which
-IEs a message has) and 8 (what they hold); for Diameter on RFC 6733, 3 (the header), 4.1 (AVPs) and 7.1 (results), and TS 29.272, 7.2 and 7.3. What of them is
-read, what is refused, at which place and in which order is by docs/FORMATS.md, "GTPv2-C" and "Diameter S6a".
+It shares no code and no tables with the program. It rests on the standards: for GTPv2-C on 3GPP TS 29.274, 5.1 (the header), 6.1 (types of messages), 7.2
+(which IEs a message has) and 8 (what they hold); for Diameter on RFC 6733, 3 (the header), 4.1 (AVPs) and 7.1 (results), and TS 29.272, 7.2 and 7.3. What of
+them is read, what is refused, at which place and in which order is by docs/FORMATS.md, "GTPv2-C" and "Diameter S6a". What stands behind an element that is not
+whole, or too short for its head, is not known: a cause or a result there says nothing of an answer.
 
 A message is a table of elements in the order of writing. The form of a value makes of its octets those that are written for it, or none where they are wrong.
 """

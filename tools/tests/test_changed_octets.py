@@ -1,8 +1,8 @@
 """Messages of the peers, and octets that are nearly messages, as `show --kind` tells of them, beside what an independent reader (`peer_reader`) tells.
 
-The messages are those worked by hand in crates/wire_cases. One of each kind has each of its octets set to each value, all others to some. All are cut behind each
-octet, as they are and with their length put right, and have each element doubled, left out, swapped with the next, made an octet shorter and longer, in groups
-too, with all lengths put right. Of these some have an octet set to a drawn value as well.
+The messages are those worked by hand in crates/wire_cases. One of each kind has each of its octets set to each value, all others to some. All are cut behind
+each octet, as they are and with their length put right, and have each element doubled, left out, swapped with the next, emptied, made an octet shorter and
+longer, in groups too, with all lengths put right. These, and what is refused there, have an octet set to a drawn value as well.
 """
 
 import random
@@ -11,7 +11,7 @@ import unittest
 from itertools import islice
 from typing import Callable, Dict, Iterable, Iterator, List, Tuple
 
-from peer_reader import GTP_MESSAGES, Element, Refused, avps, ies, number, told
+from peer_reader import Element, Refused, avps, ies, number, told
 from support import TOOLS, needs, run_program
 
 TABLES = TOOLS.parent / "crates" / "wire_cases" / "src"
@@ -19,6 +19,7 @@ GTP, DIAMETER = 1, 2
 NAMES = {GTP: "gtp2", DIAMETER: "dia"}
 LINES = 50_000  # of a trace
 DIFFERENCES = 10
+EXPERIMENTAL_RESULT = bytes.fromhex("0000012940000020")
 
 
 def by_hand(protocol: int, table: str) -> List[Tuple[bytes, str]]:
@@ -49,7 +50,7 @@ def one_of_each(protocol: int, *kinds: str) -> List[bytes]:
 def others(protocol: int) -> List[bytes]:
     """The further messages of each kind, those in other forms than the written one, and an answer with Experimental-Result."""
     further = [octets for messages in worked(protocol).values() for octets in messages[1:]]
-    without_result = [octets for octets, _ in by_hand(protocol, "refused") if bytes.fromhex("000001294000002000") in octets]
+    without_result = [octets for octets, _ in by_hand(protocol, "refused") if EXPERIMENTAL_RESULT in octets]
     return further + [octets for octets, _ in by_hand(protocol, "forms")] + without_result
 
 
@@ -75,7 +76,7 @@ def changed(messages: Iterable[bytes], values: Callable[[int], Iterable[int]]) -
 def with_length(protocol: int, octets: bytes) -> bytes:
     """A message, or the beginning of one, with its length put right."""
     if protocol == GTP:
-        return octets[:2] + number(max(len(octets) - 4, 0), 2) + octets[4:]
+        return octets[:2] + number(len(octets) - 4, 2) + octets[4:]
     return octets[:1] + number(len(octets), 3) + octets[4:]
 
 
@@ -83,7 +84,8 @@ def cut(protocol: int, messages: Iterable[bytes]) -> Iterator[bytes]:
     for octets in messages:
         for left in range(1, len(octets)):
             yield octets[:left]
-            yield with_length(protocol, octets[:left])
+            if left >= 4:
+                yield with_length(protocol, octets[:left])
 
 
 HEADS = {GTP: 12, DIAMETER: 20}
@@ -140,11 +142,11 @@ def edited(protocol: int, messages: Iterable[bytes]) -> Iterator[bytes]:
             yield with_length(protocol, head + body) + b"\0"
 
 
-def drawn(messages: Iterable[bytes], each: int) -> Iterator[bytes]:
+def drawn(messages: Iterable[bytes], times: int) -> Iterator[bytes]:
     """Each of them so many times with an octet behind the first set to a value, both drawn."""
     draws = random.Random(1)
     for octets in messages:
-        for _ in range(each):
+        for _ in range(times if len(octets) > 1 else 0):
             place = draws.randrange(1, len(octets))
             yield octets[:place] + bytes([draws.randrange(256)]) + octets[place + 1 :]
 
@@ -204,6 +206,29 @@ BY_HAND = {
     """,
 }
 
+# Which cause or result says by which table an answer is read: the first, where it is known, also of wrong form. Each octets, and what is told of them.
+SESSION, LACKING = "000001074000000973000000", "00000578c000000c000028af"
+CORNERS = {
+    GTP: """
+        4821001d0000000100000500020002001000 5d00050049000100 05020002004000 refused 11 MissingIe 2 at 27
+        4821001d0000000100000500020002004000 5d00050049000100 05020002001000 refused 12 RepeatedIe 2 at 27
+        482100170000000100000500 5d0005004900010005 020002004001 refused 42 GtpValue 2 at 21
+        482100170000000100000500 5d0005004900010005 020002001001 refused 11 MissingIe 2 at 21
+        482100150000000100000500 5d0005004900010005 02000000 refused 11 MissingIe 2 at 21
+    """,
+    DIAMETER: f"""
+        010000444000013c010000230000000100000001 {SESSION} 0000010c4000000c000007d1 {LACKING} 0000010c4000000c00001394 refused 53 MissingAvp 1435 at 56
+        010000444000013c010000230000000100000001 {SESSION} 0000010c4000000c00001394 {LACKING} 0000010c4000000c000007d1 refused 54 RepeatedAvp 268 at 56
+        010000384000013c010000230000000100000001 {SESSION} {LACKING} 0000010c4000000b0007d100 refused 52 DiaAvp 268 at 44
+        010000404000013c010000230000000100000001 {SESSION} {LACKING} 0000000040000004 0000010c4000000c000007d1 refused 52 DiaAvp 0 at 44
+    """,
+}
+
+
+def corners(protocol: int) -> List[Tuple[bytes, str]]:
+    lines = (re.split(" (?=refused)", it.strip()) for it in CORNERS[protocol].strip().split("\n"))
+    return [(bytes.fromhex(digits), said) for digits, said in lines]
+
 
 class TheReader(unittest.TestCase):
     """What it tells is what was worked by hand."""
@@ -223,9 +248,12 @@ class TheReader(unittest.TestCase):
                 self.assertEqual(told(protocol, octets).split(" ")[-1], form)
             for octets, refusal in by_hand(protocol, "refused"):
                 self.assertEqual(told(protocol, octets), f"refused {refusal}")
+            for octets, said in corners(protocol):
+                self.assertEqual(told(protocol, octets), said)
             self.assertEqual(sorted(worked(protocol)), sorted(KINDS[protocol]))
             self.assertGreater(len(by_hand(protocol, "refused")), 100)
             self.assertGreater(len(by_hand(protocol, "forms")), 30)
+        self.assertTrue(any(EXPERIMENTAL_RESULT in it for it in others(DIAMETER)))
 
 
 # The program beside the reader
@@ -234,9 +262,10 @@ class TheReader(unittest.TestCase):
 class Compared(unittest.TestCase):
     """Octets of a protocol as the program tells of them, line by line beside what the reader tells."""
 
-    def compare(self, protocol: int, messages: Iterator[bytes]) -> None:
+    def compare(self, protocol: int, messages: Iterable[bytes]) -> None:
         differences: List[str] = []
-        for some in iter(lambda: list(islice(messages, LINES)), []):
+        left = iter(messages)
+        for some in iter(lambda: list(islice(left, LINES)), []):
             case = "".join(["[trace]\n", *(f"1 {it.hex()}\n" for it in some)])
             printed = run_program("show", case.encode(), f"--kind={protocol}").decode().splitlines()
             self.assertEqual(len(printed), len(some))
@@ -245,6 +274,16 @@ class Compared(unittest.TestCase):
                 if said != wanted and len(differences) < DIFFERENCES:
                     differences.append(f"{octets.hex()}\n    the program: {said}\n    the reader:  {wanted}")
         self.assertFalse(differences, "\n" + "\n".join(differences))
+
+    def compare_others(self, protocol: int) -> None:
+        """Octets near messages of each kind, and those that are refused."""
+        messages = one_of_each(protocol, *KINDS[protocol]) + others(protocol)
+        wrong = [octets for octets, _ in by_hand(protocol, "refused") + corners(protocol)]
+        self.compare(protocol, wrong)
+        self.compare(protocol, cut(protocol, messages))
+        self.compare(protocol, edited(protocol, messages))
+        self.compare(protocol, drawn(edited(protocol, messages), 4))
+        self.compare(protocol, drawn(wrong, 20))
 
 
 @needs("program")
@@ -264,11 +303,8 @@ class GtpOthers(Compared):
     def test_some_values(self) -> None:
         self.compare(GTP, changed(others(GTP), some_values))
 
-    def test_cuts_and_edits(self) -> None:
-        messages = one_of_each(GTP, *KINDS[GTP]) + others(GTP)
-        self.compare(GTP, cut(GTP, messages))
-        self.compare(GTP, edited(GTP, messages))
-        self.compare(GTP, drawn(edited(GTP, messages), 4))
+    def test_cuts_edits_and_what_is_refused(self) -> None:
+        self.compare_others(GTP)
 
 
 @needs("program")
@@ -294,8 +330,5 @@ class DiameterOthers(Compared):
     def test_some_values(self) -> None:
         self.compare(DIAMETER, changed(others(DIAMETER), some_values))
 
-    def test_cuts_and_edits(self) -> None:
-        messages = one_of_each(DIAMETER, *KINDS[DIAMETER]) + others(DIAMETER)
-        self.compare(DIAMETER, cut(DIAMETER, messages))
-        self.compare(DIAMETER, edited(DIAMETER, messages))
-        self.compare(DIAMETER, drawn(edited(DIAMETER, messages), 4))
+    def test_cuts_edits_and_what_is_refused(self) -> None:
+        self.compare_others(DIAMETER)
