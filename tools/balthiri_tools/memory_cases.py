@@ -102,7 +102,7 @@ def _of_cli() -> Iterator[Case]:
     yield from _read(CLI, "replay --replicas=2", "examples/replay.txt", "examples/race.txt", "examples/stop.txt")
     yield from _read(CLI, "replay --replicas=3", PAGING, DETACH)
     yield from _refused(CLI, "replay")
-    for words in ("make --number=7 --devices=2 --rounds=2", "make --number=7 --devices=2 --rounds=2 --text"):
+    for words in ("make --number=7 --devices=2 --rounds=1", "make --number=7 --devices=2 --rounds=1 --text"):
         yield Case(CLI, words, "", b"")
     yield from _read(CLI, "epochs --device=1 --number=7 --events=30", ATTACH, PAGING)
     yield from _read(CLI, "crash --after=18", ATTACH)
@@ -113,7 +113,7 @@ def _of_cli() -> Iterator[Case]:
 def _of_threads() -> Iterator[Case]:
     for workers in (1, 3):
         yield from _read(THREADS, f"run --workers={workers}", ATTACH, SECOND, PAGING, DETACH, "examples/stranger.txt")
-        yield Case(THREADS, f"load --number=7 --devices=2 --rounds=2 --workers={workers}", "", b"")
+        yield Case(THREADS, f"load --number=7 --devices=2 --rounds=1 --workers={workers}", "", b"")
     yield from _refused(THREADS, "run")
     yield Case(THREADS, "run --workers=17", "", b"", status=1, said=USAGE)
 
