@@ -7,8 +7,8 @@ use link_schedule::OwnFloor;
 use std::alloc::{AllocError, Global};
 use std::test::Fail;
 
-/// Rows, messages from a base station, and messages to it, by their names. Those from `reject` on go down. Where no other is named a
-/// message is of eNB-UE-S1AP-ID 1.
+/// Rows, the columns of one behind its identities, messages from a base station, and messages to it, by their names. Those from
+/// `reject` on go down. Where no other is named a message is of eNB-UE-S1AP-ID 1.
 const NAMES: &str = "\
 row {\"imsi\":\"208930000000001\",\"tmsi\":1,\"rand\":\"000102030405060708090a0b0c0d0e0f\",\"autn\":\"101112131415161718191a1b1c1d1e1f\",\"res\":\"a0a1a2a3a4a5a6a7\",\"key\":\"1111111111111111111111111111111111111111111111111111111111111111\",\"apn\":\"internet\",\"ip\":\"0a2d0001\",\"sgw\":\"c0a80001\",\"teid\":1,\"ambr_dl\":1000000000,\"ambr_ul\":1000000000,\"forbidden\":[9]}
 two-row {\"imsi\":\"208930000000001\",\"tmsi\":1,\"rand\":\"000102030405060708090a0b0c0d0e0f\",\"autn\":\"101112131415161718191a1b1c1d1e1f\",\"res\":\"a0a1a2a3a4a5a6a7\",\"key\":\"1111111111111111111111111111111111111111111111111111111111111111\",\"apn\":\"internet\",\"ip\":\"0a2d0001\",\"sgw\":\"c0a80001\",\"teid\":1,\"ambr_dl\":1000000000,\"ambr_ul\":1000000000,\"forbidden\":[9],\"apn2\":\"ims\",\"ip2\":\"0a2d8001\"}
@@ -16,6 +16,7 @@ second-row {\"imsi\":\"208930000000002\",\"tmsi\":2,\"rand\":\"00010203040506070
 third-row {\"imsi\":\"208930000000003\",\"tmsi\":3,\"rand\":\"000102030405060708090a0b0c0d0e0f\",\"autn\":\"101112131415161718191a1b1c1d1e1f\",\"res\":\"a0a1a2a3a4a5a6a7\",\"key\":\"1111111111111111111111111111111111111111111111111111111111111111\",\"apn\":\"internet\",\"ip\":\"0a2d0003\",\"sgw\":\"c0a80001\",\"teid\":3,\"ambr_dl\":1000000000,\"ambr_ul\":1000000000,\"forbidden\":[]}
 short-row {\"imsi\":\"20893000000001\",\"rand\":\"000102030405060708090a0b0c0d0e0f\",\"autn\":\"101112131415161718191a1b1c1d1e1f\",\"res\":\"a0a1a2a3a4a5a6a7\",\"key\":\"1111111111111111111111111111111111111111111111111111111111111111\",\"apn\":\"internet\",\"ip\":\"0a2d0001\",\"sgw\":\"c0a80001\",\"teid\":1,\"ambr_dl\":1000000000,\"ambr_ul\":1000000000,\"forbidden\":[9]}
 row-without-gateway {\"imsi\":\"208930000000001\",\"tmsi\":1,\"rand\":\"000102030405060708090a0b0c0d0e0f\",\"autn\":\"101112131415161718191a1b1c1d1e1f\",\"res\":\"a0a1a2a3a4a5a6a7\",\"key\":\"1111111111111111111111111111111111111111111111111111111111111111\",\"apn\":\"internet\",\"ip\":\"0a2d0001\",\"sgw\":\"c0a80001\",\"teid\":0,\"ambr_dl\":1000000000,\"ambr_ul\":1000000000,\"forbidden\":[9]}
+columns \"rand\":\"000102030405060708090a0b0c0d0e0f\",\"autn\":\"101112131415161718191a1b1c1d1e1f\",\"res\":\"a0a1a2a3a4a5a6a7\",\"key\":\"1111111111111111111111111111111111111111111111111111111111111111\",\"apn\":\"internet\",\"ip\":\"0a2d0001\",\"sgw\":\"c0a80001\",\"teid\":1,\"ambr_dl\":1000000000,\"ambr_ul\":1000000000,\"forbidden\":[9]}
 attach 000c403e000005000800020001001a00161507417108298039000000001002e0e000040201d011004300060002f8390001006440080002f839000000100086400130
 wide 000c40400000050008000480ffffff001a00161507417108298039000000001002e0e000040201d011004300060002f8390001006440080002f839000000100086400130
 zero-in-front 000c40400000050008000480000001001a00161507417108298039000000001002e0e000040201d011004300060002f8390001006440080002f839000000100086400130
@@ -84,6 +85,10 @@ second-setup 0005003700000300000002000100080002000100100024000011001f0c0009200f8
 second-setup-anew 0005003700000300000002000100080002000100100024000011001f0c0009200f80c0a8000100000004106202c101090403696d7305010a2d8001
 paging 000a4027000004005040020040002b4006001000000001006d400100002e400b00002f40060002f8390001
 ";
+
+/// A device that attaches: its messages, which make ten steps.
+pub(crate) const ATTACH: &str =
+    "[subscribers]|row|[trace]|1 attach|1 response|1 secured|1 done|1 capability|1 complete";
 
 /// The words of a command, a case text, and what is written, or the status line. A bar stands for the end of a line, and the name of a
 /// row or a message at the end of a line for it.
@@ -223,7 +228,7 @@ service moved request two = refused 6 31 UnknownPair 1 1|device 208930000000001 
 ";
 
 /// The row or the message of that name, or the text itself.
-fn named(name: &str) -> &str {
+pub(crate) fn named(name: &str) -> &str {
     for line in NAMES.lines() {
         if let Some((other, text)) = line.split_once(' ') {
             if other == name {
@@ -462,53 +467,6 @@ fn told_usages(alloc: Global) -> Result<(String, String), Fail> {
 #[test]
 fn other_words_are_usage(rt: HostRuntime) -> Result<(), Fail> {
     let (told, wanted) = told_usages(rt.alloc())?;
-    assert_eq!(rt; told.as_str(), wanted.as_str());
-    Ok(())
-}
-
-/// What four runs come to: over a source that gives one piece and fails, over one that fails behind all of the text, with a sink that
-/// takes ten octets and fails, and in small pieces both ways.
-const FAULTS: &str = "\
-echo: read fault|echo: read fault|device 208echo: write fault|line 4 InitialUEMessage service";
-
-/// What these runs come to.
-fn told_faults(alloc: Global) -> Result<String, Fail> {
-    let mut told = String::new(alloc);
-    let text = lines(alloc, "[subscribers]|row|[trace]|1 service")?;
-    let text = text.as_bytes();
-    let pieces = [Give::Piece(1), Give::Piece(0), Give::Piece(7)];
-    tell_run(
-        &mut told,
-        alloc,
-        "plain",
-        text,
-        &[Give::Piece(64), Give::Fail],
-        &[],
-    )?;
-    tell_run(
-        &mut told,
-        alloc,
-        "plain",
-        text,
-        &[Give::Piece(4096), Give::Fail],
-        &[],
-    )?;
-    tell_run(
-        &mut told,
-        alloc,
-        "plain",
-        text,
-        &[],
-        &[Give::Piece(10), Give::Fail],
-    )?;
-    tell_run(&mut told, alloc, "show", text, &pieces, &pieces)?;
-    Ok(told)
-}
-
-#[test]
-fn faults(rt: HostRuntime) -> Result<(), Fail> {
-    let alloc = rt.alloc();
-    let (told, wanted) = (told_faults(alloc)?, lines(alloc, FAULTS)?);
     assert_eq!(rt; told.as_str(), wanted.as_str());
     Ok(())
 }

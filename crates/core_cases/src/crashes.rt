@@ -1,16 +1,12 @@
 //! What `crash` tells, by how many calls of the disk pass behind the three of opening. A commit makes four calls, the third of which
 //! brings it onto the disk: so it is found from three on, and acknowledged from four on.
 
-use crate::case_texts::{lines, put_lines};
+use crate::case_texts::{ATTACH, lines, put_lines};
 use crate::runs::tell_run;
 use std::alloc::Global;
 use std::test::Fail;
 
-/// A device that attaches, in ten entries.
-const ATTACH: &str =
-    "[subscribers]|row|[trace]|1 attach|1 response|1 secured|1 done|1 capability|1 complete";
-
-/// What is told of it, with the first number of calls that comes to the same.
+/// What is told of a device that attaches, in ten entries, with the first number of calls that comes to the same.
 const ATTACHED: &str = "\
 0: acknowledged 0 found 0|device 208930000000001 version 0
 3: acknowledged 0 found 1|device 208930000000001 version 1

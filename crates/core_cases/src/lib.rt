@@ -6,12 +6,20 @@ mod case_texts;
 #[cfg(test)]
 mod crashes;
 #[cfg(test)]
+mod damaged;
+#[cfg(test)]
 mod events;
 #[cfg(test)]
+mod faults;
+#[cfg(test)]
 mod made_cases;
+#[cfg(test)]
+mod messages;
 #[cfg(test)]
 mod runs;
 #[cfg(test)]
 mod schedules;
+#[cfg(test)]
+mod stops;
 #[cfg(test)]
 mod worlds;

@@ -1,6 +1,6 @@
 //! Runs of `make`: what it makes, and that its sums are those of `plain` over the text that it makes.
 
-use crate::runs::tell_run;
+use crate::runs::{tell_run, told_run};
 use echo_base::Give;
 use std::alloc::{AllocError, Global};
 use std::test::Fail;
@@ -29,17 +29,6 @@ fn a_case_in_numbers(rt: HostRuntime) -> Result<(), Fail> {
     Ok(())
 }
 
-#[test]
-fn a_sink_takes_ten_octets_and_fails(rt: HostRuntime) -> Result<(), Fail> {
-    let alloc = rt.alloc();
-    let mut told = String::new(alloc);
-    let words = "make --number=1 --devices=1 --rounds=0";
-    let writes = [Give::Piece(10), Give::Fail];
-    tell_run(&mut told, alloc, words, b"", &[], &writes)?;
-    assert_eq!(rt; told.as_str(), "devices 1 echo: write fault\n");
-    Ok(())
-}
-
 /// The steps, the messages to the devices and the calls of a final text, as the words at the end of a summary.
 fn sums(alloc: Global, text: &str) -> Result<String, AllocError> {
     let mut steps = 0u64;
@@ -59,18 +48,11 @@ fn sums(alloc: Global, text: &str) -> Result<String, AllocError> {
     format!(in alloc; "{steps} down {downs} gateway {gateway} subscriber {subscriber}\n")
 }
 
-/// What a run of a command of these words over a text comes to, where no source and no sink fails.
-fn told(alloc: Global, words: &str, text: &[u8]) -> Result<String, Fail> {
-    let mut told = String::new(alloc);
-    tell_run(&mut told, alloc, words, text, &[], &[])?;
-    Ok(told)
-}
-
 /// The line of the case of 800 visits, twice: the second time in two lines, and without what was committed and stale.
 fn told_large(alloc: Global) -> Result<String, Fail> {
     let words = "make --number=7 --devices=40 --rounds=19";
-    let first = told(alloc, words, b"")?;
-    let second = told(alloc, words, b"")?;
+    let first = told_run(alloc, words, b"")?;
+    let second = told_run(alloc, words, b"")?;
     let (front, counts) = first.split_once(" committed ").ok_or("no counts")?;
     let (_, sums) = counts.split_once(" steps ").ok_or("no sums")?;
     Ok(format!(in alloc; "{second}{front}\n{sums}")?)
@@ -80,9 +62,9 @@ fn told_large(alloc: Global) -> Result<String, Fail> {
 fn wanted_large(alloc: Global) -> Result<String, Fail> {
     let words = "make --number=7 --devices=40 --rounds=19";
     let text_words = "make --text --number=7 --devices=40 --rounds=19";
-    let line = told(alloc, words, b"")?;
-    let text = told(alloc, text_words, b"")?;
-    let finals = told(alloc, "plain", text.as_bytes())?;
+    let line = told_run(alloc, words, b"")?;
+    let text = told_run(alloc, text_words, b"")?;
+    let finals = told_run(alloc, "plain", text.as_bytes())?;
     let sums = sums(alloc, finals.as_str())?;
     Ok(format!(in alloc; "{line}devices 40 messages 4900 refused 0 events 65438\n{sums}")?)
 }

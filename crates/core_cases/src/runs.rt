@@ -37,3 +37,10 @@ pub(crate) fn tell_run(
     let status = replay_own(alloc, &all, &mut input, &mut out, &mut OwnFloor::new());
     tell_end(told, status, out.held())
 }
+
+/// What a run of a command over a text comes to, where no source and no sink fails.
+pub(crate) fn told_run(alloc: Global, words: &str, text: &[u8]) -> Result<String, Fail> {
+    let mut told = String::new(alloc);
+    tell_run(&mut told, alloc, words, text, &[], &[])?;
+    Ok(told)
+}

@@ -2,12 +2,12 @@
 //! that is awaited only then; and what a hand loses.
 ghost use Rattle.std.specs.Prelude.{◌≡◌, length, All, IfOk};
 ghost use Rattle.device_types.specs.Line.{IsLine};
-ghost use Rattle.device_types.specs.Message.{IsBody, IsFrom, IsMessage};
 ghost use Rattle.link_schedule.specs.World.{IsShort};
 
 use crate::events::{case_text, happen_all, put_wanted};
+use crate::messages::{attach, message};
 use case_form::read_case;
-use device_types::{Body, Book, Message, Messages};
+use device_types::{Body, Book, Messages};
 use link_schedule::World;
 use std::alloc::{AllocError, Global};
 use std::test::Fail;
@@ -121,33 +121,6 @@ write 2 = Stale { read: 0, current: 1 }
 read 2 = VoidHand
 write 2 = VoidHand
 ";
-
-fn message(number: u64, body: Body) -> Message
-    requires from { IsFrom body 2 3 }
-    requires body { IsBody body }
-    ensures number { result.number ≡ number }
-    ensures message { IsMessage result }
-{
-    Message {
-        number,
-        station: 2,
-        enb: 3,
-        body,
-    }
-}
-
-fn attach() -> Body
-    ensures from { IsFrom result 2 3 }
-    ensures body { IsBody result }
-{
-    Body::Attach {
-        plmn: 0x02f839,
-        tac: 1,
-        eea: 224,
-        eia: 192,
-        pti: 6,
-    }
-}
 
 fn messages(alloc: Global) -> Result<Messages, AllocError>
     ensures line { IfOk result IsLine }

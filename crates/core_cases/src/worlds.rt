@@ -1,13 +1,14 @@
 //! Schedules over the worlds of two devices, with what each event comes to, by hand.
 ghost use Rattle.std.specs.Prelude.{◌≡◌, length, All, IfOk};
 ghost use Rattle.device_types.specs.Line.{IsLine};
-ghost use Rattle.device_types.specs.Message.{IsBody, IsFrom, IsMessage};
+ghost use Rattle.device_types.specs.Message.{IsBody, IsFrom};
 ghost use Rattle.link_schedule.specs.Floor.{IsOpen};
 ghost use Rattle.link_schedule.specs.World.{IsShort};
 
 use crate::events::{case_text, happen_all, may_happen, put_wanted};
+use crate::messages::{attach, message};
 use case_form::read_case;
-use device_types::{Body, Book, DeviceEnd, DeviceId, Event, Finals, Message, Messages, Octets};
+use device_types::{Body, Book, DeviceEnd, DeviceId, Event, Finals, Messages, Octets};
 use link_schedule::{Floor, OwnFloor, World};
 use std::alloc::{AllocError, Global};
 use std::test::Fail;
@@ -281,33 +282,6 @@ effect 1 down 4 = Ahead(0)
 settle 1 down 4 = VoidLink
 effect 1 down 1 = VoidLink
 ";
-
-fn message(number: u64, body: Body) -> Message
-    requires from { IsFrom body 1 1 }
-    requires body { IsBody body }
-    ensures number { result.number ≡ number }
-    ensures message { IsMessage result }
-{
-    Message {
-        number,
-        station: 1,
-        enb: 1,
-        body,
-    }
-}
-
-fn attach() -> Body
-    ensures from { IsFrom result 1 1 }
-    ensures body { IsBody result }
-{
-    Body::Attach {
-        plmn: 0x02f839,
-        tac: 1,
-        eea: 224,
-        eia: 224,
-        pti: 1,
-    }
-}
 
 /// The right response to the challenge.
 fn response(alloc: Global) -> Result<Body, AllocError>

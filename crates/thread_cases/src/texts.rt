@@ -90,31 +90,17 @@ fn words_that_are_no_command(rt: HostRuntime) -> Result<(), Fail> {
     Ok(())
 }
 
-/// Texts that are refused or have no device, a source that gives a piece and fails, and a sink that takes ten octets and fails; a made
-/// case reads nothing.
+/// Texts that are refused or have no device; a made case reads nothing.
 fn tell_edges<R: Threads + Wait + Sync>(
     rt: &R,
     told: &mut String,
     alloc: Global,
 ) -> Result<(), Fail> {
-    let attach = ATTACH.as_bytes();
     let refused = b"[trace]\n\n[schedule]\nstop 17\n";
     let gate = &OpenGate;
     tell_run(rt, told, alloc, gate, "run", b"", &[], &[])?;
     tell_run(rt, told, alloc, gate, "run", b"[trace]\n1 0g\n", &[], &[])?;
     tell_run(rt, told, alloc, gate, "run", refused, &[], &[])?;
-    let fails = [Give::Piece(9), Give::Fail];
-    tell_run(rt, told, alloc, gate, "run", attach, &fails, &[])?;
-    tell_run(
-        rt,
-        told,
-        alloc,
-        gate,
-        "run",
-        attach,
-        &[],
-        &[Give::Piece(10), Give::Fail],
-    )?;
     let load = "load --number=1 --devices=1 --rounds=0";
     tell_run(rt, told, alloc, gate, load, b"", &[Give::Fail], &[])
 }
@@ -125,15 +111,12 @@ const EDGES: &str = "\
 refused 2 29 BadHex
 16 shards of the store, 16 of the peers
 echo: case refused 26 BadLine line 4
-echo: read fault
-device 208echo: write fault
-16 shards of the store, 16 of the peers
 devices 1 messages 6 refused 0 steps 10 down 3 gateway 2 subscriber 2
 16 shards of the store, 16 of the peers
 ";
 
 #[test]
-fn refusals_and_faults(rt: HostRuntime) -> Result<(), Fail> {
+fn refusals_and_a_made_case(rt: HostRuntime) -> Result<(), Fail> {
     let mut told = String::new(rt.alloc());
     tell_edges(&rt, &mut told, rt.alloc())?;
     assert_eq!(rt; told.as_str(), EDGES);
