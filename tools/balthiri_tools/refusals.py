@@ -22,6 +22,7 @@ LIBRARY = "refused_memory.so"
 COUNTS = struct.Struct("=QQ")
 MOST = 2**64 - 1
 BLOCK = 4  # how many runs a job has before what came of them is looked at
+MOST_TOLD = 5
 MOST_HANGS = 4  # where so many runs did not end, the case is given up
 
 NO_MEMORY = Outcome(5, b"", b"echo: out of memory\n")
@@ -122,6 +123,14 @@ class Tried:
     def __str__(self) -> str:
         ends = ", ".join(f"{number} {how}" for how, number in sorted(self.ends.items()))
         return counted(self.places, "place") + (f", {ends}" if ends else "")
+
+    def lines(self, case: Case, way: str) -> List[str]:
+        """The line of the case, and where it failed what was wrong, of the first places."""
+        lines = [f"{'FAILED: ' if self.wrong else ''}{case}, {way}: {self}"]
+        lines += [f"    {place}: {fault}" for place, fault in self.wrong[:MOST_TOLD]]
+        if len(self.wrong) > MOST_TOLD:
+            lines.append(f"    and {len(self.wrong) - MOST_TOLD} more")
+        return lines
 
 
 class Runner:

@@ -8,10 +8,11 @@ import tempfile
 import unittest
 from pathlib import Path
 from typing import ClassVar, Dict, List, Tuple
+from unittest import mock
 
-from balthiri_tools.memory_cases import Outcome, all_cases
-from balthiri_tools.refusals import NO_MEMORY, End, fault_of
-from support import TOOLS, has_command, run
+from balthiri_tools.memory_cases import CLI, Outcome, all_cases
+from balthiri_tools.refusals import NO_MEMORY, WAYS, End, Runner, fault_of
+from support import TOOLS, Quiet, has_command, run
 
 # A program that asks for memory three times, and writes a text in two halves. Without the first or the second block it ends in the way that FAKE_WAY names; it
 # does without the third.
@@ -65,6 +66,7 @@ int main(void)
 
 CASE = "plain < examples/service_reject.txt"
 LINE = f"echo_cli {CASE}"
+(THE_CASE,) = (it for it in all_cases() if str(it) == LINE)
 
 # What is told of places 1 and 2, by the way in which the fake program ends there; it does without the third.
 FAULTS = {
@@ -92,7 +94,7 @@ def told_of(way: str) -> List[str]:
     lines = []
     for how, behind in (("once", ""), ("from there on", " and on")):
         lines += [f"FAILED: {LINE}, {how}: 3 places, {ends}", f"    place 1{behind}: {fault}", f"    place 2{behind}: {fault}"]
-    return [*lines, "0 passed, 2 failed"]
+    return lines
 
 
 @unittest.skipIf(shutil.which("cc") is None, "missing: cc")
@@ -111,19 +113,28 @@ class Fakes(unittest.TestCase):
         cls.folder.cleanup()
 
     def ran(self, way: str, *words: str) -> "Tuple[int, List[str]]":
-        line = [sys.executable, str(TOOLS / "refused_memory"), "--echo-cli", str(self.fake), "--only", CASE, "--seconds=1", *words]
+        line = [sys.executable, str(TOOLS / "refused_memory"), "--echo-cli", str(self.fake), "--only", CASE, *words]
         environment: Dict[str, str] = {**os.environ, "FAKE_WAY": way}
         done = subprocess.run(line, stdout=subprocess.PIPE, stderr=subprocess.PIPE, env=environment, check=False)
         return done.returncode, done.stdout.decode().splitlines()
+
+    def tried(self, runner: Runner, way: str) -> List[str]:
+        """What is told of the case over the fake program that ends in this way, of which three requests are seen."""
+        runner.seconds = 3 if way == "hangs" else 60
+        with mock.patch.dict(os.environ, FAKE_WAY=way):
+            whole = runner.whole(THE_CASE)
+            self.assertEqual(whole, End(Outcome(0, b"a text\n", b""), True, 3, 0))
+            return [line for it in WAYS for line in runner.tried(THE_CASE, whole.outcome, it, 3, None).lines(THE_CASE, it)]
 
     def test_a_program_that_ends_well(self) -> None:
         ends = "3 places, 1 status 0, 2 status 5"
         self.assertEqual(self.ran("well"), (0, [f"{LINE}, once: {ends}", f"{LINE}, from there on: {ends}", "2 passed, 0 failed"]))
 
     def test_each_end_that_is_wrong(self) -> None:
+        runner = Runner({CLI: str(self.fake)}, Path(self.folder.name), 0, 4, Quiet())
         for way in FAULTS:
             with self.subTest(way=way):
-                self.assertEqual(self.ran(way), (1, told_of(way)))
+                self.assertEqual(self.tried(runner, way), told_of(way))
 
     def test_one_place(self) -> None:
         fault = FAULTS["killed"][0]
