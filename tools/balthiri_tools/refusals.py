@@ -181,6 +181,10 @@ class Runner:
                     _put(found, at, end, whole)
                 if not numbers and ends[-1].refused and only is None:
                     numbers = range(block[-1] + 1, block[-1] + 2)
+        if numbers:
+            found.wrong.append((str(WAYS[way](numbers[0])), "was not tried, and none behind it, since too many did not end"))
+        if only is not None and not found.places:
+            found.wrong.append((str(WAYS[way](only)), "is not there: the run asks for memory less often"))
         return found
 
     def _run_and_tell(self, case: Case, places: Places) -> End:

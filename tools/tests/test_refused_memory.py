@@ -10,6 +10,7 @@ from pathlib import Path
 from typing import ClassVar, Dict, List, Tuple
 from unittest import mock
 
+from balthiri_tools import refusals
 from balthiri_tools.memory_cases import CLI, Outcome, all_cases
 from balthiri_tools.refusals import NO_MEMORY, WAYS, End, Runner, fault_of
 from support import TOOLS, Quiet, has_command, run
@@ -136,11 +137,22 @@ class Fakes(unittest.TestCase):
             with self.subTest(way=way):
                 self.assertEqual(self.tried(runner, way), told_of(way))
 
+    def test_a_case_is_given_up_behind_runs_that_hang(self) -> None:
+        runner = Runner({CLI: str(self.fake)}, Path(self.folder.name), 3, 1, Quiet())
+        given_up = "was not tried, and none behind it, since too many did not end"
+        with mock.patch.multiple(refusals, BLOCK=1, MOST_HANGS=1), mock.patch.dict(os.environ, FAKE_WAY="hangs"):
+            whole = runner.whole(THE_CASE).outcome
+            told = runner.tried(THE_CASE, whole, "once", 3, None).lines(THE_CASE, "once")
+        self.assertEqual(told, [f"FAILED: {LINE}, once: 1 place, 1 no end", "    place 1: did not end", f"    place 2: {given_up}"])
+
     def test_one_place(self) -> None:
         fault = FAULTS["killed"][0]
         told = [f"FAILED: {LINE}, once: 1 place, 1 killed by SIGSEGV", f"    place 2: {fault}"]
         told += [f"FAILED: {LINE}, from there on: 1 place, 1 killed by SIGSEGV", f"    place 2 and on: {fault}", "0 passed, 2 failed"]
         self.assertEqual(self.ran("killed", "--place=2"), (1, told))
+        fault = "is not there: the run asks for memory less often"
+        told = [f"FAILED: {LINE}, once: 0 places", f"    place 4: {fault}", f"FAILED: {LINE}, from there on: 0 places", f"    place 4 and on: {fault}"]
+        self.assertEqual(self.ran("well", "--place=4"), (1, [*told, "0 passed, 2 failed"]))
 
     def test_a_program_whose_requests_are_not_seen(self) -> None:
         self.assertEqual(self.ran("no request"), (1, [f"FAILED: {LINE}: no request for memory is seen, so none can be refused", "0 passed, 1 failed"]))
