@@ -21,16 +21,16 @@ const CASES: [(&str, &str); 3] = [
     ),
 ];
 
-/// The octets with these bits of the one at that place inverted.
+/// The octets with that one at that place.
 pub(crate) fn changed(
     alloc: Global,
     octets: &[u8],
     place: usize,
-    bits: u8,
+    value: u8,
 ) -> Result<Vec<u8>, OutOfMemory> {
     let mut changed = Vec::from_slice(alloc, octets)?;
     if let Some(octet) = changed.get_mut(place) {
-        *octet ^= bits;
+        *octet = value;
     }
     Ok(changed)
 }
@@ -47,8 +47,8 @@ fn cut(alloc: Global, octets: &[u8], left: usize) -> Result<Vec<u8>, OutOfMemory
 
 /// Writes what is told of the octets with each of them inverted, and cut behind the first four to all but one, a line each.
 fn tell_changes(alloc: Global, text: &mut String, octets: &[u8]) -> Result<(), OutOfMemory> {
-    for place in 0..octets.len() {
-        tell_refusal(alloc, text, &changed(alloc, octets, place, 0xff)?)?;
+    for (place, octet) in octets.iter().enumerate() {
+        tell_refusal(alloc, text, &changed(alloc, octets, place, !*octet)?)?;
         text.push('\n')?;
     }
     for left in 4..octets.len() {

@@ -14,51 +14,52 @@ use std::test::Fail;
 
 /// A message a line: the octets in front of its length, and its IEs. Behind the colon:
 /// - how many of its beginnings are Truncated, where they end in front of the length and else at the length: as many as it has octets.
-/// - how many changes of an octet there are, 255 an octet, and of them how many make a message, at 0, and how many are refused, at the number
-///   of the reason. A second reader, in another language and of the grammar alone, counts the same; it tells all lines of
-///   `s1ap_messages_refused` and `s1ap_messages_changed` too.
+/// - how many changes of an octet make a message, at 0, and how many are refused, at the number of the reason, of 255 an octet. A second
+///   reader, in another language and of the grammar alone, counts the same; it tells all lines of `s1ap_messages_refused` and
+///   `s1ap_messages_changed` too.
 /// - how many swaps of neighbours among the IEs make the same message: one less than there are IEs.
-/// - why it is refused that an IE stands once more behind the next one: at the end of that one, and the last IE at its own end.
+/// - why it is refused that an IE stands once more behind all of them, where the message has ended.
 const MESSAGES: &str = "\
 # an INITIAL UE MESSAGE with an attach request
-000c40 000800020001 001a00161507417108298039000000001002e0e000040201d011 004300060002f8390001 006440080002f83900000010 0086400130: 66 cut, 16830 changed: 0:8510 1:1664 2:7 3:2117 5:176 6:504 7:384 8:160 9:249 10:384 11:2533 12:10 13:132, 4 swapped; 12 RepeatedIe 8 at 39; 12 RepeatedIe 26 at 49; 12 RepeatedIe 67 at 61; 12 RepeatedIe 100 at 66; 12 RepeatedIe 134 at 66
+000c40 000800020001 001a00161507417108298039000000001002e0e000040201d011 004300060002f8390001 006440080002f83900000010 0086400130: 66 cut, changed 0:8510 1:1664 2:7 3:2117 5:176 6:504 7:384 8:160 9:249 10:384 11:2533 12:10 13:132 of 16830, 4 swapped; 12 RepeatedIe 8 at 66; 12 RepeatedIe 26 at 66; 12 RepeatedIe 67 at 66; 12 RepeatedIe 100 at 66; 12 RepeatedIe 134 at 66
 # an UPLINK NAS TRANSPORT
-000d40 000000020001 000800020001 001a000c0b075308a0a1a2a3a4a5a6a7 006440080002f83900000010 004340060002f8390001: 57 cut, 14535 changed: 0:6148 1:1665 2:7 3:2289 5:64 6:504 7:384 8:160 9:249 10:384 11:2537 12:11 13:133, 4 swapped; 12 RepeatedIe 0 at 19; 12 RepeatedIe 8 at 35; 12 RepeatedIe 26 at 47; 12 RepeatedIe 100 at 57; 12 RepeatedIe 67 at 57
+000d40 000000020001 000800020001 001a000c0b075308a0a1a2a3a4a5a6a7 006440080002f83900000010 004340060002f8390001: 57 cut, changed 0:6148 1:1665 2:7 3:2289 5:64 6:504 7:384 8:160 9:249 10:384 11:2537 12:11 13:133 of 14535, 4 swapped; 12 RepeatedIe 0 at 57; 12 RepeatedIe 8 at 57; 12 RepeatedIe 26 at 57; 12 RepeatedIe 100 at 57; 12 RepeatedIe 67 at 57
 # an INITIAL CONTEXT SETUP RESPONSE, and a FAILURE
-200900 000040020001 000840020001 0033400f000032400a0a1fc0a8000200000002: 38 cut, 9690 changed: 0:2577 1:1691 2:5 3:1606 5:415 6:320 7:256 8:160 9:253 10:320 11:2036 12:4 13:47, 2 swapped; 12 RepeatedIe 0 at 19; 12 RepeatedIe 8 at 38; 12 RepeatedIe 51 at 38
-400900 000040020001 000840020001 000240020280: 25 cut, 6375 changed: 0:548 1:1254 2:4 3:1677 5:91 6:256 7:128 8:336 9:255 10:256 11:1526 12:4 13:40, 2 swapped; 12 RepeatedIe 0 at 19; 12 RepeatedIe 8 at 25; 12 RepeatedIe 2 at 25
+200900 000040020001 000840020001 0033400f000032400a0a1fc0a8000200000002: 38 cut, changed 0:2577 1:1691 2:5 3:1606 5:415 6:320 7:256 8:160 9:253 10:320 11:2036 12:4 13:47 of 9690, 2 swapped; 12 RepeatedIe 0 at 38; 12 RepeatedIe 8 at 38; 12 RepeatedIe 51 at 38
+400900 000040020001 000840020001 000240020280: 25 cut, changed 0:548 1:1254 2:4 3:1677 5:91 6:256 7:128 8:336 9:255 10:256 11:1526 12:4 13:40 of 6375, 2 swapped; 12 RepeatedIe 0 at 25; 12 RepeatedIe 8 at 25; 12 RepeatedIe 2 at 25
 # a UE CAPABILITY INFO INDICATION
-001640 000000020001 000800020001 004a4003020102: 26 cut, 6630 changed: 0:1028 1:1440 2:5 3:1417 5:64 6:320 7:128 8:160 9:249 10:256 11:1532 12:4 13:27, 2 swapped; 12 RepeatedIe 0 at 19; 12 RepeatedIe 8 at 26; 12 RepeatedIe 74 at 26
+001640 000000020001 000800020001 004a4003020102: 26 cut, changed 0:1028 1:1440 2:5 3:1417 5:64 6:320 7:128 8:160 9:249 10:256 11:1532 12:4 13:27 of 6630, 2 swapped; 12 RepeatedIe 0 at 26; 12 RepeatedIe 8 at 26; 12 RepeatedIe 74 at 26
 # a UE CONTEXT RELEASE REQUEST, and a COMPLETE
-001240 000000020001 000800020001 000240020280: 25 cut, 6375 changed: 0:548 1:1254 2:4 3:1677 5:91 6:256 7:128 8:336 9:249 10:256 11:1532 12:4 13:40, 2 swapped; 12 RepeatedIe 0 at 19; 12 RepeatedIe 8 at 25; 12 RepeatedIe 2 at 25
-201700 000040020001 000840020001: 19 cut, 4845 changed: 0:517 1:1077 2:3 3:1228 5:64 6:192 7:128 8:160 9:254 10:192 11:1020 12:2 13:8, 1 swapped; 12 RepeatedIe 0 at 19; 12 RepeatedIe 8 at 19
+001240 000000020001 000800020001 000240020280: 25 cut, changed 0:548 1:1254 2:4 3:1677 5:91 6:256 7:128 8:336 9:249 10:256 11:1532 12:4 13:40 of 6375, 2 swapped; 12 RepeatedIe 0 at 25; 12 RepeatedIe 8 at 25; 12 RepeatedIe 2 at 25
+201700 000040020001 000840020001: 19 cut, changed 0:517 1:1077 2:3 3:1228 5:64 6:192 7:128 8:160 9:254 10:192 11:1020 12:2 13:8 of 4845, 1 swapped; 12 RepeatedIe 0 at 19; 12 RepeatedIe 8 at 19
 # a DOWNLINK NAS TRANSPORT
-000b40 000000020001 000800020001 001a002524075200000102030405060708090a0b0c0d0e0f10101112131415161718191a1b1c1d1e1f: 60 cut, 15300 changed: 0:9698 1:1282 2:5 3:1417 5:64 6:376 7:128 8:160 9:249 10:256 11:1532 12:4 13:129, 2 swapped; 12 RepeatedIe 0 at 19; 12 RepeatedIe 8 at 60; 12 RepeatedIe 26 at 60
+000b40 000000020001 000800020001 001a002524075200000102030405060708090a0b0c0d0e0f10101112131415161718191a1b1c1d1e1f: 60 cut, changed 0:9698 1:1282 2:5 3:1417 5:64 6:376 7:128 8:160 9:249 10:256 11:1532 12:4 13:129 of 15300, 2 swapped; 12 RepeatedIe 0 at 60; 12 RepeatedIe 8 at 60; 12 RepeatedIe 26 at 60
 # an INITIAL CONTEXT SETUP REQUEST, whose length stands in two octets
-000900 000000020001 000800020001 0042000a183b9aca00603b9aca00 001800360000340031450009200f80c0a800010000000122074201e0060002f839000100155201c101090908696e7465726e657405010a2d0001 006b000518000c0000 004900201111111111111111111111111111111111111111111111111111111111111111: 137 cut, 34935 changed: 0:22450 1:2022 2:136 3:2894 4:2 5:917 6:632 7:895 8:160 9:247 10:528 11:3551 12:16 13:485, 5 swapped; 12 RepeatedIe 0 at 20; 12 RepeatedIe 8 at 34; 12 RepeatedIe 66 at 92; 12 RepeatedIe 24 at 101; 12 RepeatedIe 107 at 137; 12 RepeatedIe 73 at 137
+000900 000000020001 000800020001 0042000a183b9aca00603b9aca00 001800360000340031450009200f80c0a800010000000122074201e0060002f839000100155201c101090908696e7465726e657405010a2d0001 006b000518000c0000 004900201111111111111111111111111111111111111111111111111111111111111111: 137 cut, changed 0:22450 1:2022 2:136 3:2894 4:2 5:917 6:632 7:895 8:160 9:247 10:528 11:3551 12:16 13:485 of 34935, 5 swapped; 12 RepeatedIe 0 at 137; 12 RepeatedIe 8 at 137; 12 RepeatedIe 66 at 137; 12 RepeatedIe 24 at 137; 12 RepeatedIe 107 at 137; 12 RepeatedIe 73 at 137
 # a UE CONTEXT RELEASE COMMAND
-001700 0063000400010001 0002400120: 20 cut, 5100 changed: 0:535 1:1109 2:3 3:1073 5:87 6:192 7:160 8:464 9:248 10:192 11:1027 12:1 13:9, 1 swapped; 12 RepeatedIe 99 at 20; 12 RepeatedIe 2 at 20
+001700 0063000400010001 0002400120: 20 cut, changed 0:535 1:1109 2:3 3:1073 5:87 6:192 7:160 8:464 9:248 10:192 11:1027 12:1 13:9 of 5100, 1 swapped; 12 RepeatedIe 99 at 20; 12 RepeatedIe 2 at 20
 # a PAGING
-000a40 005040020040 002b4006001000000001 006d400100 002e400b00002f40060002f8390001: 43 cut, 10965 changed: 0:2596 1:1858 2:6 3:2160 6:384 7:352 8:352 9:249 10:384 11:2547 12:6 13:71, 3 swapped; 12 RepeatedIe 80 at 23; 12 RepeatedIe 43 at 28; 12 RepeatedIe 109 at 43; 12 RepeatedIe 46 at 43
+000a40 005040020040 002b4006001000000001 006d400100 002e400b00002f40060002f8390001: 43 cut, changed 0:2596 1:1858 2:6 3:2160 6:384 7:352 8:352 9:249 10:384 11:2547 12:6 13:71 of 10965, 3 swapped; 12 RepeatedIe 80 at 43; 12 RepeatedIe 43 at 43; 12 RepeatedIe 109 at 43; 12 RepeatedIe 46 at 43
 # an E-RAB SETUP REQUEST, and a RESPONSE
-000500 000000020002 000800020003 0042000a183b9aca00601dcd6500 0010001600001100110e0005290f80c0a8000300000204020746: 59 cut, 15045 changed: 0:5951 1:1949 2:7 3:2340 4:2 5:787 6:504 7:544 8:160 9:248 10:384 11:2040 12:7 13:122, 3 swapped; 12 RepeatedIe 0 at 19; 12 RepeatedIe 8 at 33; 12 RepeatedIe 66 at 59; 12 RepeatedIe 16 at 59
-200500 000040020001 000840020001 001c400f000027400a0c1fc0a8000200000003: 38 cut, 9690 changed: 0:3084 1:1691 2:5 3:1606 5:415 6:320 7:256 8:160 9:254 10:320 11:1528 12:4 13:47, 2 swapped; 12 RepeatedIe 0 at 19; 12 RepeatedIe 8 at 38; 12 RepeatedIe 28 at 38
+000500 000000020002 000800020003 0042000a183b9aca00601dcd6500 0010001600001100110e0005290f80c0a8000300000204020746: 59 cut, changed 0:5951 1:1949 2:7 3:2340 4:2 5:787 6:504 7:544 8:160 9:248 10:384 11:2040 12:7 13:122 of 15045, 3 swapped; 12 RepeatedIe 0 at 59; 12 RepeatedIe 8 at 59; 12 RepeatedIe 66 at 59; 12 RepeatedIe 16 at 59
+200500 000040020001 000840020001 001c400f000027400a0c1fc0a8000200000003: 38 cut, changed 0:3084 1:1691 2:5 3:1606 5:415 6:320 7:256 8:160 9:254 10:320 11:1528 12:4 13:47 of 9690, 2 swapped; 12 RepeatedIe 0 at 38; 12 RepeatedIe 8 at 38; 12 RepeatedIe 28 at 38
 ";
 
-/// The IEs with the one of that number behind the next one, and `twice` in its place too.
-fn moved(alloc: Global, ies: &str, number: usize, twice: bool) -> Result<String, OutOfMemory> {
+/// The IEs with the one of that number behind the next one.
+fn swapped(alloc: Global, ies: &str, number: usize) -> Result<String, Fail> {
+    let next = number.saturating_add(1);
     let mut text = String::new(alloc);
-    let mut held = "";
-    for (place, ie) in ies.split(' ').enumerate() {
-        if place == number {
-            text.push_str(if twice { ie } else { "" })?;
-            held = ie;
+    for place in 0..ies.split(' ').count() {
+        let from = if place == number {
+            next
+        } else if place == next {
+            number
         } else {
-            write!(text, " {ie} {held}")?;
-            held = "";
-        }
+            place
+        };
+        let ie = ies.split(' ').nth(from).ok_or("no IE")?;
+        write!(text, "{ie} ")?;
     }
-    write!(text, " {held}")?;
     Ok(text)
 }
 
@@ -130,9 +131,10 @@ type Counts = [usize; 16];
 
 /// Counts what each change of an octet comes to.
 fn count_changes(alloc: Global, counts: &mut Counts, octets: &[u8]) -> Result<(), Fail> {
-    for place in 0..octets.len() {
-        for bits in 1..=255 {
-            let outcome = outcome_of(alloc, &changed(alloc, octets, place, bits)?)?;
+    for (place, octet) in octets.iter().enumerate() {
+        for more in 1..=255 {
+            let value = octet.wrapping_add(more);
+            let outcome = outcome_of(alloc, &changed(alloc, octets, place, value)?)?;
             if let Some(count) = counts.get_mut(usize::from(outcome)) {
                 *count = count.saturating_add(1);
             }
@@ -141,18 +143,17 @@ fn count_changes(alloc: Global, counts: &mut Counts, octets: &[u8]) -> Result<()
     Ok(())
 }
 
-/// Writes how many changes there are, and how many come to each outcome.
+/// Writes how many changes come to each outcome, and how many there are.
 fn tell_counts(text: &mut String, counts: &Counts) -> Result<(), OutOfMemory> {
-    let total = counts
-        .iter()
-        .fold(0, |sum: usize, count| sum.saturating_add(*count));
-    write!(text, ", {total} changed:")?;
+    let mut total: usize = 0;
+    text.push_str(", changed")?;
     for (outcome, count) in counts.iter().enumerate() {
         if *count > 0 {
             write!(text, " {outcome}:{count}")?;
+            total = total.saturating_add(*count);
         }
     }
-    Ok(())
+    write!(text, " of {total}")
 }
 
 /// Writes what the changes of an octet come to.
@@ -172,7 +173,7 @@ fn tell_swaps(
 ) -> Result<(), Fail> {
     let mut count: usize = 0;
     for number in 1..ies.split(' ').count() {
-        let ies = moved(alloc, ies, number - 1, false)?;
+        let ies = swapped(alloc, ies, number - 1)?;
         let octets = message_of(alloc, head, ies.as_str())?;
         if told_of(alloc, &octets)?.as_str() == message {
             count = count.saturating_add(1);
@@ -181,11 +182,11 @@ fn tell_swaps(
     Ok(write!(text, ", {count} swapped")?)
 }
 
-/// Writes what is told of the message with each of its IEs twice.
+/// Writes what is told of the message with each of its IEs once more behind them.
 fn tell_twice(alloc: Global, text: &mut String, head: &str, ies: &str) -> Result<(), Fail> {
-    for number in 0..ies.split(' ').count() {
+    for ie in ies.split(' ') {
         text.push_str("; ")?;
-        let ies = moved(alloc, ies, number, true)?;
+        let ies = format!(in alloc; "{ies} {ie}")?;
         tell_refusal(alloc, text, &message_of(alloc, head, ies.as_str())?)?;
     }
     Ok(())

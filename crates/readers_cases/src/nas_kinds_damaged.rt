@@ -102,7 +102,7 @@ fn push_letter(alloc: Global, letters: &mut String, octets: &[u8]) -> Result<(),
 fn tell_letters(text: &mut String, letters: &str) -> Result<(), OutOfMemory> {
     text.push(' ')?;
     for letter in LETTERS.chars() {
-        let count = letters.chars().filter(|other| *other == letter).count();
+        let count = letters.split(letter).count().saturating_sub(1);
         if count > 0 {
             write!(text, "{letter}{count}")?;
         }
@@ -119,7 +119,7 @@ fn tell_cuts(alloc: Global, text: &mut String, octets: &[u8]) -> Result<(), OutO
     tell_letters(text, letters.as_str())
 }
 
-/// Writes the word of the octets with the one at that place changed.
+/// Writes the word of the octets with the one at that place one higher, two, and so on to 255: each of its other values.
 fn tell_changes(
     alloc: Global,
     text: &mut String,
@@ -128,9 +128,9 @@ fn tell_changes(
 ) -> Result<(), OutOfMemory> {
     let mut letters = String::new(alloc);
     let mut changed = Vec::from_slice(alloc, octets)?;
-    for bits in 1..=255u8 {
-        if let (Some(octet), Some(old)) = (changed.get_mut(place), octets.get(place)) {
-            *octet = *old ^ bits;
+    for _ in 0..255 {
+        if let Some(octet) = changed.get_mut(place) {
+            *octet = octet.wrapping_add(1);
         }
         push_letter(alloc, &mut letters, &changed)?;
     }
