@@ -197,10 +197,10 @@ class Built(unittest.TestCase):
         done = run("refused_memory", "--only", CASE)
         *told, last = done.stdout.decode().splitlines()
         self.assertEqual((done.returncode, last, len(told)), (0, "2 passed, 0 failed", 2), done.stdout)
-        for line, way in zip(told, ("once", "from there on")):
-            # no request is one that it can do without
-            places, ends = line.replace(f"{LINE}, {way}: ", "").split(" places, ")
-            self.assertEqual(ends, f"{places} status 5")
+        once, behind = (line.replace(f"{LINE}, {way}: ", "").split(" places, ") for line, way in zip(told, ("once", "from there on")))
+        # without one request it may do, as without room that it asks for ahead; without that and all behind it never
+        self.assertRegex(once[1], r"\A([0-9]+ status 0, )?[0-9]+ status 5\Z")
+        self.assertEqual(behind[1], f"{behind[0]} status 5")
 
 
 if __name__ == "__main__":
