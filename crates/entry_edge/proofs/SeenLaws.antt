@@ -1,24 +1,21 @@
 -- What is kept of the lines, as a line more is taken.
-use Rattle.std.proofs.Common.{◌≡◌, ℕ, ◌+◌, ◌-◌, ◌<◌, ◌≤◌, ◌≢◌, List, [], ◌∷◌, ◌++◌, length, map, take, get_or, replicate, suc, zero, refl, ap, ◌∙◌, inl, inr, arith}
+use Rattle.std.proofs.Common.{◌≡◌, ℕ, ◌+◌, ◌-◌, ◌<◌, ◌≤◌, ◌≢◌, List, [], ◌∷◌, ◌++◌, length, map, take, get_or, suc, zero, Ok, Err, refl, sym, ap, subst, ◌∙◌, inl, inr, arith}
 use Rattle.std.specs.List.{range_with_len}
 use Rattle.std.proofs.Math.ListN.{set, length-set}
 use Rattle.std.proofs.lemmas.Bool.{cases_eq, eq-eqb, ne_eqb}
-use Rattle.std.proofs.lemmas.List.{take_all, take_more, get_or-set_same, get_or-set_other, get_or-replicate, length-replicate}
+use Rattle.std.proofs.lemmas.List.{take_all, take_more, get_or-set_same, get_or-set_other}
 use Rattle.std.proofs.lemmas.List.Sums.{fold-append}
+use Rattle.echo_base.specs.declared.refusal.Refusal.{Refusal}
 use Rattle.device_types.specs.declared.subscriber.Subscriber.{Subscriber}
 use Rattle.device_types.specs.declared.message.Message.{Message}
 use Rattle.case_form.specs.declared.case.TraceLine.{TraceLine}
 use Rattle.entry_edge.specs.declared.check.Taken.{Taken}
 use Rattle.entry_edge.specs.declared.admission.RefusedLine.{RefusedLine}
-use Rattle.entry_edge.specs.Trace.{Turn, Admitted, Refused, messages_of, and_message, book_of, turn, history}
+use Rattle.entry_edge.specs.declared.admission.Admission.{Admission}
+use Rattle.entry_edge.specs.Trace.{Turn, Admitted, Refused, messages_of, and_message, book_of, taken_at, turn, history}
 use Rattle.device_types.specs.Numbers.{IsWithin}
-use Rattle.entry_edge.specs.Kept.{AreLines}
-
-pub no_lines : (n : ℕ) (lines : List (List Message)) → lines ≡ replicate n [] → AreLines n [] lines
-no_lines n lines e = record {
-  count = ap length e ∙ length-replicate n [];
-  at = λ i lt. ap (λ (l : List (List Message)). get_or l i []) e ∙ get_or-replicate n i [] [] lt;
-}
+use Rattle.entry_edge.specs.Kept.{AreLines, IsSeen, Keeps}
+use Rattle.entry_edge.proofs.StepLaws.{admitted_turn, refused_turn}
 
 -- a message more
 line_at : (n i d : ℕ) (H : List Turn) (t : Taken) (lines : List (List Message)) → AreLines n H lines → t.device.0 ≡ d → IsWithin n d → i < n → get_or (set lines (d - 1) (and_message (get_or lines (d - 1) []) t)) i [] ≡ messages_of (i + 1) (Admitted t ∷ H)
@@ -41,6 +38,26 @@ lines_more n H t lines new are row e = record {
 
 pub lines_same : (n : ℕ) (H : List Turn) (r : RefusedLine) (lines : List (List Message)) → AreLines n H lines → AreLines n (Refused r ∷ H) lines
 lines_same n H r lines are = record { count = are.count; at = are.at }
+
+-- a line more is taken
+pub admitted_seen : (rows : List Subscriber) (H : List Turn) (line : TraceLine) (t : Taken) (s new : Admission) → IsSeen rows H s → taken_at rows H line ≡ Ok t → IsWithin (length rows) t.device.0 → Keeps (length rows) (Admitted t ∷ H) new.bindings → new.lines.items ≡ set s.lines.items (t.device.0 - 1) (and_message (get_or s.lines.items (t.device.0 - 1) []) t) → new.refused.items ≡ s.refused.items → IsSeen rows (turn rows H line) new
+admitted_seen rows H line t s new seen is row kept more same =
+    let seen_more : IsSeen rows (Admitted t ∷ H) new = record {
+      bindings = kept;
+      lines = lines_more (length rows) H t s.lines.items new.lines.items seen.lines row more;
+      refused = same ∙ seen.refused;
+    } in
+    subst (λ (turns : List Turn). IsSeen rows turns new) (sym (admitted_turn rows H line t is)) seen_more
+
+pub refused_seen : (rows : List Subscriber) (H : List Turn) (line : TraceLine) (e : Refusal) (s new : Admission) → IsSeen rows H s → taken_at rows H line ≡ Err e → Keeps (length rows) H new.bindings → AreLines (length rows) H new.lines.items → new.refused.items ≡ s.refused.items ++ record { line = line.line; refusal = e } ∷ [] → IsSeen rows (turn rows H line) new
+refused_seen rows H line e s new seen is kept lines more =
+    let r : RefusedLine = record { line = line.line; refusal = e } in
+    let seen_more : IsSeen rows (Refused r ∷ H) new = record {
+      bindings = record { opened = kept.opened; count = kept.count; places = kept.places; within = kept.within };
+      lines = lines_same (length rows) H r new.lines.items lines;
+      refused = more ∙ ap (λ (before : List RefusedLine). before ++ r ∷ []) seen.refused;
+    } in
+    subst (λ (turns : List Turn). IsSeen rows turns new) (sym (refused_turn rows H line e is)) seen_more
 
 -- the lines as a book
 all_lines : (f : ℕ → List Message) (a n : ℕ) (lines : List (List Message)) → length lines ≡ n → ((i : ℕ) → i < n → get_or lines i [] ≡ f (a + i)) → lines ≡ map f (range_with_len a n)

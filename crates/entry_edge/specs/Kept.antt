@@ -1,5 +1,5 @@
 -- What the code keeps of a history.
-use Rattle.std.specs.Prelude.{◌≡◌, ℕ, ◌+◌, ◌<◌, List, [], length, Some, slice_index_or}
+use Rattle.std.specs.Prelude.{◌≡◌, ℕ, ◌+◌, ◌-◌, ◌<◌, List, [], length, Some, None, slice_index_or}
 use Rattle.std.specs.Ordering.{nat_cmp, ordering_then}
 use Rattle.std.specs.declared.cmp.Ordering.{Ordering}
 use Rattle.std.specs.BTreeMap.{get}
@@ -14,10 +14,11 @@ use Rattle.entry_edge.specs.Trace.{Turn, Pair, opened, place, messages_of, refus
 abbrev pub pair_cmp : Pair → Pair → Ordering
 pair_cmp p q = ordering_then (nat_cmp p.0 q.0) (nat_cmp p.1 q.1)
 
--- the maps are the look-backs, a key at a time, and each device that opened a pair is a row
+-- The map is the one look back, a pair at a time, and the list the other one, a device at a time. Each device that opened a pair is a row.
 pub record Keeps (rows : ℕ) (H : List Turn) (b : Bindings) : Type 0 where
   pub opened : (pair : Pair) → get pair_cmp b.opened pair ≡ opened pair H
-  pub places : (d : ℕ) → get nat_cmp b.places d ≡ place d H
+  pub count : length b.places.items ≡ rows
+  pub places : (d : ℕ) → IsWithin rows d → slice_index_or b.places.items (d - 1) None ≡ place d H
   pub within : (pair : Pair) (d : DeviceId) → get pair_cmp b.opened pair ≡ Some d → IsWithin rows d.0
 
 -- the lines are those of the devices, by their numbers

@@ -88,9 +88,10 @@ fn no_lines(alloc: Global, devices: u32) -> Result<Vec<Messages>, OutOfMemory>
 fn begin(alloc: Global, table: &SubsTable) -> Result<Admission, OutOfMemory>
     ensures { IfOk result (IsSeen table.now []) }
 {
+    let devices = table.len();
     Ok(Admission {
-        bindings: Bindings::new(alloc),
-        lines: no_lines(alloc, table.len())?,
+        bindings: Bindings::new(alloc, devices)?,
+        lines: no_lines(alloc, devices)?,
         refused: Vec::new(alloc),
     })
 }

@@ -1,7 +1,6 @@
 //! Which device a pair is bound to.
 
-ghost use Rattle.std.specs.Prelude.{◌≡◌, ◌∷◌, [], ℕ, List, Some, None, OnOk, IfSome};
-ghost use Rattle.std.specs.Ordering.{nat_cmp};
+ghost use Rattle.std.specs.Prelude.{◌≡◌, ◌-◌, ◌∷◌, [], ℕ, List, length, Some, None, OnOk, IfOk, IfSome, slice_set};
 ghost use Rattle.std.specs.BTreeMap.{Updates};
 ghost use Rattle.entry_edge.specs.Sent.{is_release};
 ghost use Rattle.entry_edge.specs.Trace.{same_pair};
@@ -21,7 +20,8 @@ pub type Pair = (u16, u32);
 #[derive(Debug, Drop)]
 pub struct Bindings {
     pub opened: BTreeMap<Pair, DeviceId>,
-    pub places: BTreeMap<u32, Pair>,
+    /// That of each device, at its index.
+    pub places: Vec<Option<Pair>>,
 }
 
 /// Are they one pair?
@@ -43,27 +43,24 @@ impl Bindings {
     ghost use Rattle.device_types.specs.Numbers.{IsWithin};
     ghost use Rattle.entry_edge.specs.Kept.{pair_cmp, Keeps};
 
-    /// No pair is bound.
-    pub fn new(alloc: Global) -> Bindings
-        ensures { (rows : ℕ) → Keeps rows [] result }
+    /// No pair is bound to any of `devices` devices.
+    pub fn new(alloc: Global, devices: u32) -> Result<Bindings, OutOfMemory>
+        ensures { IfOk result (Keeps devices []) }
     {
-        Bindings {
+        Ok(Bindings {
             opened: BTreeMap::new(alloc),
-            places: BTreeMap::new(alloc),
-        }
+            places: vec![in alloc; None; devices as usize]?,
+        })
     }
 
     /// The device that the pair is bound to.
     pub fn bound(&self, pair: Pair) -> Option<DeviceId>
+        requires { (rows : ℕ) × (H : List Turn) × Keeps rows H self.now }
         ensures bound { (rows : ℕ) (H : List Turn) → Keeps rows H self.now → result ≡ bound pair H }
         ensures within { (rows : ℕ) (H : List Turn) → Keeps rows H self.now → IfSome result (λ d. IsWithin rows d.0) }
     {
-        let Some(device) = self.opened.get(&pair).copied() else {
-            return None;
-        };
-        let Some(place) = self.places.get(&device.0).copied() else {
-            return None;
-        };
+        let device = self.opened.get(&pair).copied()?;
+        let place = self.places[device.index()]?;
         if is_same(place, pair) {
             return Some(device);
         }
@@ -72,11 +69,12 @@ impl Bindings {
 
     /// The device opens the pair.
     fn bind(&mut self, pair: Pair, device: DeviceId) -> Result<(), OutOfMemory>
+        requires { IsWithin (length self.old.places.items) device.0 }
         ensures opened { OnOk result (Updates pair_cmp self.old.opened self.new.opened pair (Some device)) }
-        ensures places { OnOk result (Updates nat_cmp self.old.places self.new.places device.0 (Some pair)) }
+        ensures places { OnOk result (self.new.places.items ≡ slice_set self.old.places.items (device.0 - 1) (Some pair)) }
     {
         self.opened.insert(pair, device)?;
-        self.places.insert(device.0, pair)?;
+        self.places[device.index()] = Some(pair);
         Ok(())
     }
 
@@ -90,8 +88,8 @@ impl Bindings {
 
     /// Notes an admitted message.
     pub fn note(&mut self, t: &Taken) -> Result<(), OutOfMemory>
-        ensures { (rows : ℕ) (H : List Turn) → Keeps rows H self.old → IsWithin rows t.now.device.0
-            → OnOk result (Keeps rows (Admitted t.now ∷ H) self.new) }
+        requires { IsWithin (length self.old.places.items) t.now.device.0 }
+        ensures { (rows : ℕ) (H : List Turn) → Keeps rows H self.old → OnOk result (Keeps rows (Admitted t.now ∷ H) self.new) }
     {
         let pair = (t.station, t.sent.enb);
         match t.sent.claim {

@@ -107,6 +107,7 @@ fn device_for(
     pair: Pair,
     claim: Claim,
 ) -> Result<DeviceId, Refusal>
+    requires { (H : List Turn) × Keeps (length table.now) H bindings.now }
     ensures device { (H : List Turn) → Keeps (length table.now) H bindings.now → result ≡ device_for table.now H pair claim }
     ensures within { (H : List Turn) → Keeps (length table.now) H bindings.now → IfOk result (λ d. IsWithin (length table.now) d.0) }
 {
@@ -125,6 +126,7 @@ pub fn check(
     bindings: &Bindings,
     line: &TraceLine,
 ) -> Result<Taken, Bad>
+    requires { (H : List Turn) × Keeps (length table.now) H bindings.now }
     ensures taken { (H : List Turn) → Keeps (length table.now) H bindings.now → IsAnswer (taken_at table.now H line.now) result }
     ensures within { (H : List Turn) → Keeps (length table.now) H bindings.now → IfOk result (λ t. IsWithin (length table.now) t.device.0) }
 {
