@@ -4,16 +4,30 @@ use Rattle.std.specs.Prelude.{position}
 use denote.Ref.{Bor}
 use Rattle.std.specs.Option.{is_some, option_copied}
 use Rattle.std.specs.List.{position_or_len}
-use Rattle.std.proofs.lemmas.Bool.{ltb-true, ltb-false}
+use Rattle.std.proofs.lemmas.Bool.{ltb-true, ltb-false, lt-ltb, le-ltb}
 use Rattle.std.proofs.lemmas.Bool.Decides.{nat_tests}
 use Rattle.std.proofs.lemmas.Option.{cond_some}
 use Rattle.std.proofs.lemmas.List.{take_rest}
 use Rattle.std.proofs.lemmas.List.Splits.{slice_split_first, slice_split_none, length-slice_split}
-use Rattle.std.proofs.lemmas.List.Sums.{fails_before_first}
+use Rattle.std.proofs.lemmas.List.Sums.{position_or_len_is, fails_before_first}
+use Rattle.memchr.specs.Find.{IsFirstByte, is_byte}
 use Rattle.case_form.specs.Words.{words_of, words_left}
 
 abbrev is_space : ℕ → Bool
 is_space octet = eqb octet 32
+
+is_false : (b : Bool) → ¬ (b ≡ true) → b ≡ false
+is_false true h = absurd (h refl)
+is_false false h = refl
+
+-- where the first space stands
+pub space_found : (line : List ℕ) (at : Option ℕ) → IsFirstByte (is_byte 32) line at → at ≡ position is_space line
+space_found line None none =
+    let end : position_or_len is_space line ≡ length line = position_or_len_is is_space line (length line) 0 (omega arith) (λ k within. is_false _ (none k (omega arith) within)) (λ above. absurd (omega arith)) in
+    rw (end, le-ltb (length line) (length line) (omega arith)) refl
+space_found line (Some at) (before, hit) =
+    let first : position_or_len is_space line ≡ at = position_or_len_is is_space line at 0 (omega (arith, before.high)) (λ k within. is_false _ (before.before k (omega arith) within)) (λ within. hit) in
+    rw (first, lt-ltb at (length line) before.high) refl
 
 -- no space: the line is the one word
 pub last_word : (line : List ℕ) → position is_space line ≡ None → words_of line ≡ line ∷ []

@@ -5,8 +5,6 @@ ghost use Rattle.std.specs.List.{list_all};
 ghost use Rattle.std.specs.Char.{is_ascii_digit};
 ghost use Rattle.case_form.specs.Number.{is_numeral, number_of};
 
-use std::str;
-
 /// Are all octets decimal digits?
 pub(crate) fn are_digits(octets: &[u8]) -> bool
     ensures { result ≡ list_all is_ascii_digit octets.now }
@@ -30,11 +28,12 @@ pub(crate) fn number_of(word: &[u8], most: u32) -> Option<u32>
     if !is_numeral(word) {
         return None;
     }
-    let Ok(text) = str::from_utf8(word) else {
-        return None;
-    };
-    let Ok(number) = text.parse::<u32>() else {
-        return None;
-    };
-    (number <= most).then_some(number)
+    let mut number = 0u64;
+    for digit in word {
+        number = 10 * number + u64::from(*digit - b'0');
+        if number > u64::from(most) {
+            return None;
+        }
+    }
+    Some(number as u32)
 }

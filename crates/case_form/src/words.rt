@@ -3,6 +3,7 @@
 ghost use Rattle.std.specs.Prelude.{◌≡◌, ◌==◌, ℕ, position};
 
 use crate::number::number_of;
+use memchr::memchr;
 use std::marker::Model;
 
 /// The words of a line that are still to be read: the parts between its spaces.
@@ -26,7 +27,7 @@ impl<'a> Model for Words<'a> {
 fn first_space(octets: &[u8]) -> Option<usize>
     ensures { result ≡ position (λ octet. octet == 32) octets.now }
 {
-    octets.iter().position(|octet| *octet == b' ')
+    memchr(b' ', octets)
 }
 
 impl<'a> Words<'a> {

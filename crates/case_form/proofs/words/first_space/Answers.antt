@@ -1,0 +1,5 @@
+use Rattle.case_form.proofs.WordLaws.{space_found}
+use Rattle.case_form.proofs.words.first_space.Goals as goal
+
+pub returns : goal.returns
+returns c = space_found _ _ c.memchr.ensures
