@@ -22,9 +22,10 @@ use command_words::{Command, Protocol};
 use crash_run::crash_text;
 use device_types::{Finals, Octets};
 use echo_base::OutOfMemory;
+use entry_edge::Admitted;
 use epoch_run::device_text;
 use link_schedule::Floor;
-use report_text::{final_text, show_dia_text, show_gtp_text, show_text};
+use report_text::{put_final_text, show_dia_text, show_gtp_text, show_text};
 use std::alloc::Global;
 use top_calls::{NoText, admitted, ends_text, summary_text};
 
@@ -71,13 +72,13 @@ fn replay<F: Floor>(
         IfOk result (λ text. F.exact floor.old ≡ true → text ≡ replay_of case.now.table turns case.now.schedule replicas) }
 {
     let table = case.table();
-    let admitted = admitted(alloc, case)?;
-    floor.open(alloc, table, &admitted.book, replicas)?;
+    let Admitted { book, refused } = admitted(alloc, case)?;
+    floor.open(alloc, table, &book, replicas)?;
+    drop(book);
     let mut text = transcript(alloc, floor, case.schedule())?;
     let finals = settled_ends(alloc, floor)?;
-    let ends = final_text(alloc, table, &admitted.refused, &finals)?;
-    text.append(ends)?;
-    Ok(text)
+    put_final_text(alloc, &mut text, table, &refused, &finals)?;
+    Ok(Octets::from(text.into_bytes()))
 }
 
 /// What the events of a case come to in numbers on a floor with two replicas, and, once it has settled, its ends.
@@ -204,6 +205,7 @@ pub fn answer<F: Floor>(
         Err(CaseBad::Refused { reason, line }) => return Err(NoText::refused(reason, line)),
         Err(CaseBad::OutOfMemory) => return Err(NoText::OutOfMemory),
     };
+    drop(octets);
     let text = text_of(alloc, command, &case, floor)?;
     Ok(text)
 }

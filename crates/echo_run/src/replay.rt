@@ -1,21 +1,20 @@
 //! What the events of a schedule come to.
 
-ghost use Rattle.std.specs.Prelude.{◌≡◌, ◌+◌, [], ◌∷◌, ◌++◌, map, All, IfOk, OnOk, OnErr};
+ghost use Rattle.std.specs.Prelude.{◌≡◌, ◌+◌, [], ◌∷◌, ◌++◌, map, All, IfOk, OnOk, OnErr, string_bytes};
 ghost use Rattle.device_types.specs.declared.event.EventAnswer.{EventAnswer};
 ghost use Rattle.link_schedule.specs.Floor.{events_of, IsEventOn};
 ghost use Rattle.report_text.specs.Transcript.{transcript_line};
 ghost use Rattle.echo_run.specs.Replay.{lines_from};
 
-use device_types::{Event, Octets};
+use device_types::Event;
 use echo_base::OutOfMemory;
 use link_schedule::Floor;
-use report_text::transcript_line;
+use report_text::put_transcript_line;
 use std::alloc::Global;
 
 /// The floor is given an event of that number, and the line of its answer goes behind the text.
 fn put_event<F: Floor>(
-    alloc: Global,
-    text: &mut Octets,
+    text: &mut String,
     floor: &mut F,
     number: u64,
     event: Event,
@@ -25,11 +24,10 @@ fn put_event<F: Floor>(
     ensures setting { F.setting floor.new ≡ F.setting floor.old }
     ensures given { OnOk result ((answer : EventAnswer)
         × (F.given floor.new ≡ F.given floor.old ++ (event, answer) ∷ [])
-        × (text.new ≡ text.old ++ transcript_line number answer)) }
+        × (string_bytes text.new ≡ string_bytes text.old ++ transcript_line number answer)) }
 {
     let answer = floor.apply(event)?;
-    let line = transcript_line(alloc, number, &answer)?;
-    text.append(line)
+    put_transcript_line(text, number, &answer)
 }
 
 /// The transcript of a schedule: a line for each event, with the answer that the floor gives.
@@ -37,17 +35,17 @@ pub(crate) fn transcript<F: Floor>(
     alloc: Global,
     floor: &mut F,
     schedule: &[Event],
-) -> Result<Octets, OutOfMemory>
+) -> Result<String, OutOfMemory>
     requires fresh { F.given floor.old ≡ [] }
     requires events { All (IsEventOn (F.setting floor.old)) schedule.now }
     ensures exact { F.exact floor.new ≡ F.exact floor.old }
     ensures setting { F.setting floor.new ≡ F.setting floor.old }
     ensures given { OnOk result (events_of (F.given floor.new) ≡ schedule.now) }
-    ensures text { IfOk result (λ text. text ≡ lines_from 1 (map (λ turn. turn.1) (F.given floor.new))) }
+    ensures text { IfOk result (λ text. string_bytes text ≡ lines_from 1 (map (λ turn. turn.1) (F.given floor.new))) }
 {
-    let mut text = Octets::new(alloc);
+    let mut text = String::new(alloc);
     for (index, event) in schedule.iter().enumerate() {
-        put_event(alloc, &mut text, floor, index as u64 + 1, *event)?;
+        put_event(&mut text, floor, index as u64 + 1, *event)?;
     }
     Ok(text)
 }

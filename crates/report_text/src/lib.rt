@@ -21,5 +21,5 @@ pub use server_calls::s6a_text;
 pub use session::session_line;
 pub use status::status_line;
 pub use summary::{Scheduled, Summary, summary_line};
-pub use transcript::transcript_line;
-pub use whole::final_text;
+pub use transcript::{put_transcript_line, transcript_line};
+pub use whole::{final_text, put_final_text};

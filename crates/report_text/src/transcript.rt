@@ -48,15 +48,20 @@ impl fmt::Display for AnswerText {
     }
 }
 
-/// Puts `event INDEX: `, what the event came to, and an LF behind a text.
-fn put_line(text: &mut String, index: u64, answer: AnswerText) -> Result<(), OutOfMemory>
-    ensures { OnOk result (string_bytes text.new ≡ string_bytes text.old ++ transcript_line index answer.0) }
+/// Puts the line of event number `index` in a transcript behind a text, with the LF that ends it: `event INDEX: ` and what the event
+/// comes to, its numbers in decimal.
+pub fn put_transcript_line(
+    text: &mut String,
+    index: u64,
+    answer: &EventAnswer,
+) -> Result<(), OutOfMemory>
+    ensures { OnOk result (string_bytes text.new ≡ string_bytes text.old ++ transcript_line index answer.now) }
 {
+    let answer = AnswerText(*answer);
     writeln!(text, "event {index}: {answer}")
 }
 
-/// The line of event number `index` in a transcript, with the LF that ends it: `event INDEX: ` and what the event comes to, its numbers
-/// in decimal.
+/// The line of event number `index` in a transcript, as `put_transcript_line` puts it.
 pub fn transcript_line(
     alloc: Global,
     index: u64,
@@ -64,7 +69,7 @@ pub fn transcript_line(
 ) -> Result<Octets, OutOfMemory>
     ensures { IfOk result (λ line. line ≡ transcript_line index answer.now) }
 {
-    let mut text = String::new(alloc);
-    put_line(&mut text, index, AnswerText(*answer))?;
-    Ok(Octets::from(text.into_bytes()))
+    let mut line = String::new(alloc);
+    put_transcript_line(&mut line, index, answer)?;
+    Ok(Octets::from(line.into_bytes()))
 }

@@ -64,10 +64,25 @@ fn put_devices(
     Ok(())
 }
 
-/// The text that a run ends with: a line `refused LINE ` and the refusal for each line of the trace that is refused, in order, and
-/// then, for each device in the order of their IMSIs, `device IMSI messages N steps V`, its messages `down K STATION HEX`, its
-/// calls `gateway K CALL` and `subscriber K CALL`, each numbered from 1, and its session.
+/// Puts the text that a run ends with behind a text: a line `refused LINE ` and the refusal for each line of the trace that is refused,
+/// in order, and then, for each device in the order of their IMSIs, `device IMSI messages N steps V`, its messages `down K STATION HEX`,
+/// its calls `gateway K CALL` and `subscriber K CALL`, each numbered from 1, and its session.
 #[tactic(auto, unfolding(crate::specs::Final::final_text))]
+pub fn put_final_text(
+    alloc: Global,
+    text: &mut String,
+    table: &SubsTable,
+    refused: &[RefusedLine],
+    finals: &Finals,
+) -> Result<(), OutOfMemory>
+    requires { AreEnds table.now finals.now }
+    ensures { OnOk result (string_bytes text.new ≡ string_bytes text.old ++ final_text table.now refused.now finals.now) }
+{
+    put_refused(text, refused)?;
+    put_devices(alloc, text, table, finals.items())
+}
+
+/// The text that a run ends with, as `put_final_text` puts it.
 pub fn final_text(
     alloc: Global,
     table: &SubsTable,
@@ -78,7 +93,6 @@ pub fn final_text(
     ensures { IfOk result (λ text. text ≡ final_text table.now refused.now finals.now) }
 {
     let mut text = String::new(alloc);
-    put_refused(&mut text, refused)?;
-    put_devices(alloc, &mut text, table, finals.items())?;
+    put_final_text(alloc, &mut text, table, refused, finals)?;
     Ok(Octets::from(text.into_bytes()))
 }

@@ -9,7 +9,7 @@ ghost use Rattle.device_types.specs.declared.subscriber.Subscriber.{Subscriber};
 use device_types::*;
 use echo_base::{Reason, Refusal};
 use entry_edge::RefusedLine;
-use report_text::final_text;
+use report_text::{final_text, put_final_text};
 use std::alloc::Global;
 use std::test::Fail;
 use subs_table::{SubsTable, read_row};
@@ -261,5 +261,9 @@ fn text_of_two_devices(rt: HostRuntime) -> Result<(), Fail> {
     }];
     let text = final_text(alloc, &table, &refused, &finals)?;
     assert_eq!(rt; text.octets(), FINAL.as_bytes());
+    let mut text = String::new(alloc);
+    text.push_str("event 1: sent\n")?;
+    put_final_text(alloc, &mut text, &table, &refused, &finals)?;
+    assert_eq!(rt; text.as_str().strip_prefix("event 1: sent\n"), Some(FINAL));
     Ok(())
 }

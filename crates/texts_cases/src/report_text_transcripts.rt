@@ -1,7 +1,7 @@
 //! What each answer to an event is in a transcript.
 
 use device_types::{EventAnswer, Lane};
-use report_text::transcript_line;
+use report_text::{put_transcript_line, transcript_line};
 use std::test::Fail;
 
 /// A line for each answer of `answer`, in its order.
@@ -66,10 +66,13 @@ fn answer(index: u64) -> EventAnswer {
 fn tells_each_answer(rt: HostRuntime) -> Result<(), Fail> {
     let alloc = rt.alloc();
     let mut told = String::new(alloc);
+    let mut text = String::new(alloc);
     for index in 1..=23 {
         let line = transcript_line(alloc, index, &answer(index))?;
         told.push_str(str::from_utf8(line.octets())?)?;
+        put_transcript_line(&mut text, index, &answer(index))?;
     }
     assert_eq!(rt; told.as_str(), LINES);
+    assert_eq!(rt; text.as_str(), LINES);
     Ok(())
 }

@@ -119,13 +119,13 @@ pub(crate) fn answer<R: Threads + Wait + Sync, G: Gate + Sync>(
     rt: &R,
     alloc: Global,
     command: ThreadsCommand,
-    octets: &Octets,
+    octets: Octets,
     gates: &G,
 ) -> Result<Answered, NoText>
     requires { IsThreadsInLimits command }
-    ensures text { IfOk result (λ answered. answer_of command octets.now ≡ Ok answered.text) }
-    ensures shards { IfOk result (λ answered. AreShardsBy octets.now answered.ran) }
-    ensures why_not { IfErr result (λ why. IsRefusal why (answer_of command octets.now)) }
+    ensures text { IfOk result (λ answered. answer_of command octets ≡ Ok answered.text) }
+    ensures shards { IfOk result (λ answered. AreShardsBy octets answered.ran) }
+    ensures why_not { IfErr result (λ why. IsRefusal why (answer_of command octets)) }
     ensures of_line { IfErr result IsOfLine }
 {
     let case = match read_case(alloc, octets.octets()) {
@@ -133,6 +133,7 @@ pub(crate) fn answer<R: Threads + Wait + Sync, G: Gate + Sync>(
         Err(CaseBad::Refused { reason, line }) => return Err(NoText::refused(reason, line)),
         Err(CaseBad::OutOfMemory) => return Err(NoText::OutOfMemory),
     };
+    drop(octets);
     let answered = answer_case(rt, alloc, command, &case, gates)?;
     Ok(answered)
 }

@@ -97,7 +97,7 @@ pub fn threads_top<R: Threads + Wait + Sync, S: Source, K: Sink, G: Gate + Sync>
         Ok(octets) => octets,
         Err(status) => return status,
     };
-    let answered = match answer(rt, alloc, command, &octets, gates) {
+    let answered = match answer(rt, alloc, command, octets, gates) {
         Ok(answered) => answered,
         Err(NoText::Refused { number, line }) => return Status::CaseRefused { number, line },
         Err(NoText::OutOfMemory) => return Status::OutOfMemory,

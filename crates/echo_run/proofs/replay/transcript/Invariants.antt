@@ -1,4 +1,5 @@
 use Rattle.std.proofs.Common.{◌≡◌, map, take}
+use Rattle.std.specs.Prelude.{string_bytes}
 use Rattle.link_schedule.specs.Floor.{events_of}
 use Rattle.echo_run.specs.Replay.{lines_from}
 use Rattle.echo_run.proofs.replay.transcript.Given as goal
@@ -9,5 +10,5 @@ invariant-loop-index g l = record {
   exact : g.F.Floor.exact l.floor ≡ g.F.Floor.exact l.initial.floor;
   setting : g.F.Floor.setting l.floor ≡ g.F.Floor.setting l.initial.floor;
   given : events_of (g.F.Floor.given l.floor) ≡ take l.index l.schedule;
-  text : l.text ≡ lines_from 1 (map (λ turn. turn.1) (g.F.Floor.given l.floor));
+  text : string_bytes l.text ≡ lines_from 1 (map (λ turn. turn.1) (g.F.Floor.given l.floor));
 }

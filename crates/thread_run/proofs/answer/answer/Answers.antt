@@ -12,6 +12,6 @@ returns-clause-shards g c =
     let case = c.in-Ok.case in
     let is = c.in-Ok.ensures.case in
     let same = ap (λ (rows : List Subscriber). charter_in rows case.trace) is.table
-    ∙ ap (charter_in (rows_of (lines_of c.octets.result.now))) is.trace
-    ∙ ap (λ (octets : List ℕ). charter_in (rows_of (lines_of octets)) (trace_of (lines_of octets))) c.octets.ensures.value in
+    ∙ ap (charter_in (rows_of (lines_of c.octets-2.result.now))) is.trace
+    ∙ ap (λ (octets : List ℕ). charter_in (rows_of (lines_of octets)) (trace_of (lines_of octets))) c.octets-2.ensures.value in
     subst (λ (charter : CharterState). AreShardsOf charter c.in_ok-answered.answered.ran) same c.in_ok-answered.ensures.shards
