@@ -5,6 +5,7 @@
 use echo_base::{RealSink, RealSource, Status};
 use echo_run::replay_top;
 use link_schedule::OwnFloor;
+use std::mem;
 use std::process::ExitCode;
 use top_calls::{program_end, program_words};
 
@@ -17,6 +18,7 @@ fn run(rt: &HostRuntime) -> Status {
             let mut floor = OwnFloor::new();
             let status = replay_top(rt.alloc(), &words, &mut input, &mut output, &mut floor);
             floor.recall();
+            mem::forget(floor); // its memory goes with the process, at once
             status
         }
         Err(status) => status,
