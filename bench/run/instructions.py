@@ -10,8 +10,8 @@ import tempfile
 
 from run import PROGRAM, case, life, row
 
-# What an event, a line and a row took at the commit 11fe9f1, by this script.
-BEFORE = {"an event of replay": 3861, "of it what plain takes": 1163, "a line of plain": 9200, "a row of plain": 50012}
+# What these took at the commit 11fe9f1, counted in the same way.
+BEFORE = {"an event of replay": 3859, "of it what plain takes": 1161, "a line of plain": 9200, "a row of plain": 49985}
 
 DEVICES, ROUNDS = 40, 19
 LINES, LIVES = 78000, 1000
