@@ -2,7 +2,8 @@
 #![tactic(auto)]
 
 ghost use Rattle.std.specs.Prelude.{◌≡◌, ◌∷◌, [], IfOk, Option, false};
-ghost use Rattle.device_types.specs.Acts.{run, sets, enters, tells, asks, moves_connection, drops_ue, normal_release, authentication_failure};
+ghost use Rattle.bearer_proc.specs.Taking.{Takes};
+ghost use Rattle.device_types.specs.Acts.{made, run, sets, enters, tells, asks, moves_connection, drops_ue, normal_release, authentication_failure};
 ghost use Rattle.device_types.specs.Attach.{attach_message, attach_answer};
 ghost use Rattle.device_types.specs.Rule.{fitting};
 ghost use Rattle.device_types.specs.StepTable.{attach_rules};
@@ -15,8 +16,8 @@ ghost use Rattle.device_types.specs.declared.session.Stage.TheVariants.{AwaitVec
 ghost use Rattle.device_types.specs.declared.subscriber.Subscriber.{Subscriber};
 
 use bearer_proc::{
-    AREA_NOT_ALLOWED, AUTHENTICATION_FAILURE, NORMAL_RELEASE, UNSPECIFIED, behind, context_setup,
-    drop_device, move_link, nas_message, with_effect, without_effect,
+    AREA_NOT_ALLOWED, AUTHENTICATION_FAILURE, NORMAL_RELEASE, UNSPECIFIED, context_setup,
+    drop_device_in_place, move_link_in_place, nas_message, only,
 };
 use device_types::{
     Accept, Answer, Bearer, Body, CauseCode, Effect, Effects, GwCall, Input, Key, Message, NasOut,
@@ -24,13 +25,14 @@ use device_types::{
 };
 use std::alloc::AllocError;
 
-/// The step of attach: Some exactly where one of its rows fits, and then the step of that row.
-pub fn attach_step(
+/// Takes the step of attach: the effects, where one of its rows fits, of the step of that row; where none does, the session stays. For
+/// want of memory it may have changed.
+pub fn attach_step_in_place(
     row: &Subscriber,
-    session: &Session,
+    session: &mut Session,
     input: &Input,
-) -> Result<Option<Step>, AllocError>
-    ensures { IfOk result (λ step. step ≡ fitting (attach_rules row.now session.now input.now) session.now) }
+) -> Result<Option<Effects>, AllocError>
+    ensures { IfOk result (Takes session.old session.new (fitting (attach_rules row.now session.old input.now) session.old)) }
 {
     match input {
         Input::Message(message) => on_message(row, session, message),
@@ -38,12 +40,27 @@ pub fn attach_step(
     }
 }
 
-fn on_message(
+/// The step of attach: Some exactly where one of its rows fits, and then that row's step.
+pub fn attach_step(
     row: &Subscriber,
     session: &Session,
-    message: &Message,
+    input: &Input,
 ) -> Result<Option<Step>, AllocError>
-    ensures { IfOk result (λ step. step ≡ fitting (attach_message row.now session.now message.now message.now.body) session.now) }
+    ensures { IfOk result (λ step. step ≡ fitting (attach_rules row.now session.now input.now) session.now) }
+{
+    let mut session = session.copy()?;
+    let Some(effects) = attach_step_in_place(row, &mut session, input)? else {
+        return Ok(None);
+    };
+    Ok(Some(Step { session, effects }))
+}
+
+fn on_message(
+    row: &Subscriber,
+    session: &mut Session,
+    message: &Message,
+) -> Result<Option<Effects>, AllocError>
+    ensures { IfOk result (Takes session.old session.new (fitting (attach_message row.now session.old message.now message.now.body) session.old)) }
 {
     match &message.body {
         Body::Attach {
@@ -67,15 +84,15 @@ fn on_message(
 /// The request, on any S1 connection.
 fn request(
     row: &Subscriber,
-    session: &Session,
+    session: &mut Session,
     message: &Message,
     plmn: u32,
     tac: u16,
     eea: u8,
     eia: u8,
     pti: u8,
-) -> Result<Option<Step>, AllocError>
-    ensures { IfOk result (λ step. step ≡ fitting (attach_message row.now session.now message.now (bodies.Attach plmn tac eea eia pti)) session.now) }
+) -> Result<Option<Effects>, AllocError>
+    ensures { IfOk result (Takes session.old session.new (fitting (attach_message row.now session.old message.now (bodies.Attach plmn tac eea eia pti)) session.old)) }
 {
     if !session.is_settled() {
         return Ok(None);
@@ -87,36 +104,31 @@ fn request(
 }
 
 /// The area is one where the device is not served.
-fn reject_area(session: &Session, message: &Message) -> Result<Step, AllocError>
-    ensures { IfOk result (λ step. step ≡ run (moves_connection message.now.station message.now.enb ∷ tells (AttachReject 12) ∷ drops_ue normal_release ∷ []) session.now) }
+fn reject_area(session: &mut Session, message: &Message) -> Result<Effects, AllocError>
+    ensures { IfOk result (λ effects. made session.new effects ≡ run (moves_connection message.now.station message.now.enb ∷ tells (AttachReject 12) ∷ drops_ue normal_release ∷ []) session.old) }
 {
-    let Step {
-        session,
-        mut effects,
-    } = move_link(session.copy()?, message.station, message.enb)?;
+    let mut effects = move_link_in_place(session, message.station, message.enb)?;
     let reject = NasOut::AttachReject {
         cause: AREA_NOT_ALLOWED,
     };
-    effects.push(nas_message(&session, reject))?;
-    behind(effects, drop_device(session, NORMAL_RELEASE)?)
+    effects.push(nas_message(session, reject))?;
+    effects.append(drop_device_in_place(session, NORMAL_RELEASE)?)?;
+    Ok(effects)
 }
 
 /// The request is taken: the subscriber server is asked for an authentication vector.
 fn accept_request(
-    session: &Session,
+    session: &mut Session,
     message: &Message,
     plmn: u32,
     tac: u16,
     eea: u8,
     eia: u8,
     pti: u8,
-) -> Result<Step, AllocError>
-    ensures { IfOk result (λ step. step ≡ run (moves_connection message.now.station message.now.enb ∷ sets (λ t. record t { plmn = plmn; tac = tac; eea = eea; eia = eia; pti = pti; registered = false }) ∷ asks subscriber.Vectors ∷ enters AwaitVectors ∷ []) session.now) }
+) -> Result<Effects, AllocError>
+    ensures { IfOk result (λ effects. made session.new effects ≡ run (moves_connection message.now.station message.now.enb ∷ sets (λ t. record t { plmn = plmn; tac = tac; eea = eea; eia = eia; pti = pti; registered = false }) ∷ asks subscriber.Vectors ∷ enters AwaitVectors ∷ []) session.old) }
 {
-    let Step {
-        mut session,
-        mut effects,
-    } = move_link(session.copy()?, message.station, message.enb)?;
+    let mut effects = move_link_in_place(session, message.station, message.enb)?;
     session.plmn = plmn;
     session.tac = tac;
     session.eea = eea;
@@ -125,12 +137,16 @@ fn accept_request(
     session.registered = false;
     session.stage = Stage::AwaitVectors;
     effects.push(Effect::Subscriber(SubCall::Vectors))?;
-    Ok(Step { session, effects })
+    Ok(effects)
 }
 
 /// The response to the challenge.
-fn response(session: &Session, message: &Message, res: &Octets) -> Result<Option<Step>, AllocError>
-    ensures { IfOk result (λ step. (row : Subscriber) → step ≡ fitting (attach_message row session.now message.now (bodies.Response res.now)) session.now) }
+fn response(
+    session: &mut Session,
+    message: &Message,
+    res: &Octets,
+) -> Result<Option<Effects>, AllocError>
+    ensures { (row : Subscriber) → IfOk result (Takes session.old session.new (fitting (attach_message row session.old message.now (bodies.Response res.now)) session.old)) }
 {
     if !(session.is_here(message) && session.is_at(Stage::Authenticating)) {
         return Ok(None);
@@ -142,130 +158,122 @@ fn response(session: &Session, message: &Message, res: &Octets) -> Result<Option
 }
 
 /// The device is who it says: the algorithms that it can are chosen.
-fn choose_algorithms(session: &Session) -> Result<Step, AllocError>
-    ensures { IfOk result (λ step. step ≡ run (tells (SecurityCommand session.now.eea session.now.eia) ∷ enters Securing ∷ []) session.now) }
+fn choose_algorithms(session: &mut Session) -> Result<Effects, AllocError>
+    ensures { IfOk result (λ effects. made session.new effects ≡ run (tells (SecurityCommand session.old.eea session.old.eia) ∷ enters Securing ∷ []) session.old) }
 {
-    let mut next = session.copy()?;
-    next.stage = Stage::Securing;
+    session.stage = Stage::Securing;
     let command = NasOut::SecurityCommand {
         eea: session.eea,
         eia: session.eia,
     };
-    with_effect(next, nas_message(session, command))
+    only(session.alloc(), nas_message(session, command))
 }
 
 /// The device is not who it says.
-fn reject_response(session: &Session) -> Result<Step, AllocError>
-    ensures { IfOk result (λ step. step ≡ run (tells AuthReject ∷ drops_ue authentication_failure ∷ []) session.now) }
+fn reject_response(session: &mut Session) -> Result<Effects, AllocError>
+    ensures { IfOk result (λ effects. made session.new effects ≡ run (tells AuthReject ∷ drops_ue authentication_failure ∷ []) session.old) }
 {
     let mut effects = Effects::new(session.alloc());
     effects.push(nas_message(session, NasOut::AuthReject))?;
-    behind(
-        effects,
-        drop_device(session.copy()?, AUTHENTICATION_FAILURE)?,
-    )
+    effects.append(drop_device_in_place(session, AUTHENTICATION_FAILURE)?)?;
+    Ok(effects)
 }
 
 /// The device has taken the algorithms.
-fn secured(session: &Session, message: &Message) -> Result<Option<Step>, AllocError>
-    ensures { IfOk result (λ step. (row : Subscriber) → step ≡ fitting (attach_message row session.now message.now bodies.Secured) session.now) }
+fn secured(session: &mut Session, message: &Message) -> Result<Option<Effects>, AllocError>
+    ensures { (row : Subscriber) → IfOk result (Takes session.old session.new (fitting (attach_message row session.old message.now bodies.Secured) session.old)) }
 {
     if !(session.is_here(message) && session.is_at(Stage::Securing)) {
         return Ok(None);
     }
-    let mut session = session.copy()?;
     session.stage = Stage::AwaitLocation;
-    Ok(Some(with_effect(session, Effect::Subscriber(SubCall::Location))?))
+    Ok(Some(only(session.alloc(), Effect::Subscriber(SubCall::Location))?))
 }
 
 /// The device has refused the algorithms.
-fn security_refused(session: &Session, message: &Message) -> Result<Option<Step>, AllocError>
-    ensures { IfOk result (λ step. (row : Subscriber) → step ≡ fitting (attach_message row session.now message.now bodies.SecurityRefused) session.now) }
+fn security_refused(session: &mut Session, message: &Message) -> Result<Option<Effects>, AllocError>
+    ensures { (row : Subscriber) → IfOk result (Takes session.old session.new (fitting (attach_message row session.old message.now bodies.SecurityRefused) session.old)) }
 {
     if session.is_here(message) && session.is_at(Stage::Securing) {
-        return Ok(Some(drop_device(session.copy()?, UNSPECIFIED)?));
+        return Ok(Some(drop_device_in_place(session, UNSPECIFIED)?));
     }
     Ok(None)
 }
 
 /// The base station could not set up the context.
-fn context_failed(session: &Session, message: &Message) -> Result<Option<Step>, AllocError>
-    ensures { IfOk result (λ step. (row : Subscriber) → step ≡ fitting (attach_message row session.now message.now bodies.ContextFailed) session.now) }
+fn context_failed(session: &mut Session, message: &Message) -> Result<Option<Effects>, AllocError>
+    ensures { (row : Subscriber) → IfOk result (Takes session.old session.new (fitting (attach_message row session.old message.now bodies.ContextFailed) session.old)) }
 {
     if session.is_here(message)
         && (session.is_at(Stage::Accepting) || session.is_at(Stage::AcceptingDone))
     {
-        return Ok(Some(drop_device(session.copy()?, UNSPECIFIED)?));
+        return Ok(Some(drop_device_in_place(session, UNSPECIFIED)?));
     }
     Ok(None)
 }
 
 /// The base station asks for the release.
 fn release_asked(
-    session: &Session,
+    session: &mut Session,
     message: &Message,
     cause: CauseCode,
-) -> Result<Option<Step>, AllocError>
-    ensures { IfOk result (λ step. (row : Subscriber) → step ≡ fitting (attach_message row session.now message.now (bodies.ReleaseAsked cause)) session.now) }
+) -> Result<Option<Effects>, AllocError>
+    ensures { (row : Subscriber) → IfOk result (Takes session.old session.new (fitting (attach_message row session.old message.now (bodies.ReleaseAsked cause)) session.old)) }
 {
     if session.is_here(message) && session.is_attaching() {
-        return Ok(Some(drop_device(session.copy()?, cause)?));
+        return Ok(Some(drop_device_in_place(session, cause)?));
     }
     Ok(None)
 }
 
 /// The base station has set up the context, whatever it says of a second bearer.
 fn context_done(
-    session: &Session,
+    session: &mut Session,
     message: &Message,
     addr: u32,
     teid: u32,
-) -> Result<Option<Step>, AllocError>
-    ensures { IfOk result (λ step. (row : Subscriber) (second : Option Side) → step ≡ fitting (attach_message row session.now message.now (bodies.ContextDone addr teid second)) session.now) }
+) -> Result<Option<Effects>, AllocError>
+    ensures { (row : Subscriber) (second : Option Side) → IfOk result (Takes session.old session.new (fitting (attach_message row session.old message.now (bodies.ContextDone addr teid second)) session.old)) }
 {
     if !session.is_here(message) {
         return Ok(None);
     }
     if session.is_at(Stage::Accepting) {
-        let mut session = session.copy()?;
         session.side_addr = addr;
         session.side_teid = teid;
         session.stage = Stage::AcceptingContext;
-        return Ok(Some(without_effect(session)));
+        return Ok(Some(Effects::new(session.alloc())));
     }
     if session.is_at(Stage::AcceptingDone) {
-        let mut session = session.copy()?;
         session.side_addr = addr;
         session.side_teid = teid;
         session.stage = Stage::AwaitModify;
-        return Ok(Some(with_effect(session, Effect::Gateway(GwCall::Modify(addr, teid)))?));
+        return Ok(Some(only(session.alloc(), Effect::Gateway(GwCall::Modify(addr, teid)))?));
     }
     Ok(None)
 }
 
 /// The device has accepted.
-fn attach_done(session: &Session, message: &Message) -> Result<Option<Step>, AllocError>
-    ensures { IfOk result (λ step. (row : Subscriber) → step ≡ fitting (attach_message row session.now message.now bodies.AttachDone) session.now) }
+fn attach_done(session: &mut Session, message: &Message) -> Result<Option<Effects>, AllocError>
+    ensures { (row : Subscriber) → IfOk result (Takes session.old session.new (fitting (attach_message row session.old message.now bodies.AttachDone) session.old)) }
 {
     if !session.is_here(message) {
         return Ok(None);
     }
     if session.is_at(Stage::Accepting) {
-        let mut session = session.copy()?;
         session.stage = Stage::AcceptingDone;
-        return Ok(Some(without_effect(session)));
+        return Ok(Some(Effects::new(session.alloc())));
     }
     if session.is_at(Stage::AcceptingContext) {
-        let mut session = session.copy()?;
         session.stage = Stage::AwaitModify;
         let call = GwCall::Modify(session.side_addr, session.side_teid);
-        return Ok(Some(with_effect(session, Effect::Gateway(call))?));
+        return Ok(Some(only(session.alloc(), Effect::Gateway(call))?));
     }
     Ok(None)
 }
 
-fn on_answer(session: &Session, answer: &Answer) -> Result<Option<Step>, AllocError>
-    ensures { IfOk result (λ step. step ≡ fitting (attach_answer session.now answer.now) session.now) }
+fn on_answer(session: &mut Session, answer: &Answer) -> Result<Option<Effects>, AllocError>
+    ensures { IfOk result (Takes session.old session.new (fitting (attach_answer session.old answer.now) session.old)) }
 {
     match answer {
         Answer::Vectors(rand, autn, res, key) => vectors(session, rand, autn, res, key),
@@ -273,22 +281,20 @@ fn on_answer(session: &Session, answer: &Answer) -> Result<Option<Step>, AllocEr
             if !session.is_at(Stage::AwaitLocation) {
                 return Ok(None);
             }
-            let mut session = session.copy()?;
             session.dl = *dl;
             session.ul = *ul;
             session.stage = Stage::AwaitCreate;
-            Ok(Some(with_effect(session, Effect::Gateway(GwCall::Create))?))
+            Ok(Some(only(session.alloc(), Effect::Gateway(GwCall::Create))?))
         }
         Answer::Created(sgw, teid, ip) => created(session, *sgw, *teid, *ip),
         Answer::Modified => {
             if !session.is_at(Stage::AwaitModify) {
                 return Ok(None);
             }
-            let mut session = session.copy()?;
             session.bearer = Bearer::Active;
             session.registered = true;
             session.stage = Stage::Connected;
-            Ok(Some(without_effect(session)))
+            Ok(Some(Effects::new(session.alloc())))
         }
         _ => Ok(None),
     }
@@ -296,35 +302,40 @@ fn on_answer(session: &Session, answer: &Answer) -> Result<Option<Step>, AllocEr
 
 /// The authentication vector has come.
 fn vectors(
-    session: &Session,
+    session: &mut Session,
     rand: &Octets,
     autn: &Octets,
     res: &Octets,
     key: &Octets,
-) -> Result<Option<Step>, AllocError>
-    ensures { IfOk result (λ step. step ≡ fitting (attach_answer session.now (answers.Vectors rand.now autn.now res.now key.now)) session.now) }
+) -> Result<Option<Effects>, AllocError>
+    ensures { IfOk result (Takes session.old session.new (fitting (attach_answer session.old (answers.Vectors rand.now autn.now res.now key.now)) session.old)) }
 {
     if !session.is_at(Stage::AwaitVectors) {
         return Ok(None);
     }
-    let mut next = session.with_vector(res.copy()?, Key::new(key.copy()?));
-    next.stage = Stage::Authenticating;
+    session.res = res.copy()?;
+    session.key = Key::new(key.copy()?);
+    session.stage = Stage::Authenticating;
     let request = NasOut::AuthRequest {
         rand: rand.copy()?,
         autn: autn.copy()?,
     };
-    let effect = nas_message(&next, request);
-    Ok(Some(with_effect(next, effect)?))
+    let effect = nas_message(session, request);
+    Ok(Some(only(session.alloc(), effect)?))
 }
 
 /// The gateway has made the session.
-fn created(session: &Session, sgw: u32, teid: u32, ip: u32) -> Result<Option<Step>, AllocError>
-    ensures { IfOk result (λ step. step ≡ fitting (attach_answer session.now (answers.Created sgw teid ip)) session.now) }
+fn created(
+    session: &mut Session,
+    sgw: u32,
+    teid: u32,
+    ip: u32,
+) -> Result<Option<Effects>, AllocError>
+    ensures { IfOk result (Takes session.old session.new (fitting (attach_answer session.old (answers.Created sgw teid ip)) session.old)) }
 {
     if !session.is_at(Stage::AwaitCreate) {
         return Ok(None);
     }
-    let mut session = session.copy()?;
     session.sgw = sgw;
     session.teid = teid;
     session.ip = ip;
@@ -336,6 +347,6 @@ fn created(session: &Session, sgw: u32, teid: u32, ip: u32) -> Result<Option<Ste
         pti: session.pti,
         ip,
     };
-    let effect = context_setup(&session, accept)?;
-    Ok(Some(with_effect(session, effect)?))
+    let effect = context_setup(session, accept)?;
+    Ok(Some(only(session.alloc(), effect)?))
 }

@@ -2,13 +2,13 @@
 #![tactic(auto)]
 
 ghost use Rattle.std.specs.Prelude.{◌≡◌, [], ◌∷◌, IfOk};
-ghost use Rattle.device_types.specs.Acts.{made, behind, station_of, enb_of, nas_to, told, setup, second_setup, page, release, releases, left_behind, moves_connection, drops_ue, frees_bearers};
+ghost use Rattle.device_types.specs.Acts.{made, station_of, enb_of, nas_to, told, setup, second_setup, page, release, releases, left_behind, moves_connection, drops_ue, frees_bearers};
 
 use device_types::{
     Accept, Bearer, CauseCode, Down, Effect, Effects, GwCall, Link, NasOut, Session, Stage, Step,
     TryCopy,
 };
-use std::alloc::AllocError;
+use std::alloc::{AllocError, Global};
 
 /// The group of the causes of NAS (3GPP TS 36.413, 9.2.1.3).
 const NAS: u8 = 2;
@@ -132,53 +132,44 @@ pub fn context_release(session: &Session) -> Effect
     })
 }
 
-/// The session, with no effect. It takes no memory.
-pub fn without_effect(session: Session) -> Step
-    ensures { result ≡ made session [] }
+/// This one effect.
+pub fn only(alloc: Global, effect: Effect) -> Result<Effects, AllocError>
+    ensures { IfOk result (λ effects. effects ≡ effect ∷ []) }
 {
-    let effects = Effects::new(session.alloc());
-    Step { session, effects }
-}
-
-/// The session, with this one effect.
-pub fn with_effect(session: Session, effect: Effect) -> Result<Step, AllocError>
-    ensures { IfOk result (λ step. step ≡ made session (effect ∷ [])) }
-{
-    let mut effects = Effects::new(session.alloc());
+    let mut effects = Effects::new(alloc);
     effects.push(effect)?;
-    Ok(Step { session, effects })
-}
-
-/// These effects, and then the step.
-pub fn behind(mut effects: Effects, step: Step) -> Result<Step, AllocError>
-    ensures { IfOk result (λ all. all ≡ behind effects step) }
-{
-    let Step {
-        session,
-        effects: more,
-    } = step;
-    effects.append(more)?;
-    Ok(Step { session, effects })
+    Ok(effects)
 }
 
 /// The device's context is released (TS 23.401, 5.3.5, step 4).
-pub fn release_context(mut session: Session) -> Result<Step, AllocError>
-    ensures { IfOk result (λ step. step ≡ releases session) }
+pub fn release_context(session: &mut Session) -> Result<Effects, AllocError>
+    ensures { IfOk result (λ effects. made session.new effects ≡ releases session.old) }
 {
-    let effect = context_release(&session);
+    let effects = only(session.alloc(), context_release(session))?;
     session.stage = Stage::Releasing;
-    with_effect(session, effect)
+    Ok(effects)
 }
 
-/// Moves the S1 connection: the device is on this one now, and another one that it had is released. For want of memory the session
-/// is dropped.
+/// Moves the S1 connection: the device is on this one now, and another one that it had is released.
 #[tactic(auto, unfolding(device_types::specs::Acts::moves_connection))]
+pub fn move_link_in_place(
+    session: &mut Session,
+    station: u16,
+    enb: u32,
+) -> Result<Effects, AllocError>
+    ensures { IfOk result (λ effects. made session.new effects ≡ moves_connection station enb session.old) }
+{
+    let effects = left_behind(session, station, enb)?;
+    session.link = Link::On { station, enb };
+    Ok(effects)
+}
+
+/// The step of `move_link_in_place`. For want of memory the session is dropped.
 pub fn move_link(s: Session, station: u16, enb: u32) -> Result<Step, AllocError>
     ensures { IfOk result (λ step. step ≡ moves_connection station enb s) }
 {
-    let effects = left_behind(&s, station, enb)?;
     let mut session = s;
-    session.link = Link::On { station, enb };
+    let effects = move_link_in_place(&mut session, station, enb)?;
     Ok(Step { session, effects })
 }
 
@@ -205,12 +196,11 @@ fn left_behind(session: &Session, station: u16, enb: u32) -> Result<Effects, All
 }
 
 /// Drops the UE: it is not registered. Its session at the gateway is deleted first, where it has one, and then its context is
-/// released. For want of memory the session is dropped.
+/// released.
 #[tactic(auto, unfolding(device_types::specs::Acts::drops_ue))]
-pub fn drop_device(s: Session, cause: CauseCode) -> Result<Step, AllocError>
-    ensures { IfOk result (λ step. step ≡ drops_ue cause s) }
+pub fn drop_device_in_place(session: &mut Session, cause: CauseCode) -> Result<Effects, AllocError>
+    ensures { IfOk result (λ effects. made session.new effects ≡ drops_ue cause session.old) }
 {
-    let mut session = s;
     session.cause = cause;
     session.registered = false;
     match session.bearer {
@@ -218,24 +208,41 @@ pub fn drop_device(s: Session, cause: CauseCode) -> Result<Step, AllocError>
         Bearer::Made | Bearer::Active => {
             session.off = true;
             session.stage = Stage::AwaitDelete;
-            with_effect(session, Effect::Gateway(GwCall::Delete))
+            only(session.alloc(), Effect::Gateway(GwCall::Delete))
         }
     }
 }
 
-/// Frees the radio bearers: the gateway lets go of the base station first, where it has one, and then the device's context is
-/// released (TS 23.401, 5.3.5). For want of memory the session is dropped.
-#[tactic(auto, unfolding(device_types::specs::Acts::frees_bearers))]
-pub fn free_link(s: Session, cause: CauseCode) -> Result<Step, AllocError>
-    ensures { IfOk result (λ step. step ≡ frees_bearers cause s) }
+/// The step of `drop_device_in_place`. For want of memory the session is dropped.
+pub fn drop_device(s: Session, cause: CauseCode) -> Result<Step, AllocError>
+    ensures { IfOk result (λ step. step ≡ drops_ue cause s) }
 {
     let mut session = s;
+    let effects = drop_device_in_place(&mut session, cause)?;
+    Ok(Step { session, effects })
+}
+
+/// Frees the radio bearers: the gateway lets go of the base station first, where it has one, and then the device's context is
+/// released (TS 23.401, 5.3.5).
+#[tactic(auto, unfolding(device_types::specs::Acts::frees_bearers))]
+pub fn free_link_in_place(session: &mut Session, cause: CauseCode) -> Result<Effects, AllocError>
+    ensures { IfOk result (λ effects. made session.new effects ≡ frees_bearers cause session.old) }
+{
     session.cause = cause;
     match session.bearer {
         Bearer::None | Bearer::Made => release_context(session),
         Bearer::Active => {
             session.stage = Stage::AwaitRelease;
-            with_effect(session, Effect::Gateway(GwCall::Release))
+            only(session.alloc(), Effect::Gateway(GwCall::Release))
         }
     }
+}
+
+/// The step of `free_link_in_place`. For want of memory the session is dropped.
+pub fn free_link(s: Session, cause: CauseCode) -> Result<Step, AllocError>
+    ensures { IfOk result (λ step. step ≡ frees_bearers cause s) }
+{
+    let mut session = s;
+    let effects = free_link_in_place(&mut session, cause)?;
+    Ok(Step { session, effects })
 }

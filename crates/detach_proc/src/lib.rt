@@ -2,7 +2,8 @@
 #![tactic(auto)]
 
 ghost use Rattle.std.specs.Prelude.{◌≡◌, ◌∷◌, [], IfOk, true, false};
-ghost use Rattle.device_types.specs.Acts.{run, tells_unless, releases, asks};
+ghost use Rattle.bearer_proc.specs.Taking.{Takes};
+ghost use Rattle.device_types.specs.Acts.{made, run, tells_unless, releases, asks};
 ghost use Rattle.device_types.specs.Detach.{detach_message, detach_answer, deletes, leaves};
 ghost use Rattle.device_types.specs.Rule.{fitting};
 ghost use Rattle.device_types.specs.StepTable.{detach_rules};
@@ -12,8 +13,7 @@ ghost use Rattle.device_types.specs.declared.message.Body.TheVariants as bodies;
 ghost use Rattle.device_types.specs.declared.nas_out.NasOut.TheVariants.{DetachAccept};
 
 use bearer_proc::{
-    DETACH, behind, context_release, drop_device, move_link, nas_message, nas_to, with_effect,
-    without_effect,
+    DETACH, context_release, drop_device_in_place, move_link_in_place, nas_message, nas_to, only,
 };
 use device_types::{
     Answer, Bearer, Body, Effect, Effects, GwCall, Input, Message, NasOut, Session, Stage, Step,
@@ -21,9 +21,13 @@ use device_types::{
 };
 use std::alloc::AllocError;
 
-/// The step of detach: Some exactly where one of its rows fits, and then the step of that row.
-pub fn detach_step(session: &Session, input: &Input) -> Result<Option<Step>, AllocError>
-    ensures { IfOk result (λ step. step ≡ fitting (detach_rules session.now input.now) session.now) }
+/// Takes the step of detach: the effects, where one of its rows fits, of the step of that row; where none does, the session stays. For
+/// want of memory it may have changed.
+pub fn detach_step_in_place(
+    session: &mut Session,
+    input: &Input,
+) -> Result<Option<Effects>, AllocError>
+    ensures { IfOk result (Takes session.old session.new (fitting (detach_rules session.old input.now) session.old)) }
 {
     match input {
         Input::Message(message) => on_message(session, message),
@@ -31,8 +35,19 @@ pub fn detach_step(session: &Session, input: &Input) -> Result<Option<Step>, All
     }
 }
 
-fn on_message(session: &Session, message: &Message) -> Result<Option<Step>, AllocError>
-    ensures { IfOk result (λ step. step ≡ fitting (detach_message session.now message.now message.now.body) session.now) }
+/// The step of detach: Some exactly where one of its rows fits, and then that row's step.
+pub fn detach_step(session: &Session, input: &Input) -> Result<Option<Step>, AllocError>
+    ensures { IfOk result (λ step. step ≡ fitting (detach_rules session.now input.now) session.now) }
+{
+    let mut session = session.copy()?;
+    let Some(effects) = detach_step_in_place(&mut session, input)? else {
+        return Ok(None);
+    };
+    Ok(Some(Step { session, effects }))
+}
+
+fn on_message(session: &mut Session, message: &Message) -> Result<Option<Effects>, AllocError>
+    ensures { IfOk result (Takes session.old session.new (fitting (detach_message session.old message.now message.now.body) session.old)) }
 {
     match &message.body {
         Body::Detach { first, off } => {
@@ -47,64 +62,73 @@ fn on_message(session: &Session, message: &Message) -> Result<Option<Step>, Allo
 }
 
 /// A request on any S1 connection.
-fn first_detach(session: &Session, message: &Message, off: bool) -> Result<Option<Step>, AllocError>
-    ensures { IfOk result (λ step. step ≡ fitting (detach_message session.now message.now (bodies.Detach true off)) session.now) }
+fn first_detach(
+    session: &mut Session,
+    message: &Message,
+    off: bool,
+) -> Result<Option<Effects>, AllocError>
+    ensures { IfOk result (Takes session.old session.new (fitting (detach_message session.old message.now (bodies.Detach true off)) session.old)) }
 {
     if session.is_gone() {
-        let session = session.copy()?;
         if off {
-            return Ok(Some(without_effect(session)));
+            return Ok(Some(Effects::new(session.alloc())));
         }
         let effect = nas_to(message.station, message.enb, NasOut::DetachAccept);
-        return Ok(Some(with_effect(session, effect)?));
+        return Ok(Some(only(session.alloc(), effect)?));
     }
     if session.is_settled() {
-        let Step { session, effects } = move_link(session.copy()?, message.station, message.enb)?;
-        return Ok(Some(behind(effects, leave(session, off)?)?));
+        let mut effects = move_link_in_place(session, message.station, message.enb)?;
+        effects.append(leave(session, off)?)?;
+        return Ok(Some(effects));
     }
     Ok(None)
 }
 
 /// A request on the device's own S1 connection.
-fn later_detach(session: &Session, message: &Message, off: bool) -> Result<Option<Step>, AllocError>
-    ensures { IfOk result (λ step. step ≡ fitting (detach_message session.now message.now (bodies.Detach false off)) session.now) }
+fn later_detach(
+    session: &mut Session,
+    message: &Message,
+    off: bool,
+) -> Result<Option<Effects>, AllocError>
+    ensures { IfOk result (Takes session.old session.new (fitting (detach_message session.old message.now (bodies.Detach false off)) session.old)) }
 {
     if session.is_here(message) && session.is_served() {
-        return Ok(Some(leave(session.copy()?, off)?));
+        return Ok(Some(leave(session, off)?));
     }
     Ok(None)
 }
 
 /// The device leaves, switched off or not: where it has a session at the gateway, that is deleted first.
-fn leave(session: Session, off: bool) -> Result<Step, AllocError>
-    ensures { IfOk result (λ step. step ≡ leaves off session) }
+fn leave(session: &mut Session, off: bool) -> Result<Effects, AllocError>
+    ensures { IfOk result (λ effects. made session.new effects ≡ leaves off session.old) }
 {
     match session.bearer {
         Bearer::None => {
             if off {
-                return drop_device(session, DETACH);
+                return drop_device_in_place(session, DETACH);
             }
             let mut effects = Effects::new(session.alloc());
-            effects.push(nas_message(&session, NasOut::DetachAccept))?;
-            behind(effects, drop_device(session, DETACH)?)
+            effects.push(nas_message(session, NasOut::DetachAccept))?;
+            effects.append(drop_device_in_place(session, DETACH)?)?;
+            Ok(effects)
         }
         Bearer::Made | Bearer::Active => delete_bearer(session, off),
     }
 }
 
 /// The device's session at the gateway is deleted before it leaves.
-fn delete_bearer(mut session: Session, off: bool) -> Result<Step, AllocError>
-    ensures { IfOk result (λ step. step ≡ run (deletes off) session) }
+fn delete_bearer(session: &mut Session, off: bool) -> Result<Effects, AllocError>
+    ensures { IfOk result (λ effects. made session.new effects ≡ run (deletes off) session.old) }
 {
     session.cause = DETACH;
     session.registered = false;
     session.off = off;
     session.stage = Stage::AwaitDelete;
-    with_effect(session, Effect::Gateway(GwCall::Delete))
+    only(session.alloc(), Effect::Gateway(GwCall::Delete))
 }
 
-fn on_answer(session: &Session, answer: &Answer) -> Result<Option<Step>, AllocError>
-    ensures { IfOk result (λ step. step ≡ fitting (detach_answer session.now answer.now) session.now) }
+fn on_answer(session: &mut Session, answer: &Answer) -> Result<Option<Effects>, AllocError>
+    ensures { IfOk result (Takes session.old session.new (fitting (detach_answer session.old answer.now) session.old)) }
 {
     match answer {
         Answer::Deleted => deleted(session),
@@ -113,17 +137,16 @@ fn on_answer(session: &Session, answer: &Answer) -> Result<Option<Step>, AllocEr
 }
 
 /// The gateway has deleted the session.
-fn deleted(session: &Session) -> Result<Option<Step>, AllocError>
-    ensures { IfOk result (λ step. step ≡ fitting (detach_answer session.now answers.Deleted) session.now) }
+fn deleted(session: &mut Session) -> Result<Option<Effects>, AllocError>
+    ensures { IfOk result (Takes session.old session.new (fitting (detach_answer session.old answers.Deleted) session.old)) }
 {
     if !session.is_at(Stage::AwaitDelete) {
         return Ok(None);
     }
     let effects = farewell(session)?;
-    let mut session = session.copy()?;
     session.bearer = Bearer::None;
     session.stage = Stage::Releasing;
-    Ok(Some(Step { session, effects }))
+    Ok(Some(effects))
 }
 
 /// What is told of a device whose session at the gateway is deleted: to the subscriber server, to the device where it is not switched

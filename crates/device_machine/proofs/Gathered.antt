@@ -1,8 +1,8 @@
 -- The lanes of a journal, gathered step by step.
-use Rattle.std.proofs.Common.{◌≡◌, ℕ, suc, ◌≤◌, Bool, true, false, cond, List, [], ◌∷◌, ◌++◌, length, map, Option, Some, None, refl, sym, ap, ◌∙◌, subst, append-nil}
+use Rattle.std.proofs.Common.{◌≡◌, ℕ, suc, ◌+◌, ◌≤◌, arith, Bool, true, false, cond, List, [], ◌∷◌, ◌++◌, length, map, Option, Some, None, refl, sym, ap, ◌∙◌, subst, append-nil}
 use Rattle.std.specs.Prelude.{All, filter, fold, option_map, slice_get}
 use Rattle.std.specs.List.{filter_map, cons_option}
-use Rattle.std.proofs.lemmas.List.{map-append, append_assoc, length-map}
+use Rattle.std.proofs.lemmas.List.{map-append, append_assoc, length-append}
 use Rattle.std.proofs.lemmas.List.Elements.{All-nil, All-cons, All-head, All-tail, All-append, All-filter, filter_map-append}
 use Rattle.device_types.specs.declared.down.Down.{Down}
 use Rattle.device_types.specs.declared.effect.Effect.{Effect}
@@ -14,16 +14,18 @@ use Rattle.device_types.specs.declared.message.Message.{Message}
 use Rattle.device_types.specs.declared.step.Entry.{Entry}
 use Rattle.device_types.specs.declared.step.Step.{Step}
 use Rattle.device_types.specs.declared.subscriber.Subscriber.{Subscriber}
-use Rattle.device_types.specs.Alone.{alone_of}
+use Rattle.device_types.specs.Alone.{alone_to, alone_of}
 use Rattle.device_types.specs.Down.{IsDown}
 use Rattle.device_types.specs.Effect.{IsWritable}
-use Rattle.device_types.specs.Journal.{is_on, effects_on, effects_of}
+use Rattle.device_types.specs.Journal.{is_on, effects_on, effects_of, session_of}
 use Rattle.device_types.specs.Message.{IsMessage}
 use Rattle.device_types.specs.Subscriber.{IsSubscriber}
 use Rattle.device_types.proofs.Courses.{sound_writable}
-use Rattle.device_types.proofs.Journals.{effects_more, session_more}
+use Rattle.device_types.proofs.Journals.{effects_more}
 use Rattle.device_machine.specs.declared.ends.Lanes.{Lanes}
-use Rattle.device_machine.specs.Ends.{down_in, gateway_in, subscriber_in, downs_of, gateway_of, subscriber_of, end_of, lanes_of, with_effect, with_step}
+use Rattle.device_machine.specs.Ends.{down_in, gateway_in, subscriber_in, downs_of, gateway_of, subscriber_of, end_by, end_of, ended, lanes_of, with_effect}
+use Rattle.device_machine.specs.declared.course.Course.{Course}
+use Rattle.device_machine.specs.Course.{course_of, GoesOn}
 
 -- ---- a lane has its effects and no others
 
@@ -116,7 +118,6 @@ with_all kept es = record {
   downs = kept.downs ++ filter_map down_in es;
   gateway = kept.gateway ++ filter_map gateway_in es;
   subscriber = kept.subscriber ++ filter_map subscriber_in es;
-  session = kept.session;
 }
 
 all_put : (kept : Lanes) (es : List Effect) → fold with_effect kept es ≡ with_all kept es
@@ -125,16 +126,21 @@ all_put kept (effects.Down d ∷ es) = all_put (with_effect kept (effects.Down d
 all_put kept (effects.Gateway c ∷ es) = all_put (with_effect kept (effects.Gateway c)) es ∙ ap (λ cs. record (with_all kept es) { gateway = cs }) (append_assoc kept.gateway (c ∷ []) (filter_map gateway_in es))
 all_put kept (effects.Subscriber c ∷ es) = all_put (with_effect kept (effects.Subscriber c)) es ∙ ap (λ cs. record (with_all kept es) { subscriber = cs }) (append_assoc kept.subscriber (c ∷ []) (filter_map subscriber_in es))
 
-lanes_more : (J : List Entry) (entry : Entry) → lanes_of (J ++ entry ∷ []) ≡ with_step (lanes_of J) entry.step
+pub lanes_more : (J : List Entry) (entry : Entry) → lanes_of (J ++ entry ∷ []) ≡ fold with_effect (lanes_of J) entry.step.effects
 lanes_more J entry =
-    rw (lane_more lanes.Down down_in down_if_off J entry, lane_more lanes.Gateway gateway_in gateway_if_off J entry, lane_more lanes.Subscriber subscriber_in subscriber_if_off J entry, session_more J entry, all_put (lanes_of J) entry.step.effects) refl
+    rw (lane_more lanes.Down down_in down_if_off J entry, lane_more lanes.Gateway gateway_in gateway_if_off J entry, lane_more lanes.Subscriber subscriber_in subscriber_if_off J entry, all_put (lanes_of J) entry.step.effects) refl
 
-pub gathered_behind : (J K : List Entry) → fold with_step (lanes_of J) (map (λ (e : Entry). e.step) K) ≡ lanes_of (J ++ K)
-gathered_behind J [] = ap lanes_of (sym (append-nil J))
-gathered_behind J (e ∷ K) =
-    ap (λ kept. fold with_step kept (map (λ (x : Entry). x.step) K)) (sym (lanes_more J e))
-    ∙ gathered_behind (J ++ e ∷ []) K
-    ∙ ap lanes_of (append_assoc J (e ∷ []) K)
+-- what is kept behind one entry more
+pub goes_on_kept : (row : Subscriber) (ms : List Message) (v : ℕ) (c : Course) (kept more : Lanes) (es : List Effect) → kept ≡ lanes_of (alone_to row ms v) → length (alone_to row ms v) ≡ v → GoesOn row ms v c (Some es) → more ≡ fold with_effect kept es → (more ≡ lanes_of (alone_to row ms (v + 1))) × (length (alone_to row ms (v + 1)) ≡ v + 1)
+goes_on_kept row ms v c kept more es so_far count (is, (e, next, step)) then =
+    let J = alone_to row ms v in (
+      then
+          ∙ ap (λ k. fold with_effect k es) so_far
+          ∙ ap (λ (t : Step). fold with_effect (lanes_of J) t.effects) (sym step)
+          ∙ sym (lanes_more J e)
+          ∙ ap lanes_of (sym next),
+      ap length next ∙ length-append J (e ∷ []) ∙ omega (arith, count),
+    )
 
 -- ---- what can be written
 
@@ -159,19 +165,9 @@ end_written row ms r a count = downs_written row (alone_of row ms) (sound_writab
 
 -- ---- the end
 
-abbrev pub end_with : ℕ → ℕ → Lanes → DeviceEnd
-end_with messages steps kept = record {
-  messages = messages;
-  steps = steps;
-  downs = kept.downs;
-  gateway = kept.gateway;
-  subscriber = kept.subscriber;
-  session = kept.session;
-}
-
-pub end_is : (row : Subscriber) (ms : List Message) (steps : List Step) (kept : Lanes) → steps ≡ map (λ (e : Entry). e.step) (alone_of row ms) → kept ≡ fold with_step (lanes_of []) steps → end_with (length ms) (length steps) kept ≡ end_of row ms
-end_is row ms steps kept is k =
-    let J = alone_of row ms in
-    let lanes : kept ≡ lanes_of J = k ∙ ap (fold with_step (lanes_of [])) is ∙ gathered_behind [] J in
-    let count : length steps ≡ length J = ap length is ∙ length-map J (λ (e : Entry). e.step) in
-    ap (end_with (length ms) (length steps)) lanes ∙ ap (λ n. end_with (length ms) n (lanes_of J)) count
+pub end_is : (row : Subscriber) (ms : List Message) (v n : ℕ) (c : Course) (kept : Lanes) → c ≡ course_of (alone_to row ms v) → kept ≡ lanes_of (alone_to row ms v) → length (alone_to row ms v) ≡ v → n ≡ v → alone_to row ms v ≡ alone_of row ms → ended (length ms) n kept c.session ≡ end_of row ms
+end_is row ms v n c kept is k count same all =
+    ap (λ (d : Course). ended (length ms) n kept d.session) is
+    ∙ ap (λ l. ended (length ms) n l (session_of (alone_to row ms v))) k
+    ∙ ap (λ m. ended (length ms) m (lanes_of (alone_to row ms v)) (session_of (alone_to row ms v))) (same ∙ sym count)
+    ∙ ap (end_by (length ms)) all

@@ -1,7 +1,6 @@
 -- What `alone` keeps of a journal on its way.
-use Rattle.std.specs.Prelude.{ℕ, ◌+◌, ◌-◌, if◌then◌else◌, List, [], ◌∷◌, ◌++◌, length, map, Option, Some, None, option_map, slice_get}
+use Rattle.std.specs.Prelude.{◌≡◌, ℕ, ◌+◌, if◌then◌else◌, List, [], ◌∷◌, ◌++◌, Option, Some, None, option_map, slice_get}
 use Rattle.std.specs.List.{count_by}
-use Rattle.std.specs.Option.{option_map_or}
 use Rattle.device_types.specs.declared.effect.Effect.{Effect}
 use Rattle.device_types.specs.declared.event.Lane.{Lane}
 use Rattle.device_types.specs.declared.event.Lane.TheVariants as lanes
@@ -9,31 +8,24 @@ use Rattle.device_types.specs.declared.input.Answer.{Answer}
 use Rattle.device_types.specs.declared.input.Input.{Input}
 use Rattle.device_types.specs.declared.input.Input.TheVariants as inputs
 use Rattle.device_types.specs.declared.message.Message.{Message}
-use Rattle.device_types.specs.declared.session.Session.{Session}
 use Rattle.device_types.specs.declared.step.Entry.{Entry}
-use Rattle.device_types.specs.declared.step.Step.{Step}
 use Rattle.device_types.specs.declared.subscriber.Subscriber.{Subscriber}
-use Rattle.device_types.specs.Alone.{is_created, created_count}
+use Rattle.device_types.specs.Acts.{made}
+use Rattle.device_types.specs.Alone.{alone_to, next_input, is_created, created_count}
 use Rattle.device_types.specs.Awaited.{awaited_by, lane_of}
-use Rattle.device_types.specs.Journal.{is_on, is_message, taken_count, pushed_count}
+use Rattle.device_types.specs.Journal.{is_on, is_message, session_of, taken_count, pushed_count}
 use Rattle.device_types.specs.PeerAnswer.{answer_to}
-use Rattle.device_types.specs.Session.{opening}
 use Rattle.device_machine.specs.declared.course.Course.{Course}
 
--- the steps of a journal, how many messages were taken and creates answered, and how many calls were made
+-- the session behind a journal, how many messages were taken and creates answered, and how many calls were made
 abbrev pub course_of : List Entry → Course
 course_of journal = record {
-  opening = opening;
-  steps = map (λ entry. entry.step) journal;
+  session = session_of journal;
   taken = taken_count journal;
   created = created_count journal;
   gateway = pushed_count lanes.Gateway journal;
   subscriber = pushed_count lanes.Subscriber journal;
 }
-
--- the session of the last step, or the opening one
-abbrev pub session_in : Course → Session
-session_in course = option_map_or (λ step. step.session) (slice_get course.steps (length course.steps - 1)) course.opening
 
 -- the number of the last call of a lane
 abbrev pub last_on : Course → Lane → ℕ
@@ -52,15 +44,22 @@ input_from messages course (Some answer) = Some (inputs.Answer answer.0 (last_on
 
 -- the input that comes next
 abbrev pub input_for : Subscriber → List Message → Course → Option Input
-input_for row messages course = input_from messages course (answer_for row course.created (awaited_by (session_in course)))
+input_for row messages course = input_from messages course (answer_for row course.created (awaited_by course.session))
 
--- with one more entry
-abbrev pub noted : Course → Input → Step → Course
-noted course input step = record {
-  opening = course.opening;
-  steps = course.steps ++ step ∷ [];
+-- with one more entry, whose step the session has taken
+abbrev pub noted : Course → Input → List Effect → Course
+noted course input effects = record {
+  session = course.session;
   taken = course.taken + (if is_message input then 1 else 0);
   created = course.created + (if is_created input then 1 else 0);
-  gateway = course.gateway + count_by (is_on lanes.Gateway) step.effects;
-  subscriber = course.subscriber + count_by (is_on lanes.Subscriber) step.effects;
+  gateway = course.gateway + count_by (is_on lanes.Gateway) effects;
+  subscriber = course.subscriber + count_by (is_on lanes.Subscriber) effects;
 }
+
+-- the course went on by one entry, if one came, and these are the effects of its step
+abbrev pub GoesOn : Subscriber → List Message → ℕ → Course → Option (List Effect) → Type 0
+GoesOn row messages v course (Some effects) =
+    (course ≡ course_of (alone_to row messages (v + 1)))
+    × ((e : Entry) × (alone_to row messages (v + 1) ≡ alone_to row messages v ++ e ∷ []) × (e.step ≡ made course.session effects))
+GoesOn row messages v course None =
+    (course ≡ course_of (alone_to row messages v)) × (next_input row messages (alone_to row messages v) ≡ None)

@@ -10,7 +10,7 @@ use Rattle.device_types.specs.declared.event.Lane.TheVariants as lanes
 use Rattle.device_types.specs.declared.finals.DeviceEnd.{DeviceEnd}
 use Rattle.device_types.specs.declared.message.Message.{Message}
 use Rattle.device_types.specs.declared.step.Entry.{Entry}
-use Rattle.device_types.specs.declared.step.Step.{Step}
+use Rattle.device_types.specs.declared.session.Session.{Session}
 use Rattle.device_types.specs.declared.subscriber.Subscriber.{Subscriber}
 use Rattle.device_types.specs.Alone.{alone_of}
 use Rattle.device_types.specs.Journal.{effects_of, session_of}
@@ -65,14 +65,9 @@ finals_of rows book = map (λ device. end_of device.0 device.1) (zip rows book)
 
 -- ---- what is kept on the way
 
--- what a journal has on its lanes, and its session
+-- what a journal has on its lanes
 abbrev pub lanes_of : List Entry → Lanes
-lanes_of journal = record {
-  downs = downs_of journal;
-  gateway = gateway_of journal;
-  subscriber = subscriber_of journal;
-  session = session_of journal;
-}
+lanes_of journal = record { downs = downs_of journal; gateway = gateway_of journal; subscriber = subscriber_of journal }
 
 -- with one more effect
 abbrev pub with_effect : Lanes → Effect → Lanes
@@ -80,6 +75,13 @@ with_effect kept (effects.Down down) = record kept { downs = kept.downs ++ down 
 with_effect kept (effects.Gateway call) = record kept { gateway = kept.gateway ++ call ∷ [] }
 with_effect kept (effects.Subscriber call) = record kept { subscriber = kept.subscriber ++ call ∷ [] }
 
--- with one more step
-abbrev pub with_step : Lanes → Step → Lanes
-with_step kept step = record (fold with_effect kept step.effects) { session = step.session }
+-- with the last session
+abbrev pub ended : ℕ → ℕ → Lanes → Session → DeviceEnd
+ended messages steps lanes session = record {
+  messages = messages;
+  steps = steps;
+  downs = lanes.downs;
+  gateway = lanes.gateway;
+  subscriber = lanes.subscriber;
+  session = session;
+}

@@ -1,23 +1,22 @@
 //! The steps of a device whose calls are answered at once.
 ghost use Rattle.std.specs.Prelude.{◌≡◌, ◌+◌, ◌*◌, ◌^◌, ◌<◌, ◌≤◌, suc, if◌then◌else◌, [], length, map, count_by, option_map, slice_get, IfOk, OnOk, IsFalse, None};
 ghost use Rattle.device_types.specs.declared.input.Input.TheVariants as inputs;
-ghost use Rattle.device_types.specs.Alone.{alone_of, alone_to, next_input, is_created};
+ghost use Rattle.device_types.specs.Alone.{alone_of, alone_to, is_created};
 ghost use Rattle.device_types.specs.Awaited.{awaited_by};
 ghost use Rattle.device_types.specs.Journal.{is_message, is_on};
-ghost use Rattle.device_machine.specs.Course.{course_of, session_in, last_on, answer_for, input_for, noted};
+ghost use Rattle.device_machine.specs.Course.{course_of, last_on, answer_for, input_for, noted, GoesOn};
 
-use crate::stepping::step;
+use crate::stepping::step_in_place;
 use device_types::{
-    Answer, Effect, Input, Lane, ListOf, Message, Session, Stage, Step, Subscriber, TryCopy,
+    Answer, Effect, Effects, Input, Lane, Message, Session, Stage, Step, Subscriber, TryCopy,
 };
 use std::alloc::{AllocError, Global};
 
-/// What is known after some entries: the steps so far, how many messages were taken and creates answered, and how many calls of
-/// each peer were made.
+/// What is known after some entries: the session, how many messages were taken and creates answered, and how many calls of each peer
+/// were made.
 #[derive(Drop)]
 pub struct Course {
-    opening: Session,
-    steps: ListOf<Step>,
+    pub session: Session,
     taken: usize,
     created: u32,
     gateway: u64,
@@ -26,26 +25,15 @@ pub struct Course {
 
 impl Course {
     /// Before the first entry.
-    fn new(alloc: Global) -> Course
+    pub fn new(alloc: Global) -> Course
         ensures { result ≡ course_of [] }
     {
         Course {
-            opening: Session::opening(alloc),
-            steps: ListOf::new(alloc),
+            session: Session::opening(alloc),
             taken: 0,
             created: 0,
             gateway: 0,
             subscriber: 0,
-        }
-    }
-
-    /// The session of the last step, or the opening one.
-    fn session(&self) -> &Session
-        ensures { result.now ≡ session_in self.now }
-    {
-        match self.steps.items().last() {
-            Some(step) => &step.session,
-            None => &self.opening,
         }
     }
 
@@ -60,22 +48,18 @@ impl Course {
         }
     }
 
-    /// Notes one more entry.
-    fn note(&mut self, input: &Input, step: Step) -> Result<(), AllocError>
+    /// Notes one more entry, whose step the session has taken.
+    fn note(&mut self, input: &Input, effects: &[Effect])
         requires taken { self.old.taken + 1 < 2 ^ 32 }
         requires created { self.old.created + 1 < 2 ^ 32 }
-        requires gateway { self.old.gateway + length step.effects < 2 ^ 32 }
-        requires subscriber { self.old.subscriber + length step.effects < 2 ^ 32 }
-        ensures { OnOk result (self.new ≡ noted self.old input.now step) }
+        requires gateway { self.old.gateway + length effects.now < 2 ^ 32 }
+        requires subscriber { self.old.subscriber + length effects.now < 2 ^ 32 }
+        ensures { self.new ≡ noted self.old input.now effects.now }
     {
-        let gateway = count_on(step.effects.items(), Lane::Gateway);
-        let subscriber = count_on(step.effects.items(), Lane::Subscriber);
-        self.steps.push(step)?;
         self.taken += messages_in(input);
         self.created += creates_in(input);
-        self.gateway += gateway;
-        self.subscriber += subscriber;
-        Ok(())
+        self.gateway += count_on(effects, Lane::Gateway);
+        self.subscriber += count_on(effects, Lane::Subscriber);
     }
 }
 
@@ -131,33 +115,35 @@ pub fn alone(row: &Subscriber, messages: &[Message]) -> Result<Vec<Step>, AllocE
     ensures { IfOk result (λ steps. steps.items ≡ map (λ e. e.step) (alone_of row.now messages.now)) }
 {
     let mut course = Course::new(row.rand.alloc());
+    let mut steps = Vec::new(row.rand.alloc());
     for v in 0..3 * messages.len() {
-        if !advance(row, messages, v, &mut course)? {
-            return Ok(course.steps.into_items());
-        }
+        let Some(effects) = advance(row, messages, v, &mut course)? else {
+            return Ok(steps);
+        };
+        let session = course.session.copy()?;
+        steps.push(Step { session, effects })?;
     }
-    Ok(course.steps.into_items())
+    Ok(steps)
 }
 
-/// Makes the next entry; false where none comes.
-fn advance(
+/// Makes the next entry, and gives the effects of its step; None where none comes.
+pub fn advance(
     row: &Subscriber,
     messages: &[Message],
     v: usize,
     course: &mut Course,
-) -> Result<bool, AllocError>
+) -> Result<Option<Effects>, AllocError>
     requires course { course.old ≡ course_of (alone_to row.now messages.now v) }
     requires tunnel { row.now.teid ≤ 4000000000 }
     requires count { v < 300000 }
-    ensures course { IfOk result (λ more. course.new ≡ course_of (alone_to row.now messages.now (suc v))) }
-    ensures end { IfOk result (λ more. IsFalse more → next_input row.now messages.now (alone_to row.now messages.now v) ≡ None) }
+    ensures { IfOk result (GoesOn row.now messages.now v course.new) }
 {
     let Some(input) = next_input(row, messages, course)? else {
-        return Ok(false);
+        return Ok(None);
     };
-    let step = step(row, course.session(), &input)?;
-    course.note(&input, step)?;
-    Ok(true)
+    let effects = step_in_place(row, &mut course.session, &input)?;
+    course.note(&input, effects.items());
+    Ok(Some(effects))
 }
 
 /// The input that comes next: the answer to the awaited call, or else the next message.
@@ -169,7 +155,7 @@ fn next_input(
     requires { row.now.teid + course.now.created < 2 ^ 32 }
     ensures { IfOk result (λ input. input ≡ input_for row.now messages.now course.now) }
 {
-    match answer_for(row, course.session(), course.created)? {
+    match answer_for(row, &course.session, course.created)? {
         Some((lane, answer)) => Ok(Some(Input::Answer {
             lane,
             k: course.last_on(lane),

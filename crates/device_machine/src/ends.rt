@@ -7,21 +7,20 @@ ghost use Rattle.device_types.specs.Down.{IsDown};
 ghost use Rattle.device_types.specs.Journal.{effects_of};
 ghost use Rattle.device_types.specs.Message.{IsMessage};
 ghost use Rattle.device_types.specs.Subscriber.{IsSubscriber};
-ghost use Rattle.device_machine.specs.Ends.{end_of, lanes_of, with_effect, with_step};
+ghost use Rattle.device_machine.specs.Ends.{end_of, ended, lanes_of, with_effect};
 
-use crate::course::alone;
+use crate::course::{Course, advance};
 use device_types::{
-    DeviceEnd, Downs, Effect, Effects, GwCalls, Message, Session, Step, SubCalls, Subscriber,
+    DeviceEnd, Downs, Effect, Effects, GwCalls, Message, Session, SubCalls, Subscriber,
 };
 use std::alloc::{AllocError, Global};
 
-/// What steps come to: the effects of each lane in order, and the last session.
+/// The effects of each lane in order.
 #[derive(Drop)]
 pub struct Lanes {
     downs: Downs,
     gateway: GwCalls,
     subscriber: SubCalls,
-    session: Session,
 }
 
 impl Lanes {
@@ -33,7 +32,6 @@ impl Lanes {
             downs: Downs::new(alloc),
             gateway: GwCalls::new(alloc),
             subscriber: SubCalls::new(alloc),
-            session: Session::opening(alloc),
         }
     }
 
@@ -57,27 +55,25 @@ impl Lanes {
         }
         Ok(())
     }
-
-    /// Notes one more step.
-    fn note(&mut self, step: Step) -> Result<(), AllocError>
-        ensures { OnOk result (self.new ≡ with_step self.old step) }
-    {
-        let Step { session, effects } = step;
-        self.put_all(effects)?;
-        self.session = session;
-        Ok(())
-    }
 }
 
-/// What the steps come to. Their effects are moved.
-fn gather(alloc: Global, steps: Vec<Step>) -> Result<Lanes, AllocError>
-    ensures { IfOk result (λ kept. kept ≡ fold with_step (lanes_of []) steps.items) }
+/// What these messages, steps and lanes come to, with the last session.
+fn ended(messages: u64, steps: u64, lanes: Lanes, session: Session) -> DeviceEnd
+    ensures { result ≡ ended messages steps lanes session }
 {
-    let mut kept = Lanes::new(alloc);
-    for step in steps {
-        kept.note(step)?;
+    let Lanes {
+        downs,
+        gateway,
+        subscriber,
+    } = lanes;
+    DeviceEnd {
+        messages,
+        steps,
+        downs,
+        gateway,
+        subscriber,
+        session,
     }
-    Ok(kept)
 }
 
 /// What becomes of a device whose messages are taken one by one, with each call answered at once: how many messages and steps
@@ -87,17 +83,16 @@ pub fn end_of(row: &Subscriber, messages: &[Message]) -> Result<DeviceEnd, Alloc
     requires count { length messages.now ≤ 100000 }
     ensures { IfOk result (λ end. end ≡ end_of row.now messages.now) }
 {
-    let steps = alone(row, messages)?;
-    let count = steps.len() as u64;
-    let kept = gather(row.rand.alloc(), steps)?;
-    Ok(DeviceEnd {
-        messages: messages.len() as u64,
-        steps: count,
-        downs: kept.downs,
-        gateway: kept.gateway,
-        subscriber: kept.subscriber,
-        session: kept.session,
-    })
+    let count = messages.len() as u64;
+    let mut course = Course::new(row.rand.alloc());
+    let mut lanes = Lanes::new(row.rand.alloc());
+    for v in 0..3 * messages.len() {
+        let Some(effects) = advance(row, messages, v, &mut course)? else {
+            return Ok(ended(count, v as u64, lanes, course.session));
+        };
+        lanes.put_all(effects)?;
+    }
+    Ok(ended(count, 3 * count, lanes, course.session))
 }
 
 /// The lists of an end are the lanes of the machine alone, effect by effect.

@@ -2,16 +2,18 @@
 #![tactic(auto)]
 
 ghost use Rattle.std.specs.List.{list_any};
-ghost use Rattle.std.specs.Prelude.{◌≡◌, ◌∷◌, [], map, IfOk};
-ghost use Rattle.device_types.specs.Acts.{run, sets, enters, tells, calls};
+ghost use Rattle.std.specs.Prelude.{◌≡◌, ◌∷◌, [], List, map, IfOk};
+ghost use Rattle.bearer_proc.specs.Taking.{Takes};
+ghost use Rattle.device_types.specs.Acts.{made, run, sets, enters, tells, calls};
 ghost use Rattle.device_types.specs.Rule.{fitting};
-ghost use Rattle.device_types.specs.Second.{missing_name, request_rules, side_rules, accept_rules, second_message, second_answer, second_rules, with_both, is_setup, sets_up_both, notes_side, tells_side, becomes, changed_message, changed_answer, changed, second_of};
+ghost use Rattle.device_types.specs.Second.{missing_name, request_rules, side_rules, accept_rules, second_message, second_answer, second_rules, with_both, is_setup, sets_up_both, notes_side, tells_side, changed_message, changed_answer, changed, second_of};
+ghost use Rattle.device_types.specs.declared.effect.Effect.{Effect};
 ghost use Rattle.device_types.specs.declared.effect.GwCall.TheVariants as gateway;
 ghost use Rattle.device_types.specs.declared.input.Answer.TheVariants as answers;
 ghost use Rattle.device_types.specs.declared.nas_out.NasOut.TheVariants.{PdnReject};
 ghost use Rattle.device_types.specs.declared.session.Stage.TheVariants.{AwaitSecond, AwaitSecondModify};
 
-use bearer_proc::{nas_message, second_setup, with_effect, without_effect};
+use bearer_proc::{nas_message, only, second_setup};
 use device_types::{
     Answer, Body, Down, Effect, Effects, GwCall, Input, Message, NasOut, Second, Session, Side,
     Stage, Step, Subscriber, TryCopy,
@@ -21,28 +23,14 @@ use std::alloc::AllocError;
 /// The ESM cause "missing or unknown APN" (3GPP TS 24.301, 9.9.4.4).
 const MISSING_NAME: u8 = 27;
 
-/// The step, where that of the step table is `base`: the step of a row of the second connection where one fits, and otherwise `base`
-/// with what a second connection changes of it. None exactly where no row of the second connection fits and `base` is None.
-pub fn second_step(
+/// Takes the step of a row of the second connection: the effects, where one fits, of the step of that row; where none does, the session
+/// stays. For want of memory it may have changed.
+pub fn second_step_in_place(
     row: &Subscriber,
-    session: &Session,
+    session: &mut Session,
     input: &Input,
-    base: Option<Step>,
-) -> Result<Option<Step>, AllocError>
-    ensures { IfOk result (λ step. step ≡ second_of row.now session.now input.now base) }
-{
-    if let Some(step) = own_step(row, session, input)? {
-        return Ok(Some(step));
-    }
-    match base {
-        Some(step) => Ok(Some(change(session, input, step)?)),
-        None => Ok(None),
-    }
-}
-
-/// The step of a row of the second connection: Some exactly where one fits.
-fn own_step(row: &Subscriber, session: &Session, input: &Input) -> Result<Option<Step>, AllocError>
-    ensures { IfOk result (λ step. step ≡ fitting (second_rules row.now session.now input.now) session.now) }
+) -> Result<Option<Effects>, AllocError>
+    ensures { IfOk result (Takes session.old session.new (fitting (second_rules row.now session.old input.now) session.old)) }
 {
     match input {
         Input::Message(message) => on_message(row, session, message),
@@ -52,10 +40,10 @@ fn own_step(row: &Subscriber, session: &Session, input: &Input) -> Result<Option
 
 fn on_message(
     row: &Subscriber,
-    session: &Session,
+    session: &mut Session,
     message: &Message,
-) -> Result<Option<Step>, AllocError>
-    ensures { IfOk result (λ step. step ≡ fitting (second_message row.now session.now message.now message.now.body) session.now) }
+) -> Result<Option<Effects>, AllocError>
+    ensures { IfOk result (Takes session.old session.new (fitting (second_message row.now session.old message.now message.now.body) session.old)) }
 {
     match &message.body {
         Body::PdnRequest { pti } => request(row, session, message, *pti),
@@ -68,11 +56,11 @@ fn on_message(
 /// The device asks for a second connection.
 fn request(
     row: &Subscriber,
-    session: &Session,
+    session: &mut Session,
     message: &Message,
     pti: u8,
-) -> Result<Option<Step>, AllocError>
-    ensures { IfOk result (λ step. step ≡ fitting (request_rules row.now session.now message.now pti) session.now) }
+) -> Result<Option<Effects>, AllocError>
+    ensures { IfOk result (Takes session.old session.new (fitting (request_rules row.now session.old message.now pti) session.old)) }
 {
     if !(session.is_here(message)
         && session.is_at(Stage::Connected)
@@ -87,90 +75,86 @@ fn request(
 }
 
 /// The session of the second connection is asked for.
-fn ask_gateway(session: &Session, pti: u8) -> Result<Step, AllocError>
-    ensures { IfOk result (λ step. step ≡ run (sets (λ t. record t { pti2 = pti }) ∷ calls gateway.SecondCreate ∷ enters AwaitSecond ∷ []) session.now) }
+fn ask_gateway(session: &mut Session, pti: u8) -> Result<Effects, AllocError>
+    ensures { IfOk result (λ effects. made session.new effects ≡ run (sets (λ t. record t { pti2 = pti }) ∷ calls gateway.SecondCreate ∷ enters AwaitSecond ∷ []) session.old) }
 {
-    let mut next = session.copy()?;
-    next.pti2 = pti;
-    next.stage = Stage::AwaitSecond;
-    with_effect(next, Effect::Gateway(GwCall::SecondCreate))
+    session.pti2 = pti;
+    session.stage = Stage::AwaitSecond;
+    only(session.alloc(), Effect::Gateway(GwCall::SecondCreate))
 }
 
 /// The subscriber has no second connection.
-fn reject(session: &Session, pti: u8) -> Result<Step, AllocError>
-    ensures { IfOk result (λ step. step ≡ run (tells (PdnReject pti missing_name) ∷ []) session.now) }
+fn reject(session: &mut Session, pti: u8) -> Result<Effects, AllocError>
+    ensures { IfOk result (λ effects. made session.new effects ≡ run (tells (PdnReject pti missing_name) ∷ []) session.old) }
 {
     let reject = NasOut::PdnReject {
         pti,
         cause: MISSING_NAME,
     };
     let effect = nas_message(session, reject);
-    with_effect(session.copy()?, effect)
+    only(session.alloc(), effect)
 }
 
 /// The base station has set up the second bearer.
 fn bearer_done(
-    session: &Session,
+    session: &mut Session,
     message: &Message,
     addr: u32,
     teid: u32,
-) -> Result<Option<Step>, AllocError>
-    ensures { IfOk result (λ step. step ≡ fitting (side_rules session.now message.now addr teid) session.now) }
+) -> Result<Option<Effects>, AllocError>
+    ensures { IfOk result (Takes session.old session.new (fitting (side_rules session.old message.now addr teid) session.old)) }
 {
     if !(session.is_here(message) && session.is_at(Stage::Connected)) {
         return Ok(None);
     }
     if session.is_second_at(Second::Made) {
-        let mut next = with_side(session, addr, teid)?;
-        next.second = Second::Radio;
-        return Ok(Some(without_effect(next)));
+        set_side(session, addr, teid);
+        session.second = Second::Radio;
+        return Ok(Some(Effects::new(session.alloc())));
     }
     if session.is_second_at(Second::Accepted) {
-        return Ok(Some(tell_gateway(with_side(session, addr, teid)?)?));
+        set_side(session, addr, teid);
+        return Ok(Some(tell_gateway(session)?));
     }
     Ok(None)
 }
 
-/// The session with the base station's side of the second bearer.
-fn with_side(session: &Session, addr: u32, teid: u32) -> Result<Session, AllocError>
-    ensures { IfOk result (λ next. next ≡ record session.now { side2_addr = addr; side2_teid = teid }) }
+/// Notes the base station's side of the second bearer.
+fn set_side(session: &mut Session, addr: u32, teid: u32)
+    ensures { session.new ≡ record session.old { side2_addr = addr; side2_teid = teid } }
 {
-    let mut next = session.copy()?;
-    next.side2_addr = addr;
-    next.side2_teid = teid;
-    Ok(next)
+    session.side2_addr = addr;
+    session.side2_teid = teid;
 }
 
 /// The device has accepted the second connection.
-fn accepted(session: &Session, message: &Message) -> Result<Option<Step>, AllocError>
-    ensures { IfOk result (λ step. step ≡ fitting (accept_rules session.now message.now) session.now) }
+fn accepted(session: &mut Session, message: &Message) -> Result<Option<Effects>, AllocError>
+    ensures { IfOk result (Takes session.old session.new (fitting (accept_rules session.old message.now) session.old)) }
 {
     if !(session.is_here(message) && session.is_at(Stage::Connected)) {
         return Ok(None);
     }
     if session.is_second_at(Second::Made) {
-        let mut next = session.copy()?;
-        next.second = Second::Accepted;
-        return Ok(Some(without_effect(next)));
+        session.second = Second::Accepted;
+        return Ok(Some(Effects::new(session.alloc())));
     }
     if session.is_second_at(Second::Radio) {
-        return Ok(Some(tell_gateway(session.copy()?)?));
+        return Ok(Some(tell_gateway(session)?));
     }
     Ok(None)
 }
 
 /// The gateway is told the base station's side of the second bearer.
-fn tell_gateway(session: Session) -> Result<Step, AllocError>
-    ensures { IfOk result (λ step. step ≡ run (calls (gateway.SecondModify session.side2_addr session.side2_teid) ∷ enters AwaitSecondModify ∷ []) session) }
+fn tell_gateway(session: &mut Session) -> Result<Effects, AllocError>
+    ensures { IfOk result (λ effects. made session.new effects ≡ run (calls (gateway.SecondModify session.old.side2_addr session.old.side2_teid) ∷ enters AwaitSecondModify ∷ []) session.old) }
 {
-    let mut next = session;
-    let call = GwCall::SecondModify(next.side2_addr, next.side2_teid);
-    next.stage = Stage::AwaitSecondModify;
-    with_effect(next, Effect::Gateway(call))
+    let call = GwCall::SecondModify(session.side2_addr, session.side2_teid);
+    session.stage = Stage::AwaitSecondModify;
+    only(session.alloc(), Effect::Gateway(call))
 }
 
-fn on_answer(session: &Session, answer: &Answer) -> Result<Option<Step>, AllocError>
-    ensures { IfOk result (λ step. step ≡ fitting (second_answer session.now answer.now) session.now) }
+fn on_answer(session: &mut Session, answer: &Answer) -> Result<Option<Effects>, AllocError>
+    ensures { IfOk result (Takes session.old session.new (fitting (second_answer session.old answer.now) session.old)) }
 {
     match answer {
         Answer::SecondCreated(sgw, teid, ip) => created(session, *sgw, *teid, *ip),
@@ -180,78 +164,123 @@ fn on_answer(session: &Session, answer: &Answer) -> Result<Option<Step>, AllocEr
 }
 
 /// The gateway has the session of the second connection: its bearer is set up at the base station.
-fn created(session: &Session, sgw: u32, teid: u32, ip: u32) -> Result<Option<Step>, AllocError>
-    ensures { IfOk result (λ step. step ≡ fitting (second_answer session.now (answers.SecondCreated sgw teid ip)) session.now) }
+fn created(
+    session: &mut Session,
+    sgw: u32,
+    teid: u32,
+    ip: u32,
+) -> Result<Option<Effects>, AllocError>
+    ensures { IfOk result (Takes session.old session.new (fitting (second_answer session.old (answers.SecondCreated sgw teid ip)) session.old)) }
 {
     if !session.is_at(Stage::AwaitSecond) {
         return Ok(None);
     }
-    let mut next = session.copy()?;
-    next.sgw2 = sgw;
-    next.teid2 = teid;
-    next.ip2 = ip;
-    next.second = Second::Made;
-    next.stage = Stage::Connected;
-    let effect = second_setup(&next);
-    Ok(Some(with_effect(next, effect)?))
+    session.sgw2 = sgw;
+    session.teid2 = teid;
+    session.ip2 = ip;
+    session.second = Second::Made;
+    session.stage = Stage::Connected;
+    let effect = second_setup(session);
+    Ok(Some(only(session.alloc(), effect)?))
 }
 
 /// The gateway sends downlink data of the second connection to the base station.
-fn modified(session: &Session) -> Result<Option<Step>, AllocError>
-    ensures { IfOk result (λ step. step ≡ fitting (second_answer session.now answers.SecondModified) session.now) }
+fn modified(session: &mut Session) -> Result<Option<Effects>, AllocError>
+    ensures { IfOk result (Takes session.old session.new (fitting (second_answer session.old answers.SecondModified) session.old)) }
 {
     if !session.is_at(Stage::AwaitSecondModify) {
         return Ok(None);
     }
-    let mut next = session.copy()?;
-    next.second = Second::Active;
-    next.stage = Stage::Connected;
-    Ok(Some(without_effect(next)))
+    session.second = Second::Active;
+    session.stage = Stage::Connected;
+    Ok(Some(Effects::new(session.alloc())))
 }
 
-/// What a second connection changes of a step of the step table; nothing where the session before the step has none.
-fn change(session: &Session, input: &Input, step: Step) -> Result<Step, AllocError>
-    ensures { IfOk result (λ next. next ≡ changed session.now input.now step) }
+/// What a second connection changes of a step of the step table, whose session and effects these are; nothing where the session before
+/// the step has none. For want of memory the session may have changed.
+pub fn change_step(
+    before: &Session,
+    session: &mut Session,
+    input: &Input,
+    effects: Effects,
+) -> Result<Effects, AllocError>
+    ensures { IfOk result (λ all. made session.new all ≡ changed before.now input.now (made session.old effects)) }
 {
-    if session.is_second_at(Second::None) {
-        return Ok(step);
+    if before.is_second_at(Second::None) {
+        return Ok(effects);
     }
     match input {
-        Input::Message(message) => change_by_message(session, &message.body, step),
-        Input::Answer { answer, .. } => change_by_answer(session, answer, step),
+        Input::Message(message) => change_by_message(before, session, &message.body, effects),
+        Input::Answer { answer, .. } => change_by_answer(before, session, answer, effects),
     }
 }
 
-fn change_by_message(session: &Session, body: &Body, step: Step) -> Result<Step, AllocError>
-    ensures { IfOk result (λ next. next ≡ changed_message session.now body.now step) }
+/// The step of a row of the second connection; where none fits, that of the step table, `base`, with what a second connection changes
+/// of it. None exactly where no row of the second connection fits and `base` is None.
+pub fn second_step(
+    row: &Subscriber,
+    session: &Session,
+    input: &Input,
+    base: Option<Step>,
+) -> Result<Option<Step>, AllocError>
+    ensures { IfOk result (λ step. step ≡ second_of row.now session.now input.now base) }
+{
+    let mut own = session.copy()?;
+    match (second_step_in_place(row, &mut own, input)?, base) {
+        (Some(effects), _) => Ok(Some(Step {
+            session: own,
+            effects,
+        })),
+        (None, Some(step)) => Ok(Some(change(session, input, step)?)),
+        (None, None) => Ok(None),
+    }
+}
+
+/// The same of a step that stands by itself.
+fn change(before: &Session, input: &Input, step: Step) -> Result<Step, AllocError>
+    ensures { IfOk result (λ all. all ≡ changed before.now input.now step) }
+{
+    let Step {
+        mut session,
+        effects,
+    } = step;
+    let effects = change_step(before, &mut session, input, effects)?;
+    Ok(Step { session, effects })
+}
+
+fn change_by_message(
+    before: &Session,
+    session: &mut Session,
+    body: &Body,
+    effects: Effects,
+) -> Result<Effects, AllocError>
+    ensures { IfOk result (λ all. made session.new all ≡ changed_message before.now body.now (made session.old effects)) }
 {
     match body {
-        Body::Service => set_up_both(session, step),
-        Body::ContextDone { second, .. } => match second {
-            Some(side) => Ok(note_side(session, side, step)),
-            None => Ok(step),
-        },
-        _ => Ok(step),
+        Body::Service => set_up_both(before, session, effects),
+        Body::ContextDone { second, .. } => {
+            if let Some(side) = second {
+                note_side(before, session, side);
+            }
+            Ok(effects)
+        }
+        _ => Ok(effects),
     }
 }
 
 /// A setup of the device's context is one of both bearers.
-fn set_up_both(session: &Session, step: Step) -> Result<Step, AllocError>
-    ensures { IfOk result (λ next. next ≡ sets_up_both session.now step) }
+fn set_up_both(
+    before: &Session,
+    session: &mut Session,
+    effects: Effects,
+) -> Result<Effects, AllocError>
+    ensures { IfOk result (λ all. made session.new all ≡ sets_up_both before.now (made session.old effects)) }
 {
-    if !has_setup(&step.effects) {
-        return Ok(step);
+    if !has_setup(&effects) {
+        return Ok(effects);
     }
-    let Step {
-        session: mut next,
-        effects,
-    } = step;
-    next.second = Second::Made;
-    let effects = with_both(session, effects)?;
-    Ok(Step {
-        session: next,
-        effects,
-    })
+    session.second = Second::Made;
+    with_both(before, effects)
 }
 
 /// Is the setup of the device's context with one bearer among the effects?
@@ -318,55 +347,45 @@ fn of_both(session: &Session, effect: Effect) -> Effect
 }
 
 /// The base station has set up the second bearer with the device's context.
-fn note_side(session: &Session, side: &Side, step: Step) -> Step
-    ensures { result ≡ notes_side session.now side.now step }
+fn note_side(before: &Session, session: &mut Session, side: &Side)
+    ensures { (effects : List Effect) → made session.new effects ≡ notes_side before.now side.now (made session.old effects) }
 {
-    if !session.is_at(Stage::Connecting) {
-        return step;
+    if before.is_at(Stage::Connecting) {
+        set_side(session, side.addr, side.teid);
+        session.second = Second::Radio;
     }
-    let mut next = step;
-    next.session.side2_addr = side.addr;
-    next.session.side2_teid = side.teid;
-    next.session.second = Second::Radio;
-    next
 }
 
-fn change_by_answer(session: &Session, answer: &Answer, step: Step) -> Result<Step, AllocError>
-    ensures { IfOk result (λ next. next ≡ changed_answer session.now answer.now step) }
+fn change_by_answer(
+    before: &Session,
+    session: &mut Session,
+    answer: &Answer,
+    effects: Effects,
+) -> Result<Effects, AllocError>
+    ensures { IfOk result (λ all. made session.new all ≡ changed_answer before.now answer.now (made session.old effects)) }
 {
     match answer {
-        Answer::Created(_, _, _) | Answer::Deleted => Ok(becomes(Second::None, step)),
-        Answer::Freed => Ok(becomes(Second::Made, step)),
-        Answer::Modified => tell_side(session, step),
-        _ => Ok(step),
+        Answer::Created(_, _, _) | Answer::Deleted => session.second = Second::None,
+        Answer::Freed => session.second = Second::Made,
+        Answer::Modified => return tell_side(before, session, effects),
+        _ => {}
     }
-}
-
-/// The step, with the second connection in this state.
-fn becomes(second: Second, step: Step) -> Step
-    ensures { result ≡ becomes second step }
-{
-    let mut next = step;
-    next.session.second = second;
-    next
+    Ok(effects)
 }
 
 /// Behind the first bearer's side the gateway is told the second's, where the base station has it.
-fn tell_side(session: &Session, step: Step) -> Result<Step, AllocError>
-    ensures { IfOk result (λ next. next ≡ tells_side session.now step) }
+fn tell_side(
+    before: &Session,
+    session: &mut Session,
+    mut effects: Effects,
+) -> Result<Effects, AllocError>
+    ensures { IfOk result (λ all. made session.new all ≡ tells_side before.now (made session.old effects)) }
 {
-    if !session.is_second_at(Second::Radio) {
-        return Ok(step);
+    if !before.is_second_at(Second::Radio) {
+        return Ok(effects);
     }
-    let Step {
-        session: mut next,
-        mut effects,
-    } = step;
-    let call = GwCall::SecondModify(session.side2_addr, session.side2_teid);
+    let call = GwCall::SecondModify(before.side2_addr, before.side2_teid);
     effects.push(Effect::Gateway(call))?;
-    next.stage = Stage::AwaitSecondModify;
-    Ok(Step {
-        session: next,
-        effects,
-    })
+    session.stage = Stage::AwaitSecondModify;
+    Ok(effects)
 }

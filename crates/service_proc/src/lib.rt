@@ -2,7 +2,8 @@
 #![tactic(auto)]
 
 ghost use Rattle.std.specs.Prelude.{◌≡◌, ◌^◌, ◌-◌, ◌∷◌, [], min, length, IfOk, Option};
-ghost use Rattle.device_types.specs.Acts.{run, enters, tells_to, sets_up, pages, moves_connection};
+ghost use Rattle.bearer_proc.specs.Taking.{Takes};
+ghost use Rattle.device_types.specs.Acts.{made, run, enters, tells_to, sets_up, pages, moves_connection};
 ghost use Rattle.device_types.specs.Rule.{rule, fitting, at};
 ghost use Rattle.device_types.specs.Service.{service_message, service_answer};
 ghost use Rattle.device_types.specs.StepTable.{service_rules};
@@ -13,18 +14,22 @@ ghost use Rattle.device_types.specs.declared.nas_out.NasOut.TheVariants.{Service
 ghost use Rattle.device_types.specs.declared.session.Stage.TheVariants.{Connecting, Idle};
 
 use bearer_proc::{
-    IMPLICITLY_DETACHED, UNSPECIFIED, context_setup, free_link, move_link, nas_to, paging,
-    release_context, with_effect, without_effect,
+    IMPLICITLY_DETACHED, UNSPECIFIED, context_setup, free_link_in_place, move_link_in_place,
+    nas_to, only, paging, release_context,
 };
 use device_types::{
-    Accept, Answer, Bearer, Body, CauseCode, Effect, GwCall, Input, Link, Message, NasOut, Octets,
-    Session, Stage, Step, TryCopy,
+    Accept, Answer, Bearer, Body, CauseCode, Effect, Effects, GwCall, Input, Link, Message, NasOut,
+    Octets, Session, Stage, Step, TryCopy,
 };
 use std::alloc::AllocError;
 
-/// The step of the service request and of the release: Some exactly where one of their rows fits, and then the step of that row.
-pub fn service_step(session: &Session, input: &Input) -> Result<Option<Step>, AllocError>
-    ensures { IfOk result (λ step. step ≡ fitting (service_rules session.now input.now) session.now) }
+/// Takes the step of the service request and of the release: the effects, where one of their rows fits, of the step of that row; where
+/// none does, the session stays. For want of memory it may have changed.
+pub fn service_step_in_place(
+    session: &mut Session,
+    input: &Input,
+) -> Result<Option<Effects>, AllocError>
+    ensures { IfOk result (Takes session.old session.new (fitting (service_rules session.old input.now) session.old)) }
 {
     match input {
         Input::Message(message) => on_message(session, message),
@@ -32,8 +37,19 @@ pub fn service_step(session: &Session, input: &Input) -> Result<Option<Step>, Al
     }
 }
 
-fn on_message(session: &Session, message: &Message) -> Result<Option<Step>, AllocError>
-    ensures { IfOk result (λ step. step ≡ fitting (service_message session.now message.now message.now.body) session.now) }
+/// The step of a service request: Some exactly where one of its rows fits, and then that row's step.
+pub fn service_step(session: &Session, input: &Input) -> Result<Option<Step>, AllocError>
+    ensures { IfOk result (λ step. step ≡ fitting (service_rules session.now input.now) session.now) }
+{
+    let mut session = session.copy()?;
+    let Some(effects) = service_step_in_place(&mut session, input)? else {
+        return Ok(None);
+    };
+    Ok(Some(Step { session, effects }))
+}
+
+fn on_message(session: &mut Session, message: &Message) -> Result<Option<Effects>, AllocError>
+    ensures { IfOk result (Takes session.old session.new (fitting (service_message session.old message.now message.now.body) session.old)) }
 {
     match &message.body {
         Body::Service => request(session, message),
@@ -48,8 +64,8 @@ fn on_message(session: &Session, message: &Message) -> Result<Option<Step>, Allo
 }
 
 /// The request, on any S1 connection.
-fn request(session: &Session, message: &Message) -> Result<Option<Step>, AllocError>
-    ensures { IfOk result (λ step. step ≡ fitting (service_message session.now message.now bodies.Service) session.now) }
+fn request(session: &mut Session, message: &Message) -> Result<Option<Effects>, AllocError>
+    ensures { IfOk result (Takes session.old session.new (fitting (service_message session.old message.now bodies.Service) session.old)) }
 {
     if session.is_held() {
         return Ok(Some(set_up(session, message)?));
@@ -61,116 +77,112 @@ fn request(session: &Session, message: &Message) -> Result<Option<Step>, AllocEr
 }
 
 /// The device is registered: its context is set up on the connection of the request.
-fn set_up(session: &Session, message: &Message) -> Result<Step, AllocError>
-    ensures { IfOk result (λ step. step ≡ run (moves_connection message.now.station message.now.enb ∷ sets_up No ∷ enters Connecting ∷ []) session.now) }
+fn set_up(session: &mut Session, message: &Message) -> Result<Effects, AllocError>
+    ensures { IfOk result (λ effects. made session.new effects ≡ run (moves_connection message.now.station message.now.enb ∷ sets_up No ∷ enters Connecting ∷ []) session.old) }
 {
-    let Step {
-        mut session,
-        mut effects,
-    } = move_link(session.copy()?, message.station, message.enb)?;
-    effects.push(context_setup(&session, Accept::No)?)?;
+    let mut effects = move_link_in_place(session, message.station, message.enb)?;
+    effects.push(context_setup(session, Accept::No)?)?;
     session.stage = Stage::Connecting;
-    Ok(Step { session, effects })
+    Ok(effects)
 }
 
 /// The device is not registered.
-fn reject(session: &Session, message: &Message) -> Result<Step, AllocError>
-    ensures { IfOk result (λ step. step ≡ run (tells_to message.now.station message.now.enb (ServiceReject 10) ∷ []) session.now) }
+fn reject(session: &mut Session, message: &Message) -> Result<Effects, AllocError>
+    ensures { IfOk result (λ effects. made session.new effects ≡ run (tells_to message.now.station message.now.enb (ServiceReject 10) ∷ []) session.old) }
 {
     let reject = NasOut::ServiceReject {
         cause: IMPLICITLY_DETACHED,
     };
-    let effect = nas_to(message.station, message.enb, reject);
-    with_effect(session.copy()?, effect)
+    only(
+        session.alloc(),
+        nas_to(message.station, message.enb, reject),
+    )
 }
 
 /// The base station has set up the context, whatever it says of a second bearer.
 fn context_done(
-    session: &Session,
+    session: &mut Session,
     message: &Message,
     addr: u32,
     teid: u32,
-) -> Result<Option<Step>, AllocError>
-    ensures { IfOk result (λ step. (second : Option Side) → step ≡ fitting (service_message session.now message.now (bodies.ContextDone addr teid second)) session.now) }
+) -> Result<Option<Effects>, AllocError>
+    ensures { (second : Option Side) → IfOk result (Takes session.old session.new (fitting (service_message session.old message.now (bodies.ContextDone addr teid second)) session.old)) }
 {
     if !(session.is_here(message) && session.is_at(Stage::Connecting)) {
         return Ok(None);
     }
-    let mut session = session.copy()?;
     session.side_addr = addr;
     session.side_teid = teid;
     session.stage = Stage::AwaitModify;
-    Ok(Some(with_effect(session, Effect::Gateway(GwCall::Modify(addr, teid)))?))
+    let modify = Effect::Gateway(GwCall::Modify(addr, teid));
+    Ok(Some(only(session.alloc(), modify)?))
 }
 
 /// The base station could not set up the context.
-fn context_failed(session: &Session, message: &Message) -> Result<Option<Step>, AllocError>
-    ensures { IfOk result (λ step. step ≡ fitting (service_message session.now message.now bodies.ContextFailed) session.now) }
+fn context_failed(session: &mut Session, message: &Message) -> Result<Option<Effects>, AllocError>
+    ensures { IfOk result (Takes session.old session.new (fitting (service_message session.old message.now bodies.ContextFailed) session.old)) }
 {
     if session.is_here(message) && session.is_at(Stage::Connecting) {
-        return Ok(Some(free_link(session.copy()?, UNSPECIFIED)?));
+        return Ok(Some(free_link_in_place(session, UNSPECIFIED)?));
     }
     Ok(None)
 }
 
 /// The base station asks for the release.
 fn release_asked(
-    session: &Session,
+    session: &mut Session,
     message: &Message,
     cause: CauseCode,
-) -> Result<Option<Step>, AllocError>
-    ensures { IfOk result (λ step. step ≡ fitting (service_message session.now message.now (bodies.ReleaseAsked cause)) session.now) }
+) -> Result<Option<Effects>, AllocError>
+    ensures { IfOk result (Takes session.old session.new (fitting (service_message session.old message.now (bodies.ReleaseAsked cause)) session.old)) }
 {
     if session.is_here(message)
         && (session.is_at(Stage::Connecting) || session.is_at(Stage::Connected))
     {
-        return Ok(Some(free_link(session.copy()?, cause)?));
+        return Ok(Some(free_link_in_place(session, cause)?));
     }
     Ok(None)
 }
 
 /// The base station has released the context.
-fn released(session: &Session, message: &Message) -> Result<Option<Step>, AllocError>
-    ensures { IfOk result (λ step. step ≡ fitting (service_message session.now message.now bodies.Released) session.now) }
+fn released(session: &mut Session, message: &Message) -> Result<Option<Effects>, AllocError>
+    ensures { IfOk result (Takes session.old session.new (fitting (service_message session.old message.now bodies.Released) session.old)) }
 {
     if !(session.is_here(message) && session.is_at(Stage::Releasing)) {
         return Ok(None);
     }
-    let mut session = session.copy()?;
     session.link = Link::Off;
     session.stage = if session.registered {
         Stage::Idle
     } else {
         Stage::Detached
     };
-    Ok(Some(without_effect(session)))
+    Ok(Some(Effects::new(session.alloc())))
 }
 
 /// The base station tells the device's radio capability.
 fn capability(
-    session: &Session,
+    session: &mut Session,
     message: &Message,
     octets: &Octets,
-) -> Result<Option<Step>, AllocError>
-    ensures { IfOk result (λ step. step ≡ fitting (service_message session.now message.now (bodies.Capability octets.now)) session.now) }
+) -> Result<Option<Effects>, AllocError>
+    ensures { IfOk result (Takes session.old session.new (fitting (service_message session.old message.now (bodies.Capability octets.now)) session.old)) }
 {
     if !(session.is_here(message) && session.is_settled()) {
         return Ok(None);
     }
-    let mut session = session.copy()?;
     session.radio = at_most_u32(octets.items().len());
-    Ok(Some(without_effect(session)))
+    Ok(Some(Effects::new(session.alloc())))
 }
 
 /// The gateway has data for the device: it is paged where it is idle.
-fn data_waits(session: &Session) -> Result<Option<Step>, AllocError>
-    ensures { IfOk result (λ step. step ≡ fitting (rule (at Idle session.now) (pages ∷ []) ∷ []) session.now) }
+fn data_waits(session: &mut Session) -> Result<Option<Effects>, AllocError>
+    ensures { IfOk result (Takes session.old session.new (fitting (rule (at Idle session.old) (pages ∷ []) ∷ []) session.old)) }
 {
     if !session.is_at(Stage::Idle) {
         return Ok(None);
     }
-    let effect = paging(session);
-    Ok(Some(with_effect(session.copy()?, effect)?))
+    Ok(Some(only(session.alloc(), paging(session))?))
 }
 
 /// The number, or the greatest `u32` if it is greater.
@@ -184,15 +196,14 @@ fn at_most_u32(n: usize) -> u32
     }
 }
 
-fn on_answer(session: &Session, answer: &Answer) -> Result<Option<Step>, AllocError>
-    ensures { IfOk result (λ step. step ≡ fitting (service_answer session.now answer.now) session.now) }
+fn on_answer(session: &mut Session, answer: &Answer) -> Result<Option<Effects>, AllocError>
+    ensures { IfOk result (Takes session.old session.new (fitting (service_answer session.old answer.now) session.old)) }
 {
     match answer {
         Answer::Freed => {
             if !session.is_at(Stage::AwaitRelease) {
                 return Ok(None);
             }
-            let mut session = session.copy()?;
             session.bearer = Bearer::Made;
             Ok(Some(release_context(session)?))
         }

@@ -2,7 +2,8 @@
 #![tactic(auto)]
 
 ghost use Rattle.std.specs.Prelude.{◌≡◌, ◌∷◌, [], IfOk, true, false};
-ghost use Rattle.device_types.specs.Acts.{run, sets, tells, tells_to, moves_connection, frees_bearers, normal_release};
+ghost use Rattle.bearer_proc.specs.Taking.{Takes};
+ghost use Rattle.device_types.specs.Acts.{made, run, sets, tells, tells_to, moves_connection, frees_bearers, normal_release};
 ghost use Rattle.device_types.specs.AreaUpdate.{area_message};
 ghost use Rattle.device_types.specs.Rule.{fitting};
 ghost use Rattle.device_types.specs.StepTable.{area_rules};
@@ -10,19 +11,22 @@ ghost use Rattle.device_types.specs.declared.message.Body.TheVariants as bodies;
 ghost use Rattle.device_types.specs.declared.nas_out.NasOut.TheVariants.{AreaReject, AreaAccept};
 
 use bearer_proc::{
-    AREA_NOT_ALLOWED, IDENTITY_NOT_DERIVED, NORMAL_RELEASE, behind, free_link, move_link,
-    nas_message, nas_to, with_effect,
+    AREA_NOT_ALLOWED, IDENTITY_NOT_DERIVED, NORMAL_RELEASE, free_link_in_place, move_link_in_place,
+    nas_message, nas_to, only,
 };
-use device_types::{Body, Input, Message, NasOut, Session, Stage, Step, Subscriber, TryCopy};
+use device_types::{
+    Body, Effects, Input, Message, NasOut, Session, Stage, Step, Subscriber, TryCopy,
+};
 use std::alloc::AllocError;
 
-/// The step of the tracking area update: Some exactly where one of its rows fits, and then the step of that row.
-pub fn tau_step(
+/// Takes the step of the tracking area update: the effects, where one of its rows fits, of the step of that row; where none does, the
+/// session stays. For want of memory it may have changed.
+pub fn tau_step_in_place(
     row: &Subscriber,
-    session: &Session,
+    session: &mut Session,
     input: &Input,
-) -> Result<Option<Step>, AllocError>
-    ensures { IfOk result (λ step. step ≡ fitting (area_rules row.now session.now input.now) session.now) }
+) -> Result<Option<Effects>, AllocError>
+    ensures { IfOk result (Takes session.old session.new (fitting (area_rules row.now session.old input.now) session.old)) }
 {
     match input {
         Input::Message(message) => on_message(row, session, message),
@@ -30,12 +34,27 @@ pub fn tau_step(
     }
 }
 
-fn on_message(
+/// The step of a tracking area update: Some exactly where one of its rows fits, and then that row's step.
+pub fn tau_step(
     row: &Subscriber,
     session: &Session,
-    message: &Message,
+    input: &Input,
 ) -> Result<Option<Step>, AllocError>
-    ensures { IfOk result (λ step. step ≡ fitting (area_message row.now session.now message.now message.now.body) session.now) }
+    ensures { IfOk result (λ step. step ≡ fitting (area_rules row.now session.now input.now) session.now) }
+{
+    let mut session = session.copy()?;
+    let Some(effects) = tau_step_in_place(row, &mut session, input)? else {
+        return Ok(None);
+    };
+    Ok(Some(Step { session, effects }))
+}
+
+fn on_message(
+    row: &Subscriber,
+    session: &mut Session,
+    message: &Message,
+) -> Result<Option<Effects>, AllocError>
+    ensures { IfOk result (Takes session.old session.new (fitting (area_message row.now session.old message.now message.now.body) session.old)) }
 {
     match &message.body {
         Body::Area { first, plmn, tac } => {
@@ -52,12 +71,12 @@ fn on_message(
 /// An update of a device that was idle, on any S1 connection.
 fn first_update(
     row: &Subscriber,
-    session: &Session,
+    session: &mut Session,
     message: &Message,
     plmn: u32,
     tac: u16,
-) -> Result<Option<Step>, AllocError>
-    ensures { IfOk result (λ step. step ≡ fitting (area_message row.now session.now message.now (bodies.Area true plmn tac)) session.now) }
+) -> Result<Option<Effects>, AllocError>
+    ensures { IfOk result (Takes session.old session.new (fitting (area_message row.now session.old message.now (bodies.Area true plmn tac)) session.old)) }
 {
     if session.is_held() {
         if row.is_forbidden(tac) {
@@ -72,59 +91,55 @@ fn first_update(
 }
 
 /// The area of a device that was idle is one where it is not served.
-fn reject_idle(session: &Session, message: &Message) -> Result<Step, AllocError>
-    ensures { IfOk result (λ step. step ≡ run (moves_connection message.now.station message.now.enb ∷ tells (AreaReject 12) ∷ frees_bearers normal_release ∷ []) session.now) }
+fn reject_idle(session: &mut Session, message: &Message) -> Result<Effects, AllocError>
+    ensures { IfOk result (λ effects. made session.new effects ≡ run (moves_connection message.now.station message.now.enb ∷ tells (AreaReject 12) ∷ frees_bearers normal_release ∷ []) session.old) }
 {
-    let Step {
-        session,
-        mut effects,
-    } = move_link(session.copy()?, message.station, message.enb)?;
+    let mut effects = move_link_in_place(session, message.station, message.enb)?;
     let reject = NasOut::AreaReject {
         cause: AREA_NOT_ALLOWED,
     };
-    effects.push(nas_message(&session, reject))?;
-    behind(effects, free_link(session, NORMAL_RELEASE)?)
+    effects.push(nas_message(session, reject))?;
+    effects.append(free_link_in_place(session, NORMAL_RELEASE)?)?;
+    Ok(effects)
 }
 
 /// The area of a device that was idle is taken.
 fn accept_idle(
-    session: &Session,
+    session: &mut Session,
     message: &Message,
     plmn: u32,
     tac: u16,
-) -> Result<Step, AllocError>
-    ensures { IfOk result (λ step. step ≡ run (moves_connection message.now.station message.now.enb ∷ sets (λ t. record t { plmn = plmn; tac = tac }) ∷ tells AreaAccept ∷ frees_bearers normal_release ∷ []) session.now) }
+) -> Result<Effects, AllocError>
+    ensures { IfOk result (λ effects. made session.new effects ≡ run (moves_connection message.now.station message.now.enb ∷ sets (λ t. record t { plmn = plmn; tac = tac }) ∷ tells AreaAccept ∷ frees_bearers normal_release ∷ []) session.old) }
 {
-    let Step {
-        mut session,
-        mut effects,
-    } = move_link(session.copy()?, message.station, message.enb)?;
+    let mut effects = move_link_in_place(session, message.station, message.enb)?;
     session.plmn = plmn;
     session.tac = tac;
-    effects.push(nas_message(&session, NasOut::AreaAccept))?;
-    behind(effects, free_link(session, NORMAL_RELEASE)?)
+    effects.push(nas_message(session, NasOut::AreaAccept))?;
+    effects.append(free_link_in_place(session, NORMAL_RELEASE)?)?;
+    Ok(effects)
 }
 
 /// The device is not registered: its identity is of no use here.
-fn reject_detached(session: &Session, message: &Message) -> Result<Step, AllocError>
-    ensures { IfOk result (λ step. step ≡ run (tells_to message.now.station message.now.enb (AreaReject 9) ∷ []) session.now) }
+fn reject_detached(session: &mut Session, message: &Message) -> Result<Effects, AllocError>
+    ensures { IfOk result (λ effects. made session.new effects ≡ run (tells_to message.now.station message.now.enb (AreaReject 9) ∷ []) session.old) }
 {
     let reject = NasOut::AreaReject {
         cause: IDENTITY_NOT_DERIVED,
     };
     let effect = nas_to(message.station, message.enb, reject);
-    with_effect(session.copy()?, effect)
+    only(session.alloc(), effect)
 }
 
 /// An update of a device that is connected.
 fn later_update(
     row: &Subscriber,
-    session: &Session,
+    session: &mut Session,
     message: &Message,
     plmn: u32,
     tac: u16,
-) -> Result<Option<Step>, AllocError>
-    ensures { IfOk result (λ step. step ≡ fitting (area_message row.now session.now message.now (bodies.Area false plmn tac)) session.now) }
+) -> Result<Option<Effects>, AllocError>
+    ensures { IfOk result (Takes session.old session.new (fitting (area_message row.now session.old message.now (bodies.Area false plmn tac)) session.old)) }
 {
     if !(session.is_here(message) && session.is_at(Stage::Connected)) {
         return Ok(None);
@@ -136,21 +151,20 @@ fn later_update(
 }
 
 /// The area of a connected device is one where it is not served.
-fn reject_here(session: &Session) -> Result<Step, AllocError>
-    ensures { IfOk result (λ step. step ≡ run (tells (AreaReject 12) ∷ []) session.now) }
+fn reject_here(session: &mut Session) -> Result<Effects, AllocError>
+    ensures { IfOk result (λ effects. made session.new effects ≡ run (tells (AreaReject 12) ∷ []) session.old) }
 {
     let reject = NasOut::AreaReject {
         cause: AREA_NOT_ALLOWED,
     };
-    with_effect(session.copy()?, nas_message(session, reject))
+    only(session.alloc(), nas_message(session, reject))
 }
 
 /// The area of a connected device is taken.
-fn accept_here(session: &Session, plmn: u32, tac: u16) -> Result<Step, AllocError>
-    ensures { IfOk result (λ step. step ≡ run (sets (λ t. record t { plmn = plmn; tac = tac }) ∷ tells AreaAccept ∷ []) session.now) }
+fn accept_here(session: &mut Session, plmn: u32, tac: u16) -> Result<Effects, AllocError>
+    ensures { IfOk result (λ effects. made session.new effects ≡ run (sets (λ t. record t { plmn = plmn; tac = tac }) ∷ tells AreaAccept ∷ []) session.old) }
 {
-    let mut next = session.copy()?;
-    next.plmn = plmn;
-    next.tac = tac;
-    with_effect(next, nas_message(session, NasOut::AreaAccept))
+    session.plmn = plmn;
+    session.tac = tac;
+    only(session.alloc(), nas_message(session, NasOut::AreaAccept))
 }

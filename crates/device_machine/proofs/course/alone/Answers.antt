@@ -1,11 +1,25 @@
-use Rattle.std.proofs.Common.{◌≡◌, ◌*◌, ◌≤◌, length, IsFalse, rules, arith, ◌∙◌}
-use Rattle.device_machine.proofs.Courses.{all_early, all_late}
+use Rattle.std.proofs.Common.{◌≡◌, Some, None, map, subst, sym, rules, arith, ◌∙◌, ap}
+use Rattle.device_machine.specs.Course.{GoesOn}
+use Rattle.device_machine.proofs.Courses.{all_made, all_late, steps_more}
 use Rattle.device_machine.proofs.course.alone.Goals as goal
 
-pub returns-then-not-branch : goal.returns-then-not-branch
-returns-then-not-branch c =
-    let stopped : IsFalse c.in_ok-advance.field-0 = search rules in
-    c.into_items.ensures ∙ all_early c.args.row.now c.args.messages.now c.loop-v.v c.advance.new.course c.in_ok-advance.ensures.course (omega arith) (c.in_ok-advance.ensures.end stopped)
+pub returns-in_default : goal.returns-in_default
+returns-in_default c =
+    let row = c.args.row.now in
+    let ms = c.args.messages.now in
+    let none : c.in_ok-effects.field-0 ≡ None = first_of (cc, search rules) in
+    let stopped = subst (GoesOn row ms c.loop-v.v c.advance.new.course) none c.in_ok-effects.ensures in
+    c.loop-v.invariant.steps ∙ ap (map (λ e. e.step)) (all_made row ms c.loop-v.v (omega arith) stopped.1)
+
+pub loop-v-preserved : goal.loop-v-preserved
+loop-v-preserved c =
+    let row = c.args.row.now in
+    let ms = c.args.messages.now in
+    let went = subst (GoesOn row ms c.loop-v.v c.advance.new.course) c.in-Some.is c.in_ok-effects.ensures in
+    record {
+      course = went.0;
+      steps = steps_more row ms c.loop-v.v c.advance.new.course c.loop-v.steps.items c.push.new.self.items c.in_ok-session.session c.in-Some.effects c.loop-v.invariant.steps went c.in_ok-session.ensures c.in_ok-push.ensures.items;
+    }
 
 pub returns : goal.returns
-returns c = c.into_items-2.ensures ∙ all_late c.args.row.now c.args.messages.now c.loop-v.v c.loop-v.course c.loop-v.invariant (omega arith)
+returns c = c.loop-v.invariant.steps ∙ ap (map (λ e. e.step)) (all_late c.args.row.now c.args.messages.now c.loop-v.v (omega arith))
