@@ -16,6 +16,7 @@ use effect_outbox::{Outbox, Settled};
 use session_form::{read_session, write_session};
 use std::alloc::{AllocError, Global};
 use std::marker::Model;
+use std::mem;
 
 /// What the core keeps of a device: the journal of its steps, and how many effects of each lane are settled. Contracts see these
 /// two. Beside them stand the octets of its session, the replies to the last `W` messages, and the unsettled effects.
@@ -54,6 +55,13 @@ impl<const W: u64> Row<W> {
             awaited: None,
             outbox: Outbox::new(alloc),
         })
+    }
+
+    /// The entries that were committed, in order. It takes no memory.
+    pub fn entries(&self) -> &[Entry]
+        ensures { result.now ≡ self.now.journal }
+    {
+        &self.entries
     }
 
     /// How many steps were committed. It takes no memory.
@@ -159,7 +167,7 @@ impl<const W: u64> Row<W> {
 
     /// Writes an entry, where the row still has the version that was read: journal, reply, session and lanes change together,
     /// since all follow from the journal. For want of memory the row stays as it was, and the entry is given back.
-    pub fn commit(&mut self, read: u64, entry: Entry) -> Result<Commit, NoRoom<Entry>>
+    pub fn commit(&mut self, read: u64, mut entry: Entry) -> Result<Commit, NoRoom<Entry>>
         requires session { IsSession entry.step.session }
         requires calls { AwaitsAtMostOne entry.step.effects }
         requires ready { read ≡ version_of self.old.journal → look_at W self.old.journal entry.input ≡ Look.Ready }
@@ -167,19 +175,20 @@ impl<const W: u64> Row<W> {
         ensures err { OnErr result (self.new ≡ self.old) }
         ensures back { IfErr result (λ room. room.0 ≡ entry) }
     {
-        let (entries, outbox) = (&mut self.entries, &mut self.outbox);
-        let Ok(prepared) = prepare(entries, outbox, self.replies.taken, &entry) else {
-            return Err(NoRoom(entry));
-        };
         let current = self.entries.len() as u64;
         if read != current {
             return Ok(Commit::Stale { read, current });
         }
+        let (entries, outbox) = (&mut self.entries, &mut self.outbox);
+        let Ok(prepared) = prepare(entries, outbox, self.replies.taken, &entry) else {
+            return Err(NoRoom(entry));
+        };
         let Prepared {
             session,
-            effects,
+            effects: kept,
             reply,
         } = prepared;
+        let effects = mem::replace(&mut entry.step.effects, kept);
         let gateway = self.outbox.pushed(Lane::Gateway);
         let subscriber = self.outbox.pushed(Lane::Subscriber);
         self.outbox.push_reserved(effects);
