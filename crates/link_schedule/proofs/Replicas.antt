@@ -1,6 +1,7 @@
 -- What a replica reads and writes, as the answer to the event, with the parts after it.
-use Rattle.std.proofs.Common.{◌≡◌, ℕ, ◌-◌, ◌≤◌, List, ◌∷◌, length, take, set, get_or, Some, None, refl, sym, ap, ◌∙◌, subst, arith}
+use Rattle.std.proofs.Common.{◌≡◌, ℕ, ◌-◌, ◌≤◌, ◌==◌, Bool, true, false, List, ◌∷◌, length, take, set, get_or, Some, None, refl, sym, ap, ◌∙◌, subst, arith}
 use Rattle.std.specs.Prelude.{IsSomeAnd, slice_get}
+use Rattle.std.proofs.lemmas.Bool.{eqb-true}
 use Rattle.std.proofs.lemmas.List.{get_or_default, length-take-le}
 use Rattle.std.proofs.lemmas.Option.{some_pair_parts}
 use Rattle.device_types.specs.declared.event.Event.TheVariants.{Read, Write}
@@ -26,19 +27,19 @@ use Rattle.session_row.specs.Row.{RowState, Commits, look_at as row_look}
 use Rattle.session_store.specs.Charter.{CharterState, alone_in}
 use Rattle.session_store.specs.Rows.{StoreState, IsDevice, WritesRow, opening_row, row_of as row_stored, journal_of}
 use Rattle.session_store.specs.Seen.{IsAsked, asked_of, look_to}
-use Rattle.schedule_laws.specs.Answer.{look_answer, answer, Lawful}
+use Rattle.schedule_laws.specs.Answer.{look_at, look_answer, answer, Lawful}
 use Rattle.schedule_laws.specs.Counts.{Turn, Arrival, Held, hand, commits, journal}
 use Rattle.schedule_laws.specs.Counts.Arrival.{TheMessage, TheAnswer}
 use Rattle.schedule_laws.specs.Counts.Held.{Nothing, Taken, Ready}
-use Rattle.schedule_laws.specs.Input.{input_of, IsArrival}
+use Rattle.schedule_laws.specs.Input.{input_of, IsArrival, IsHand}
 use Rattle.schedule_laws.specs.Promise.{Holds}
 use Rattle.schedule_laws.specs.Setting.{Setting, window, row_of, messages_of, entries_of}
-use Rattle.link_schedule.specs.Told.{commit_answer, device_held, version_in, seen_answer}
+use Rattle.link_schedule.specs.Told.{commit_answer, device_held, version_in, seen_answer, IsStillReady}
 use Rattle.link_schedule.specs.World.{Parts, IsSetting, hand_of, ArePartsOf}
 use Rattle.link_schedule.proofs.Calls.{read_told}
 use Rattle.schedule_laws.proofs.Comparisons.{le_true}
 use Rattle.link_schedule.proofs.Events.{reads_ready, reads_other, entry_held, made_hand, writes}
-use Rattle.schedule_laws.proofs.Laws.{version_is, sent_bound}
+use Rattle.schedule_laws.proofs.Laws.{version_is, hand_ok, sent_bound}
 use Rattle.link_schedule.proofs.Worlds.{IsWith, with_input, held_arrival, made_follows, row_there, line_there, line_of, number_in}
 
 -- ---- what a hand has
@@ -82,6 +83,9 @@ device_within s H p r (hands.Ready e v entry) d is L at held within m = rw (devi
 
 in_rows : (rows n d : ℕ) → rows ≡ n → IsWithin n d → IsDevice rows d
 in_rows rows n d e within = (within.0, omega (arith, e, within.1))
+
+pub device_stored : (s : Setting) (H : List Turn) (p : Parts) (r : ℕ) (was : Hand) (d : DeviceId) → IsSetting s → Lawful s H → was ≡ get_or p.hands (r - 1) was → Some d ≡ device_held was → IsWithin s.replicas r → ArePartsOf s H p → IsDevice (length p.rows) d.0
+device_stored s H p r was d is L at held within m = in_rows (length p.rows) (length s.rows) d.0 m.rows.long (device_within s H p r was d is L at held within m)
 
 pub can_be_read : (s : Setting) (H : List Turn) (p : Parts) (r : ℕ) (was : Hand) (d : DeviceId) → IsSetting s → Lawful s H → was ≡ get_or p.hands (r - 1) was → Some d ≡ device_held was → IsWithin s.replicas r → ArePartsOf s H p → CanBeRead (length p.rows) (held_in was)
 can_be_read s H p r hands.Empty d is L at held within m = absurd (cc)
@@ -153,10 +157,32 @@ reads s H p r (hands.Taken f input) now d row a is L at held then gives e within
 reads s H p r (hands.Ready f v entry) now d row a is L at held then gives e within m =
     rw gives (reads_held s H p r (hands.Ready f v entry) now f entry.input row is L at refl then (e ∙ ap (λ (x : DeviceId). row_of s x.0) (device_is d f held)) within m)
 
--- ---- a write
+-- ---- a read of a row that is as it was
 
 holds_ready : (d v : ℕ) (what : Arrival) (x : Held) → x ≡ Ready d what v → Holds d what x
 holds_ready d v what x e = rw e (refl, refl)
+
+same_hands : (r d v : ℕ) (what : Arrival) (H : List Turn) → hand r H ≡ Ready d what v → (q : ℕ) → hand q ((Read r, told.Ready v) ∷ H) ≡ hand q H
+same_hands r d v what H h q = by q (r == q) refl
+  where
+    by : (q : ℕ) (b : Bool) → (r == q) ≡ b → hand q ((Read r, told.Ready v) ∷ H) ≡ hand q H
+    by q true e = let there : hand q H ≡ Ready d what v = subst (λ n. hand n H ≡ Ready d what v) (eqb-true r q e) h in rw (e, there) refl
+    by q false e = rw e refl
+
+-- where the hand has a step for the version that the row has, the row still says Ready, and the hand is as it was
+pub reads_again : (s : Setting) (H : List Turn) (p : Parts) (r v : ℕ) (was : Hand) → Lawful s H → was ≡ get_or p.hands (r - 1) was → IsStillReady p.rows was v → IsWithin s.replicas r → ArePartsOf s H p → (told.Ready v ≡ answer s H (Read r)) × ((q : ℕ) → hand q ((Read r, told.Ready v) ∷ H) ≡ hand q H)
+reads_again s H p r v hands.Empty L at is within m = absurd is
+reads_again s H p r v (hands.Taken d input) L at is within m = absurd is
+reads_again s H p r v (hands.Ready d w entry) L at is within m =
+    let h = made_hand s (hand r H) d w entry (sym (at ∙ m.hands.at r (hands.Ready d w entry) within)) in
+    let i = (held_arrival s H r d.0 h.0 L (holds_ready d.0 w h.0 (hand r H) h.1)).1 in
+    let j : journal_of p.rows d.0 ≡ journal s d.0 H = ap (λ (x : RowState). x.journal) (m.rows.at d.0 opening_row i) in
+    let count : commits d.0 H ≡ w = sym (ap length j ∙ version_is s d.0 H L) ∙ is.1 in
+    let ready : look_at (journal s d.0 H) h.0 ≡ look.Ready = rw count (subst (IsHand s H) h.1 (hand_ok s r H L)).2 in
+    let told_so : told.Ready v ≡ answer s H (Read r) = rw (is.0, le_true r s.replicas within.1, h.1, ready, count) refl in
+    (told_so, same_hands r d.0 v h.0 H (h.1 ∙ ap (Ready d.0 h.0) (sym is.0)))
+
+-- ---- a write
 
 -- the store is asked for no other write than it takes
 pub may_write : (s : Setting) (H : List Turn) (p : Parts) (r : ℕ) (was : Hand) (charter : CharterState) → IsSetting s → Lawful s H → was ≡ get_or p.hands (r - 1) was → charter ≡ record { rows = s.rows; lines = s.book } → IsWithin s.replicas r → ArePartsOf s H p → MayWrite charter (length p.rows) (λ d. journal_of p.rows d) was

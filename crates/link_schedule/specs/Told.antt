@@ -1,5 +1,5 @@
 -- What the parts of a world say, as the answer to an event.
-use Rattle.std.specs.Prelude.{ℕ, List, Option, Some, None}
+use Rattle.std.specs.Prelude.{◌≡◌, ℕ, List, Option, Some, None}
 use Rattle.agent_resend.specs.declared.taken.DownTaken.{DownTaken}
 use Rattle.agent_resend.specs.declared.taken.DownTaken.TheVariants as down
 use Rattle.agent_resend.specs.declared.taken.Taken.{Taken}
@@ -18,6 +18,8 @@ use Rattle.replica_worker.specs.declared.hand.Hand.{Hand}
 use Rattle.replica_worker.specs.declared.hand.Hand.TheVariants as hands
 use Rattle.session_row.specs.declared.commit.Commit.{Commit}
 use Rattle.session_row.specs.declared.commit.Commit.TheVariants as commit
+use Rattle.session_row.specs.Row.{RowState}
+use Rattle.session_store.specs.Rows.{journal_of}
 use Rattle.session_store.specs.Seen.{asked_of, look_to}
 use Rattle.schedule_laws.specs.Answer.{look_answer}
 
@@ -35,6 +37,11 @@ abbrev pub device_held : Hand → Option DeviceId
 device_held hands.Empty = None
 device_held (hands.Taken d input) = Some d
 device_held (hands.Ready d version entry) = Some d
+
+-- the hand has a step for that version, which its row still has
+abbrev pub IsStillReady : List RowState → Hand → ℕ → Type 0
+IsStillReady rows (hands.Ready d version entry) v = (v ≡ version) × (version_of (journal_of rows d.0) ≡ version)
+IsStillReady rows _ v = ⊥
 
 -- the row to a write
 abbrev pub commit_answer : Commit → EventAnswer

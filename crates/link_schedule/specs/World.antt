@@ -1,5 +1,5 @@
 -- A world, and what its parts are after its events.
-use Rattle.std.specs.Prelude.{◌≡◌, ◌==◌, ◌&&◌, ◌||◌, ℕ, ◌-◌, ◌≤◌, Bool, List, [], ◌∷◌, ◌++◌, length, map, take, All, Option, Some, None, if◌then◌else◌, nat_le, slice_get, slice_index_or, true, IsSomeAnd}
+use Rattle.std.specs.Prelude.{◌≡◌, ◌==◌, ◌&&◌, ◌||◌, ℕ, ◌-◌, ◌≤◌, Bool, List, [], ◌∷◌, ◌++◌, length, map, take, All, Option, Some, if◌then◌else◌, nat_le, slice_get, slice_index_or, true, IsSomeAnd}
 use Rattle.agent_order.specs.Order.{message_at}
 use Rattle.agent_resend.specs.Window.{WindowState}
 use Rattle.device_types.specs.declared.effect.Effect.{Effect}
@@ -26,9 +26,9 @@ use Rattle.replica_worker.specs.declared.hand.Hand.{Hand}
 use Rattle.replica_worker.specs.declared.hand.Hand.TheVariants as hands
 use Rattle.session_row.specs.Row.{RowState}
 use Rattle.schedule_laws.specs.Answer.{answer, history, Lawful}
-use Rattle.schedule_laws.specs.Counts.{Turn, Held, hand, acked, accepted, settled, greatest_sent, message_sent, reply_sent, effect_pushed, effect_received, journal}
+use Rattle.schedule_laws.specs.Counts.{Turn, Held, hand, acked, accepted, settled, greatest_sent, message_sent, effect_pushed, journal}
 use Rattle.schedule_laws.specs.Counts.Held.{Nothing, Taken, Ready}
-use Rattle.schedule_laws.specs.Input.{message_of, input_of}
+use Rattle.schedule_laws.specs.Input.{input_of}
 use Rattle.schedule_laws.specs.Lists.{Each, has}
 use Rattle.schedule_laws.specs.Packets.{if_so, message_packet, reply_packet, effect_packet, answer_packet}
 use Rattle.schedule_laws.specs.Setting.{Setting, row_of, messages_of, entries_to, entries_of}

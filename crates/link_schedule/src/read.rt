@@ -1,10 +1,10 @@
 //! A replica reads the row of what it has taken.
-ghost use Rattle.std.specs.Prelude.{◌≡◌, length, IfOk, OnOk, OnErr, IsSomeAnd};
+ghost use Rattle.std.specs.Prelude.{◌≡◌, length, IfOk, IfSome, OnOk, OnErr, IsSomeAnd};
 ghost use Rattle.replica_worker.specs.Cache.{AreSessionsOf};
 ghost use Rattle.replica_worker.specs.Hands.{held_in, CanBeRead, hand_after};
-ghost use Rattle.session_store.specs.Rows.{journal_of};
+ghost use Rattle.session_store.specs.Rows.{IsDevice, journal_of};
 ghost use Rattle.schedule_laws.specs.Answer.{look_answer, IsEvent};
-ghost use Rattle.link_schedule.specs.Told.{version_in, device_held, seen_answer};
+ghost use Rattle.link_schedule.specs.Told.{version_in, device_held, seen_answer, IsStillReady};
 ghost use Rattle.link_schedule.specs.World.{Answers};
 
 use crate::world::{World, row_at};
@@ -38,6 +38,17 @@ fn look_answer(version: u64, look: Look) -> EventAnswer
     }
 }
 
+/// The version for which a hand has a step, where its row still has that version: a read would make the same step of it.
+fn still_ready(hand: &Hand, store: &Store<EchoLaw>) -> Option<u64>
+    requires { IfSome (device_held hand.now) (λ d. IsDevice (length store.now.rows) d.0) }
+    ensures { IfSome result (IsStillReady store.now.rows hand.now) }
+{
+    match hand {
+        Hand::Ready { d, version, .. } if store.row(*d).version() == *version => Some(*version),
+        _ => None,
+    }
+}
+
 /// What a replica is told of its input, as the answer to the event. Every row is as before. For want of memory so is the replica.
 fn told(
     replica: &mut Replica,
@@ -68,8 +79,8 @@ fn device_held(hand: &Hand) -> Option<DeviceId>
 }
 
 impl World {
-    /// A replica reads the row of what it holds. For want of memory the world is as before, but that the store may count a read
-    /// more.
+    /// A replica reads the row of what it holds: where it has a step for the row's version it is told that alone, since nothing has
+    /// changed. For want of memory the world is as before, but that the store may count a read more.
     pub(crate) fn read(&mut self, r: u32) -> Result<EventAnswer, AllocError>
         requires { IsEvent self.old.setting (Event.Read r) }
         ensures ok { IfOk result (Answers self.old self.new (Event.Read r)) }
@@ -80,9 +91,13 @@ impl World {
             return Ok(self.log.noted(event, EventAnswer::VoidReplica));
         }
         let index = r as usize - 1;
-        let Some(d) = device_held(self.replicas[index].hand()) else {
+        let hand = self.replicas[index].hand();
+        let Some(d) = device_held(hand) else {
             return Ok(self.log.noted(event, EventAnswer::VoidHand));
         };
+        if let Some(version) = still_ready(hand, &self.store) {
+            return Ok(self.log.noted(event, EventAnswer::Ready(version)));
+        }
         let row = row_at(&self.law, d);
         let answer = told(&mut self.replicas[index], row, &mut self.store)?;
         Ok(self.log.noted(event, answer))

@@ -1,5 +1,5 @@
 //! A shard: the rows of the devices that share a remainder.
-ghost use Rattle.std.specs.Prelude.{◌≡◌, ◌≤◌, ◌<◌, ◌↔◌, ℕ, Some, length, take, IfOk, OnOk, OnErr, IfErr, IsSome};
+ghost use Rattle.std.specs.Prelude.{◌≡◌, ◌≤◌, ◌<◌, ◌↔◌, ℕ, Some, length, take, IfOk, OnOk, OnErr, IfErr, IsSome, IsTrue};
 ghost use Rattle.std.specs.BTreeMap.{Updates};
 ghost use Rattle.std.specs.Ordering.{nat_cmp};
 ghost use Rattle.device_types.specs.Journal.{version_of, pushed_count};
@@ -166,6 +166,14 @@ impl<L: RowLaw> Shard<L> {
             unreachable!();
         };
         row.commit(read, entry)
+    }
+
+    /// Is effect `k` of a lane of the device, from 1, among the unsettled ones: was it made, and is it not settled? It takes no memory.
+    pub fn is_unsettled(&self, d: DeviceId, lane: Lane, k: u64) -> bool
+        requires { IsHere self.now d.0 }
+        ensures { IsTrue result ↔ ((number_on (row_in self.now.rows d.0).settled lane < k) × (k ≤ pushed_count lane (journal_in self.now.rows d.0))) }
+    {
+        self.row(d).outbox().at(lane, k).is_some()
     }
 
     /// Effect `k` of a lane of the device, from 1, or `None` where it was not made or is settled. It fails for want of memory

@@ -1,5 +1,5 @@
 //! The store: a row for each device, in shards.
-ghost use Rattle.std.specs.Prelude.{◌≡◌, ◌≤◌, ◌<◌, ◌-◌, ◌↔◌, ℕ, length, take, refl, IfOk, OnErr, IfErr, IsSome, replicate, slice_set};
+ghost use Rattle.std.specs.Prelude.{◌≡◌, ◌≤◌, ◌<◌, ◌-◌, ◌↔◌, ℕ, length, take, refl, IfOk, OnErr, IfErr, IsSome, IsTrue, replicate, slice_set};
 ghost use Rattle.std.proofs.Common.{◌∙◌};
 ghost use Rattle.device_types.specs.declared.step.Entry.{Entry};
 ghost use Rattle.device_types.specs.Journal.{version_of, pushed_count};
@@ -151,6 +151,14 @@ impl<L: RowLaw> Store<L> {
     {
         let shard = &mut self.shards[shard_of(d) as usize];
         shard.commit(d, read, entry)
+    }
+
+    /// Is effect `k` of a lane of the device, from 1, among the unsettled ones: was it made, and is it not settled? It takes no memory.
+    pub fn is_unsettled(&self, d: DeviceId, lane: Lane, k: u64) -> bool
+        requires { IsDevice (length self.now.rows) d.0 }
+        ensures { IsTrue result ↔ ((number_on (row_of self.now.rows d.0).settled lane < k) × (k ≤ pushed_count lane (journal_of self.now.rows d.0))) }
+    {
+        self.shard(d).is_unsettled(d, lane, k)
     }
 
     /// Effect `k` of a lane of the device, from 1, or `None` where it was not made or is settled. It fails for want of memory

@@ -17,7 +17,7 @@ invariant_of-self c =
     let e = Push c.args.d c.args.lane c.args.k in
     let i = event_in c.args.self.now w e c.self.view_is c.requires in
     let row = is.parts.rows.at c.args.d.0 opening_row i.0 in
-    let void = in_row_void w.setting H c.args.d c.args.lane c.args.k _ row (λ there. let t = c.in_ok-is_in_row.ensures.1 there in cc) in
+    let void = in_row_void w.setting H c.args.d c.args.lane c.args.k _ row (λ there. let t = c.is_unsettled.ensures.1 there in cc) in
     record { charter = c.self.invariant.charter; caches = c.self.invariant.caches; world = notes_void w e told.VoidOutbox c.noted.new.self c.noted.ensures.events is i void refl }
 
 pub invariant_of-self-2 : goal.invariant_of-self-2
@@ -28,7 +28,7 @@ invariant_of-self-2 c =
     let e = Push c.args.d c.args.lane c.args.k in
     let i = event_in c.args.self.now w e c.self.view_is c.requires in
     let row = is.parts.rows.at c.args.d.0 opening_row i.0 in
-    let pushed = in_row_told w.setting H c.args.d c.args.lane c.args.k _ row (c.in_ok-is_in_row.ensures.0 c.if-not-branch.false) in
+    let pushed = in_row_told w.setting H c.args.d c.args.lane c.args.k _ row (c.is_unsettled.ensures.0 c.if-not-is_unsettled.false) in
     rw c.index-index.ensures
     (record {
       charter = c.self.invariant.charter;
