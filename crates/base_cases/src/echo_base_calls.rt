@@ -1,7 +1,8 @@
 //! Whole reads and writes over concrete sources and sinks, and the printed texts.
 use echo_base::{
     Bad, Column, Give, Identity, MemSink, MemSource, OutOfMemory, ReadAll, RealSink, RealSource,
-    Reason, Refusal, Status, SureSource, WriteFault, decode_hex, read_all, refused, write_all,
+    Reason, Refusal, Status, SureSource, WriteFault, decode_hex, encode_hex, read_all, read_hex,
+    refused, write_all,
 };
 use std::alloc::Global;
 use std::fmt::Write as _;
@@ -364,24 +365,105 @@ fn converts_into_bad(rt: HostRuntime) -> Result<(), Fail> {
     Ok(())
 }
 
-/// Texts, and the octets that their hexadecimal digits are (RFC 4648, 8), in either case.
+/// Texts, and the octets that their hexadecimal digits are (RFC 4648, 8), in either case: each digit, and the neighbours of the first
+/// and the last of a row of them, which are none.
 const HEXADECIMAL: &str = "\
 00 Some([0])
  Some([])
 0aFF Some([10, 255])
+0123456789 Some([1, 35, 69, 103, 137])
+abcdef Some([171, 205, 239])
+ABCDEF Some([171, 205, 239])
+fedcba9876543210 Some([254, 220, 186, 152, 118, 84, 50, 16])
+FEDCBA Some([254, 220, 186])
 0 None
-0g None
-+1 None
 0a0 None
++1 None
+0/ None
+0: None
+0@ None
+0G None
+0` None
+0g None
+/0 None
+:0 None
+@0 None
+G0 None
+`0 None
+g0 None
 ";
 
 #[test]
 fn decodes_hexadecimal_digits(rt: HostRuntime) -> Result<(), Fail> {
     let mut text = String::new(rt.alloc());
-    for digits in ["00", "", "0aFF", "0", "0g", "+1", "0a0"] {
+    for line in HEXADECIMAL.lines() {
+        let Some((digits, _)) = line.split_once(' ') else {
+            continue;
+        };
         let octets = decode_hex(rt.alloc(), digits.as_bytes())?;
         writeln!(text, "{digits} {octets:?}")?;
     }
     assert_eq!(rt; text.as_str(), HEXADECIMAL);
+    Ok(())
+}
+
+/// A text of 70 digits, of which one is none.
+fn with_one_bad(alloc: Global, place: usize) -> Result<Vec<u8>, Fail> {
+    let mut digits = Vec::new(alloc);
+    for i in 0..70usize {
+        digits.push(if i == place { b'g' } else { b'f' })?;
+    }
+    Ok(digits)
+}
+
+#[test]
+fn one_bad_digit_is_found_at_each_place(rt: HostRuntime) -> Result<(), Fail> {
+    let mut octets = Vec::new(rt.alloc());
+    for place in 0..70 {
+        let digits = with_one_bad(rt.alloc(), place)?;
+        assert_eq!(rt; read_hex(&mut octets, &digits)?, false);
+    }
+    let digits = with_one_bad(rt.alloc(), 70)?;
+    assert_eq!(rt; read_hex(&mut octets, &digits)?, true);
+    assert_eq!(rt; octets.len(), 35);
+    assert!(rt; octets.iter().all(|octet| *octet == 255));
+    Ok(())
+}
+
+#[test]
+fn octets_come_in_place_of_those_before(rt: HostRuntime) -> Result<(), Fail> {
+    let mut octets = Vec::new(rt.alloc());
+    let mut text = String::new(rt.alloc());
+    for digits in ["01020304", "fe", "", "0a0B0c0D0e"] {
+        let is = read_hex(&mut octets, digits.as_bytes())?;
+        writeln!(text, "{is} {octets:?}")?;
+    }
+    assert_eq!(rt;
+        text.as_str(),
+        "true [1, 2, 3, 4]\ntrue [254]\ntrue []\ntrue [10, 11, 12, 13, 14]\n"
+    );
+    Ok(())
+}
+
+#[test]
+fn digits_of_each_octet_are_read_as_it(rt: HostRuntime) -> Result<(), Fail> {
+    let mut octets = Vec::new(rt.alloc());
+    for octet in 0..=255u8 {
+        octets.push(octet)?;
+    }
+    let digits = encode_hex(rt.alloc(), &octets)?;
+    assert_eq!(rt; digits.len(), 512);
+    assert_eq!(rt;
+        digits.get(..40),
+        Some("000102030405060708090a0b0c0d0e0f10111213")
+    );
+    assert_eq!(rt;
+        digits.get(472..),
+        Some("ecedeeeff0f1f2f3f4f5f6f7f8f9fafbfcfdfeff")
+    );
+    let mut back = Vec::new(rt.alloc());
+    assert_eq!(rt; read_hex(&mut back, digits.as_bytes())?, true);
+    assert_eq!(rt; back.as_slice(), octets.as_slice());
+    assert_eq!(rt; encode_hex(rt.alloc(), &[])?.as_str(), "");
     Ok(())
 }

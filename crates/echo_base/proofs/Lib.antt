@@ -1,4 +1,5 @@
 pub mod Answers
+pub mod Digits
 pub mod Fields
 pub mod Formats
 pub mod Printed

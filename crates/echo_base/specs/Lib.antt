@@ -1,6 +1,7 @@
 pub mod Answer
 pub mod Field
 pub mod Format
+pub mod Hex
 pub mod Memory
 pub mod Outside
 pub mod Reading

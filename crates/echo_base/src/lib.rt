@@ -16,7 +16,7 @@ mod status;
 mod whole;
 
 pub use column::Column;
-pub use hexadecimal::decode_hex;
+pub use hexadecimal::{decode_hex, encode_hex, read_hex};
 pub use identity::Identity;
 pub use laws::fields_are_exact;
 pub use memory::{MemSink, MemSource, SureSource};

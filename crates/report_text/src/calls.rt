@@ -9,7 +9,7 @@ ghost use Rattle.report_text.specs.Calls.{Wire, imsi_line, wire_line, exchange, 
 
 use crate::device::Imsi;
 use device_types::{DeviceEnd, DeviceId, Octets, Subscriber};
-use echo_base::OutOfMemory;
+use echo_base::{OutOfMemory, encode_hex};
 use std::alloc::{AllocError, Global};
 use subs_table::SubsTable;
 
@@ -78,7 +78,7 @@ fn put_octets(
 ) -> Result<(), OutOfMemory>
     ensures { OnOk result (string_bytes text.new ≡ string_bytes text.old ++ ended (wire_line word.now number octets.now)) }
 {
-    let digits = hex::encode(alloc, octets)?;
+    let digits = encode_hex(alloc, octets)?;
     writeln!(text, "{word} {number} {digits}")
 }
 

@@ -11,7 +11,7 @@ ghost use Rattle.report_text.specs.Final.{device_text};
 
 use crate::session::put_session_lines;
 use device_types::{DeviceEnd, Down, GwCall, SubCall, Subscriber};
-use echo_base::OutOfMemory;
+use echo_base::{OutOfMemory, encode_hex};
 use entry_edge::down_bytes;
 use std::alloc::Global;
 use std::fmt;
@@ -142,7 +142,7 @@ fn put_octets(
 ) -> Result<(), OutOfMemory>
     ensures { OnOk result (string_bytes text.new ≡ string_bytes text.old ++ ended (down_line number station octets.now)) }
 {
-    let digits = hex::encode(alloc, octets)?;
+    let digits = encode_hex(alloc, octets)?;
     writeln!(text, "down {number} {station} {digits}")
 }
 

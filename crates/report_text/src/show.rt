@@ -7,7 +7,7 @@ ghost use Rattle.report_text.specs.Show.{Shown, message_of, message_line, refusa
 
 use case_form::{TraceKind, TraceLine};
 use device_types::Octets;
-use echo_base::{Bad, OutOfMemory, Refusal};
+use echo_base::{Bad, OutOfMemory, Refusal, encode_hex};
 use entry_edge::decode;
 use std::alloc::Global;
 
@@ -57,7 +57,7 @@ fn put_message<M: TraceMessage>(
     write!(text, "line {line} ")?;
     message.put_name(text)?;
     let octets = message.write(alloc)?;
-    let digits = hex::encode(alloc, octets.octets())?;
+    let digits = encode_hex(alloc, octets.octets())?;
     writeln!(text, " {digits}")
 }
 

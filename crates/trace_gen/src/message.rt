@@ -13,7 +13,7 @@ use crate::script::{Sending, Sent};
 use crate::subscribers::imsi_of;
 use aper_fields::EnumValue;
 use device_types::Octets;
-use echo_base::OutOfMemory;
+use echo_base::{OutOfMemory, encode_hex};
 use s1ap_ies::{Cause, Cgi, ErabDone, Stmsi, Tai, names};
 use s1ap_messages::{ErabsDone, Pdu, small_is_right, write_pdu};
 use std::alloc::Global;
@@ -181,7 +181,7 @@ fn message_of(alloc: Global, device: u32, sending: Sending) -> Result<Pdu, OutOf
 fn put_octets(alloc: Global, text: &mut String, octets: &[u8]) -> Result<(), OutOfMemory>
     ensures { OnOk result (string_bytes text.new ≡ string_bytes text.old ++ ended (codes "1 " ++ encode_lower octets.now)) }
 {
-    let digits = hex::encode(alloc, octets)?;
+    let digits = encode_hex(alloc, octets)?;
     writeln!(text, "1 {digits}")
 }
 

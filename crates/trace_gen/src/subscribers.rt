@@ -4,7 +4,7 @@ ghost use Rattle.std.specs.Prelude.{◌≡◌, ◌++◌, ◌≤◌, OnOk, string
 ghost use Rattle.trace_gen.specs.Made.{ended, subscribers_text};
 ghost use Rattle.trace_gen.specs.Subscribers.{imsi_of, identity_columns, address_column, tunnel_columns, key_columns, rate_columns, subscriber_line};
 
-use echo_base::OutOfMemory;
+use echo_base::{OutOfMemory, encode_hex};
 use std::alloc::Global;
 
 /// The columns that all devices have alike, before the address.
@@ -51,7 +51,7 @@ fn put_identity(text: &mut String, device: u32) -> Result<(), OutOfMemory>
 fn put_address(alloc: Global, text: &mut String, octets: &[u8]) -> Result<(), OutOfMemory>
     ensures { OnOk result (string_bytes text.new ≡ string_bytes text.old ++ address_column octets.now) }
 {
-    let digits = hex::encode(alloc, octets)?;
+    let digits = encode_hex(alloc, octets)?;
     write!(text, "\"ip\":\"{digits}\"")
 }
 
