@@ -14,8 +14,8 @@ use Rattle.entry_edge.specs.declared.admission.RefusedLine.{RefusedLine}
 use Rattle.entry_edge.specs.declared.admission.Admission.{Admission}
 use Rattle.entry_edge.specs.Trace.{Turn, Admitted, Refused, messages_of, and_message, book_of, taken_at, turn, history}
 use Rattle.device_types.specs.Numbers.{IsWithin}
-use Rattle.entry_edge.specs.Kept.{AreLines, IsSeen, Keeps}
-use Rattle.entry_edge.proofs.StepLaws.{admitted_turn, refused_turn}
+use Rattle.entry_edge.specs.Kept.{is_device, AreLines, IsSeen, Keeps}
+use Rattle.entry_edge.proofs.StepLaws.{admitted_turn, refused_turn, bound_still}
 
 -- a message more
 line_at : (n i d : ℕ) (H : List Turn) (t : Taken) (lines : List (List Message)) → AreLines n H lines → t.device.0 ≡ d → IsWithin n d → i < n → get_or (set lines (d - 1) (and_message (get_or lines (d - 1) []) t)) i [] ≡ messages_of (i + 1) (Admitted t ∷ H)
@@ -53,7 +53,12 @@ pub refused_seen : (rows : List Subscriber) (H : List Turn) (line : TraceLine) (
 refused_seen rows H line e s new seen is kept lines more =
     let r : RefusedLine = record { line = line.line; refusal = e } in
     let seen_more : IsSeen rows (Refused r ∷ H) new = record {
-      bindings = record { opened = kept.opened; count = kept.count; places = kept.places; within = kept.within };
+      bindings = record {
+        opened = kept.opened;
+        within = kept.within;
+        count = kept.count;
+        places = λ pair d at. kept.places pair d at ∙ ap (is_device d) (sym (bound_still pair H r));
+      };
       lines = lines_same (length rows) H r new.lines.items lines;
       refused = more ∙ ap (λ (before : List RefusedLine). before ++ r ∷ []) seen.refused;
     } in

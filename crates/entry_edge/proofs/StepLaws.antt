@@ -22,14 +22,14 @@ both false b e = absurd (cc e)
 abbrev pair : ℕ → ℕ → Pair
 pair station enb = (station, enb)
 
-one_pair : (p q : Pair) → same_pair p q ≡ true → p ≡ q
+pub one_pair : (p q : Pair) → same_pair p q ≡ true → p ≡ q
 one_pair p q e =
     let parts = both (eqb p.0 q.0) (eqb p.1 q.1) e in
     let first : p.0 ≡ q.0 = eqb-true p.0 q.0 parts.0 in
     let second : p.1 ≡ q.1 = eqb-true p.1 q.1 parts.1 in
     ap (λ (n : ℕ). pair n p.1) first ∙ ap (λ (n : ℕ). pair q.0 n) second
 
-there : (pair : Pair) (o : Option Pair) → is_there pair o ≡ true → o ≡ Some pair
+pub there : (pair : Pair) (o : Option Pair) → is_there pair o ≡ true → o ≡ Some pair
 there pair None e = absurd (cc e)
 there pair (Some other) e = ap (λ (p : Pair). let some : Option Pair = Some p in some) (one_pair other pair e)
 

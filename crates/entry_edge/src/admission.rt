@@ -39,6 +39,8 @@ pub struct Admission {
     pub bindings: Bindings,
     pub lines: Vec<Messages>,
     pub refused: Vec<RefusedLine>,
+    /// The octets of the last line: memory that is used again for each.
+    pub octets: Vec<u8>,
 }
 
 /// Puts what a line says behind a device's messages, with the next number. It fails for want of memory alone.
@@ -93,6 +95,7 @@ fn begin(alloc: Global, table: &SubsTable) -> Result<Admission, OutOfMemory>
         bindings: Bindings::new(alloc, devices)?,
         lines: no_lines(alloc, devices)?,
         refused: Vec::new(alloc),
+        octets: Vec::new(alloc),
     })
 }
 
@@ -107,7 +110,7 @@ fn take_line(
     requires { (H : List Turn) × IsSeen table.now H state.old }
     ensures { (H : List Turn) → IsSeen table.now H state.old → OnOk result (IsSeen table.now (turn table.now H line.now) state.new) }
 {
-    match check(alloc, table, &state.bindings, line) {
+    match check(alloc, &mut state.octets, table, &state.bindings, line) {
         Ok(t) => {
             state.bindings.note(&t)?;
             add_message(&mut state.lines, t)?;

@@ -1,9 +1,10 @@
 //! Which device a pair is bound to.
 
-ghost use Rattle.std.specs.Prelude.{◌≡◌, ◌-◌, ◌∷◌, [], ℕ, List, length, Some, None, OnOk, IfOk, IfSome, slice_set};
-ghost use Rattle.std.specs.BTreeMap.{Updates};
+ghost use Rattle.std.specs.Prelude.{◌≡◌, ◌∷◌, [], ℕ, List, length, OnOk, IfOk, IfSome};
+ghost use Rattle.device_types.specs.Numbers.{IsWithin};
+ghost use Rattle.entry_edge.specs.Kept.{left};
 ghost use Rattle.entry_edge.specs.Sent.{is_release};
-ghost use Rattle.entry_edge.specs.Trace.{same_pair};
+ghost use Rattle.entry_edge.specs.Trace.{is_there};
 
 use crate::check::Taken;
 use crate::sent::Claim;
@@ -15,20 +16,20 @@ use std::collections::BTreeMap;
 /// A base station, and the eNB UE S1AP ID that it gave a device.
 pub type Pair = (u16, u32);
 
-/// Which device opened each pair last, and which pair each device opened last. A pair is bound to a device where both
-/// agree, so nothing has to be taken out when a device opens another pair.
+/// Which pair is bound to each device, and which device opened each pair last, so that its place is known when the pair is
+/// opened again or freed. That device may be on another pair since: its older pairs stay in the map.
 #[derive(Debug, Drop)]
 pub struct Bindings {
     pub opened: BTreeMap<Pair, DeviceId>,
-    /// That of each device, at its index.
+    /// The pair that is bound to each device, at its index.
     pub places: Vec<Option<Pair>>,
 }
 
-/// Are they one pair?
-fn is_same(one: Pair, other: Pair) -> bool
-    ensures { result ≡ same_pair one other }
+/// Is the place that of the pair?
+fn is_there(pair: Pair, place: Option<Pair>) -> bool
+    ensures { result ≡ is_there pair place }
 {
-    one == other
+    place == Some(pair)
 }
 
 /// Is it a UEContextReleaseComplete?
@@ -38,12 +39,26 @@ fn is_release(body: &Body) -> bool
     matches!(body, Body::Released)
 }
 
+/// The device that opened the pair last is on it no longer.
+fn leave(places: &mut Vec<Option<Pair>>, pair: Pair, opener: Option<DeviceId>)
+    requires { IfSome opener (λ d. IsWithin (length places.old.items) d.0) }
+    ensures { places.new.items ≡ left pair opener places.old.items }
+{
+    let Some(device) = opener else {
+        return;
+    };
+    let place = &mut places[device.index()];
+    if is_there(pair, *place) {
+        *place = None;
+    }
+}
+
 impl Bindings {
     ghost use Rattle.entry_edge.specs.Trace.{Turn, Admitted, bound};
-    ghost use Rattle.device_types.specs.Numbers.{IsWithin};
-    ghost use Rattle.entry_edge.specs.Kept.{pair_cmp, Keeps};
+    ghost use Rattle.entry_edge.specs.Kept.{is_device, Keeps};
 
     /// No pair is bound to any of `devices` devices.
+    #[tactic(auto, unfolding(crate::specs::Trace::bound))]
     pub fn new(alloc: Global, devices: u32) -> Result<Bindings, OutOfMemory>
         ensures { IfOk result (Keeps devices []) }
     {
@@ -53,53 +68,36 @@ impl Bindings {
         })
     }
 
-    /// The device that the pair is bound to.
-    pub fn bound(&self, pair: Pair) -> Option<DeviceId>
-        requires { (rows : ℕ) × (H : List Turn) × Keeps rows H self.now }
-        ensures bound { (rows : ℕ) (H : List Turn) → Keeps rows H self.now → result ≡ bound pair H }
-        ensures within { (rows : ℕ) (H : List Turn) → Keeps rows H self.now → IfSome result (λ d. IsWithin rows d.0) }
+    /// Is the pair bound to the device of that number?
+    pub fn is_bound(&self, pair: Pair, number: u32) -> bool
+        ensures { (rows : ℕ) (H : List Turn) → Keeps rows H self.now → result ≡ is_device number (bound pair H) }
     {
-        let device = self.opened.get(&pair).copied()?;
-        let place = self.places[device.index()]?;
-        if is_same(place, pair) {
-            return Some(device);
-        }
-        None
+        let Some(index) = number.checked_sub(1) else {
+            return false;
+        };
+        let Some(place) = self.places.get(index as usize) else {
+            return false;
+        };
+        is_there(pair, *place)
     }
 
-    /// The device opens the pair.
-    fn bind(&mut self, pair: Pair, device: DeviceId) -> Result<(), OutOfMemory>
-        requires { IsWithin (length self.old.places.items) device.0 }
-        ensures opened { OnOk result (Updates pair_cmp self.old.opened self.new.opened pair (Some device)) }
-        ensures places { OnOk result (self.new.places.items ≡ slice_set self.old.places.items (device.0 - 1) (Some pair)) }
-    {
-        self.opened.insert(pair, device)?;
-        self.places[device.index()] = Some(pair);
-        Ok(())
-    }
-
-    /// The pair is free.
-    fn free(&mut self, pair: Pair)
-        ensures opened { Updates pair_cmp self.old.opened self.new.opened pair None }
-        ensures places { self.new.places ≡ self.old.places }
-    {
-        let _ = self.opened.remove(&pair);
-    }
-
-    /// Notes an admitted message.
+    /// Notes an admitted message: its device opens the pair, or the pair is free, or nothing changes.
     pub fn note(&mut self, t: &Taken) -> Result<(), OutOfMemory>
-        requires { IsWithin (length self.old.places.items) t.now.device.0 }
+        requires { (rows : ℕ) × (H : List Turn) × Keeps rows H self.old × IsWithin rows t.now.device.0 }
         ensures { (rows : ℕ) (H : List Turn) → Keeps rows H self.old → OnOk result (Keeps rows (Admitted t.now ∷ H) self.new) }
     {
         let pair = (t.station, t.sent.enb);
         match t.sent.claim {
             Claim::Named(_) => {
-                self.bind(pair, t.device)?;
+                let opener = self.opened.insert(pair, t.device)?;
+                leave(&mut self.places, pair, opener);
+                self.places[t.device.index()] = Some(pair);
                 Ok(())
             }
             Claim::Numbered(_) | Claim::Noticed(_) => {
                 if is_release(&t.sent.body) {
-                    self.free(pair);
+                    let opener = self.opened.remove(&pair);
+                    leave(&mut self.places, pair, opener);
                     return Ok(());
                 }
                 Ok(())

@@ -3,7 +3,7 @@ use Rattle.entry_edge.proofs.SeenLaws.{admitted_seen, refused_seen}
 use Rattle.entry_edge.proofs.admission.take_line.Goals as goal
 
 pub note-requires : goal.note-requires
-note-requires c = rw c.requires.1.bindings.count (c.in-Ok.ensures.within c.requires.0 c.requires.1.bindings)
+note-requires c = (length c.args.table.now, c.requires.0, c.requires.1.bindings, c.in-Ok.ensures.within c.requires.0 c.requires.1.bindings)
 
 pub add_message-requires : goal.add_message-requires
 add_message-requires c = rw c.requires.1.lines.count (c.in-Ok.ensures.within c.requires.0 c.requires.1.bindings)
