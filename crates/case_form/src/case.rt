@@ -2,7 +2,7 @@
 ghost use Rattle.std.specs.Prelude.{◌≡◌, ◌≤◌, length, All};
 ghost use Rattle.device_types.specs.Event.{IsInForm};
 ghost use Rattle.subs_table.specs.Table.{IsTable};
-ghost use Rattle.case_form.specs.Said.{most_lines, HasStation};
+ghost use Rattle.case_form.specs.Said.{most_lines, HasStation, IsInLimits};
 
 use device_types::{Event, Octets};
 use echo_base::Reason;
@@ -81,6 +81,16 @@ impl Case {
         ensures most { length self.now.schedule ≤ most_lines }
     {
         &self.schedule
+    }
+
+    /// The subscribers, what base stations and the gateway sent, and the events, each by itself. It takes no memory.
+    pub fn into_parts(self) -> (SubsTable, Vec<TraceLine>, Vec<Event>)
+        ensures table { result.0 ≡ self.table }
+        ensures trace { result.1.items ≡ self.trace }
+        ensures schedule { result.2.items ≡ self.schedule }
+        ensures limits { IsInLimits self }
+    {
+        (self.table, self.trace, self.schedule)
     }
 }
 

@@ -23,11 +23,24 @@ impl<'a> Model for Words<'a> {
     ghost view = { λ w. words_left (option_copied w.left) };
 }
 
+/// Most words have at most so many octets, and these are looked at one by one.
+const NEAR: usize = 8;
+
+/// Where the first space stands among a few octets.
+fn near_space(octets: &[u8]) -> Option<usize>
+    ensures { result ≡ position (λ octet. octet == 32) octets.now }
+{
+    octets.iter().position(|octet| *octet == b' ')
+}
+
 /// Where the first space stands.
 fn first_space(octets: &[u8]) -> Option<usize>
     ensures { result ≡ position (λ octet. octet == 32) octets.now }
 {
-    memchr(b' ', octets)
+    match near_space(&octets[..octets.len().min(NEAR)]) {
+        Some(at) => Some(at),
+        None => memchr(b' ', octets),
+    }
 }
 
 impl<'a> Words<'a> {

@@ -58,26 +58,27 @@ fn settled_ends<F: Floor>(alloc: Global, floor: &mut F) -> Result<Finals, OutOfM
 /// The answers that a floor with so many replicas gives to the events of a case, and then, once it has settled, its ends.
 fn replay<F: Floor>(
     alloc: Global,
-    case: &Case,
+    case: Case,
     replicas: u32,
     floor: &mut F,
 ) -> Result<Octets, OutOfMemory>
     requires replicas { IsWithin 16 replicas }
     ensures exact { F.exact floor.new ≡ F.exact floor.old }
-    ensures run { let turns = history case.now.table case.now.trace in
-        OnOk result (IsRun case.now.table turns case.now.schedule replicas (F.exact floor.old) (F.setting floor.new) (F.given floor.new) (F.ends floor.new)) }
-    ensures text { let turns = history case.now.table case.now.trace in
-        IfOk result (λ text. text ≡ told_of case.now.table turns case.now.schedule (F.given floor.new) (F.ends floor.new)) }
-    ensures definition { let turns = history case.now.table case.now.trace in
-        IfOk result (λ text. F.exact floor.old ≡ true → text ≡ replay_of case.now.table turns case.now.schedule replicas) }
+    ensures run { let turns = history case.table case.trace in
+        OnOk result (IsRun case.table turns case.schedule replicas (F.exact floor.old) (F.setting floor.new) (F.given floor.new) (F.ends floor.new)) }
+    ensures text { let turns = history case.table case.trace in
+        IfOk result (λ text. text ≡ told_of case.table turns case.schedule (F.given floor.new) (F.ends floor.new)) }
+    ensures definition { let turns = history case.table case.trace in
+        IfOk result (λ text. F.exact floor.old ≡ true → text ≡ replay_of case.table turns case.schedule replicas) }
 {
-    let table = case.table();
-    let Admitted { book, refused } = admitted(alloc, case)?;
-    floor.open(alloc, table, &book, replicas)?;
+    let Admitted { book, refused } = admitted(alloc, &case)?;
+    let (table, trace, schedule) = case.into_parts();
+    drop(trace);
+    floor.open(alloc, &table, &book, replicas)?;
     drop(book);
-    let mut text = transcript(alloc, floor, case.schedule())?;
+    let mut text = transcript(alloc, floor, &schedule)?;
     let finals = settled_ends(alloc, floor)?;
-    put_final_text(alloc, &mut text, table, &refused, &finals)?;
+    put_final_text(alloc, &mut text, &table, &refused, &finals)?;
     Ok(Octets::from(text.into_bytes()))
 }
 
@@ -150,30 +151,30 @@ fn is_case_wanted(command: Command) -> bool
 fn text_of<F: Floor>(
     alloc: Global,
     command: Command,
-    case: &Case,
+    case: Case,
     floor: &mut F,
 ) -> Result<Octets, OutOfMemory>
     requires limits { IsInLimits command }
     requires not_itself { is_case_wanted command ≡ false }
     ensures exact { F.exact floor.new ≡ F.exact floor.old }
     ensures other { IsWithoutFloor command → floor.new ≡ floor.old }
-    ensures run { OnOk result (RunsOn command case.now.table case.now.trace case.now.schedule (F.exact floor.old) (F.setting floor.new) (F.given floor.new) (F.ends floor.new)) }
-    ensures text { IfOk result (λ text. text ≡ text_on command case.now.table case.now.trace case.now.schedule (F.given floor.new) (F.ends floor.new)) }
-    ensures definition { IfOk result (λ text. F.exact floor.old ≡ true → text ≡ text_of command case.now.table case.now.trace case.now.schedule) }
+    ensures run { OnOk result (RunsOn command case.table case.trace case.schedule (F.exact floor.old) (F.setting floor.new) (F.given floor.new) (F.ends floor.new)) }
+    ensures text { IfOk result (λ text. text ≡ text_on command case.table case.trace case.schedule (F.given floor.new) (F.ends floor.new)) }
+    ensures definition { IfOk result (λ text. F.exact floor.old ≡ true → text ≡ text_of command case.table case.trace case.schedule) }
 {
     match command {
-        Command::Plain => plain(alloc, case),
+        Command::Plain => plain(alloc, &case),
         Command::Replay { replicas } => replay(alloc, case, replicas, floor),
-        Command::Show { protocol } => show(alloc, case, protocol),
-        Command::S11 => s11(alloc, case),
-        Command::S6a => s6a(alloc, case),
-        Command::Make { .. } => summary(alloc, case, floor),
+        Command::Show { protocol } => show(alloc, &case, protocol),
+        Command::S11 => s11(alloc, &case),
+        Command::S6a => s6a(alloc, &case),
+        Command::Make { .. } => summary(alloc, &case, floor),
         Command::Epochs {
             device,
             number,
             events,
-        } => epochs(alloc, case, device, number, events),
-        Command::Crash { after } => crash(alloc, case, after),
+        } => epochs(alloc, &case, device, number, events),
+        Command::Crash { after } => crash(alloc, &case, after),
     }
 }
 
@@ -206,6 +207,6 @@ pub fn answer<F: Floor>(
         Err(CaseBad::OutOfMemory) => return Err(NoText::OutOfMemory),
     };
     drop(octets);
-    let text = text_of(alloc, command, &case, floor)?;
+    let text = text_of(alloc, command, case, floor)?;
     Ok(text)
 }
