@@ -1,8 +1,9 @@
 -- The calls of a lane, and what an offer leaves of how many were accepted.
-use Rattle.std.proofs.Common.{◌≡◌, ◌≤◌, ◌+◌, ◌-◌, ℕ, true, ⊎_elim, List, [], ◌∷◌, Some, get_or, length, refl, sym, ap, ◌∙◌, subst, arith, length-append}
+use Rattle.std.proofs.Common.{◌≡◌, ◌≤◌, ◌+◌, ◌-◌, ℕ, zero, suc, ◌<◌, ◌++◌, true, ⊎_elim, List, [], ◌∷◌, Some, drop, get_or, length, refl, sym, ap, ◌∙◌, subst, arith, length-append}
 use Rattle.std.specs.Prelude.{All, slice_get}
 use Rattle.std.proofs.lemmas.Bool.{cases_eq}
 use Rattle.std.proofs.lemmas.List.Elements.{All-append, All-get_or, filter_passes}
+use Rattle.std.proofs.lemmas.List.{drop_more}
 use Rattle.std.proofs.lemmas.Option.{get_or_from_slice_get, slice_get_within}
 use Rattle.device_types.specs.declared.effect.Effect.{Effect}
 use Rattle.device_types.specs.declared.effect.Effect.TheVariants as effects
@@ -13,12 +14,12 @@ use Rattle.device_types.specs.declared.input.Offer.TheVariants.{Accepted, Repeat
 use Rattle.device_types.specs.declared.step.Entry.{Entry}
 use Rattle.device_types.specs.Event.{IsCallLane}
 use Rattle.device_types.specs.Journal.{effects_of, effects_on, is_on}
+use Rattle.device_types.proofs.Journals.{get_before}
 use Rattle.pool_rows.specs.Seats.{IsCall, IsOffer}
 use Rattle.pool_ends.specs.Lanes.{HasWhole, told_count}
 use Rattle.session_store.specs.Charter.{CharterState, alone_in}
 use Rattle.session_store.specs.Rows.{Begins, IsDevice}
 use Rattle.store_shared.specs.Legal.{is_call, lane_of}
-use Rattle.store_shared.proofs.Items.{get_here}
 
 all_on : (l : Lane) (journal : List Entry) → All (λ x. is_on l x ≡ true) (effects_of l journal)
 all_on l [] = λ k d low. absurd (omega arith)
@@ -57,9 +58,29 @@ module _ (charter : CharterState) (d : ℕ) (l : Lane) (calls : List Effect) (is
         law = ap (λ (m : Lane). slice_get (effects_of m (alone_in charter d)) (k - 1)) on.1 ∙ (ap (λ xs. slice_get xs (k - 1)) (sym is) ∙ got);
       }
 
--- call k of a list, copied
-pub call_at : (calls : List Effect) (k : ℕ) (call item : Effect) → 1 ≤ k → k ≤ length calls → item ≡ get_or calls (k - 1) item → call ≡ item → slice_get calls (k - 1) ≡ Some call
-call_at calls k call item low most is same = get_here calls (k - 1) item (omega arith) is ∙ ap (λ e. Some e) (sym same)
+-- ---- an effect at its place on a lane of a journal
+
+get_behind : {X : Type 0} (xs ys : List X) (i : ℕ) → length xs ≤ i → slice_get (xs ++ ys) i ≡ slice_get ys (i - length xs)
+get_behind [] ys i le = ap (slice_get ys) (omega arith)
+get_behind (x ∷ xs) ys zero le = absurd (omega arith)
+get_behind (x ∷ xs) ys (suc i) le = get_behind xs ys i (omega arith) ∙ ap (slice_get ys) (omega arith)
+
+module _ (l : Lane) (journal : List Entry) (i : ℕ) (entry : Entry) (low : i < length journal) (is : entry ≡ get_or journal i entry) (effects : List Effect) (of : effects ≡ entry.step.effects) (left : ℕ) where
+  from_entry : effects_of l (drop i journal) ≡ effects_on l effects ++ effects_of l (drop (i + 1) journal)
+  from_entry =
+      ap (effects_of l) (drop_more journal i entry low ∙ ap (λ (e : Entry). e ∷ drop (i + 1) journal) (sym is))
+      ∙ ap (λ (es : List Effect). effects_on l es ++ effects_of l (drop (i + 1) journal)) (sym of)
+
+  -- it is among the effects of that entry, or behind them
+  pub found_here : left < length (effects_on l effects) → slice_get (effects_on l effects) left ≡ slice_get (effects_of l (drop i journal)) left
+  found_here few = sym (get_before (effects_on l effects) (effects_of l (drop (i + 1) journal)) left few) ∙ ap (λ (es : List Effect). slice_get es left) (sym from_entry)
+
+  pub found_behind : (count : ℕ) → count ≡ length (effects_on l effects) → count ≤ left → slice_get (effects_of l (drop (i + 1) journal)) (left - count) ≡ slice_get (effects_of l (drop i journal)) left
+  found_behind count all past =
+      ap (λ n. slice_get (effects_of l (drop (i + 1) journal)) (left - n)) all
+      ∙ (sym (get_behind (effects_on l effects) (effects_of l (drop (i + 1) journal)) left (omega (arith, all, past))) ∙ ap (λ (es : List Effect). slice_get es left) (sym from_entry))
+
+-- ---- what an offer leaves of how many were accepted
 
 -- behind an offer of a call of which all before it were accepted, it is
 pub counts : (charter : CharterState) (d k : ℕ) (call : Effect) (old new : List Effect) (o : Offer) → IsOffer charter d k call new o → Begins old new → k ≤ length old + 1 → k ≤ length new

@@ -1,9 +1,11 @@
 -- What closed peers and the finals come to, once all is whole.
-use Rattle.std.proofs.Common.{◌≡◌, ◌-◌, ◌+◌, ◌<◌, ℕ, zero, suc, cond, List, [], ◌∷◌, ◌++◌, Some, drop, length, map, refl, sym, ap, ◌∙◌, arith, append-nil, length-append, ◌≤◌}
+use Rattle.std.proofs.Common.{◌≡◌, ◌-◌, ◌+◌, ℕ, suc, cond, List, [], ◌∷◌, ◌++◌, Some, length, map, refl, sym, ap, ◌∙◌, arith, length-append, ◌≤◌}
 use Rattle.std.specs.List.{range_with_len}
 use Rattle.std.specs.Prelude.{slice_get}
 use Rattle.std.proofs.lemmas.List.{take_all}
+use Rattle.std.proofs.lemmas.List.FromFn.{map-range_with_len_more}
 use Rattle.std.proofs.lemmas.List.Sums.{sum_by-cons}
+use Rattle.std.proofs.lemmas.Option.{slice_get_within}
 use Rattle.device_machine.specs.Ends.{end_by, end_of, finals_of}
 use Rattle.device_types.specs.declared.effect.Effect.{Effect}
 use Rattle.device_types.specs.declared.event.Lane.{Lane}
@@ -19,7 +21,7 @@ use Rattle.device_types.proofs.Courses.{all_taken}
 use Rattle.session_store.specs.AloneLaw.{lawful_is_alone}
 use Rattle.session_store.specs.Charter.{CharterState, alone_in, follows_alone}
 use Rattle.session_store.specs.Law.{IsLawful}
-use Rattle.session_store.specs.Rows.{Begins}
+use Rattle.session_store.specs.Rows.{Begins, IsDevice}
 use Rattle.store_shared.specs.Legal.{IsAcceptedOf}
 use Rattle.pool_ends.specs.Ends.{end_in}
 use Rattle.pool_ends.specs.Lanes.{HasWhole}
@@ -59,32 +61,22 @@ ends_from f (row ∷ rows) (messages ∷ lines) a same is =
     let tail = ends_from f rows lines (a + 1) (omega arith) (λ i r m gr gm. let on : (a + 1) + i ≡ a + suc i = omega arith in ap f on ∙ is (suc i) r m gr gm) in
     ap (λ e. e ∷ map f (range_with_len (a + 1) (length rows))) head ∙ ap (λ l. end_of row messages ∷ l) tail
 
--- what holds of each device of a row
-pub same_within : {X : Type 0} (f g : ℕ → X) (a n : ℕ) → ((d : ℕ) → a ≤ d → d < a + n → f d ≡ g d) → map f (range_with_len a n) ≡ map g (range_with_len a n)
-same_within f g a zero same = refl
-same_within f g a (suc n) same = ap (λ x. x ∷ map f (range_with_len (a + 1) n)) (same a (omega arith) (omega arith)) ∙ ap (λ l. g a ∷ l) (same_within f g (a + 1) n (λ d low high. same d (omega arith) (omega arith)))
-
-drop_past : {X : Type 0} (xs : List X) (i : ℕ) → length xs ≤ i → drop i xs ≡ []
-drop_past [] zero le = refl
-drop_past [] (suc i) le = refl
-drop_past (x ∷ xs) zero le = absurd (omega arith)
-drop_past (x ∷ xs) (suc i) le = drop_past xs i (omega arith)
-
--- of all of a list, once nothing of it is left
-pub all_told : {X Y : Type 0} (f : X → Y) (told : List Y) (xs : List X) (i : ℕ) → told ++ map f (drop i xs) ≡ map f xs → length xs ≤ i → told ≡ map f xs
-all_told f told xs i is le = sym (append-nil told) ∙ (ap (λ l. told ++ map f l) (sym (drop_past xs i le)) ∙ is)
-
-map_twice : {X Y : Type 0} (f : ℕ → X) (g : X → Y) (is : List ℕ) → map g (map f is) ≡ map (λ i. g (f i)) is
-map_twice f g [] = refl
-map_twice f g (i ∷ is) = ap (λ l. g (f i) ∷ l) (map_twice f g is)
-
 -- the finals of whole journals are those of the machine alone
-pub finals_are : (charter : CharterState) (journals : List (List Entry)) → length charter.lines ≡ length charter.rows → journals ≡ map (alone_in charter) (range_with_len 1 (length charter.rows)) → map end_in journals ≡ finals_of charter.rows charter.lines
-finals_are charter journals each whole =
-    ap (map end_in) whole
-    ∙ (map_twice (alone_in charter) end_in (range_with_len 1 (length charter.rows))
-    ∙ ends_from (λ (d : ℕ). end_in (alone_in charter d)) charter.rows charter.lines 1 each
+pub finals_are : (charter : CharterState) (n : ℕ) (journal : ℕ → List Entry) → length charter.lines ≡ length charter.rows → n ≡ length charter.rows → ((d : ℕ) → IsDevice n d → journal d ≡ alone_in charter d) → map (λ d. end_in (journal d)) (range_with_len 1 n) ≡ finals_of charter.rows charter.lines
+finals_are charter n journal each same whole =
+    ap (λ m. map (λ d. end_in (journal d)) (range_with_len 1 m)) same
+    ∙ ends_from (λ (d : ℕ). end_in (journal d)) charter.rows charter.lines 1 each
     (λ i row messages gr gm.
     let place : 1 + i - 1 ≡ i = omega arith in
     let alone : alone_in charter (1 + i) ≡ alone_of row messages = rw (place, gr, gm) refl in
-    ap end_in alone ∙ end_alone row messages))
+    let low = slice_get_within charter.rows i row gr in
+    ap end_in (whole (1 + i) (omega arith, omega (arith, low, same)) ∙ alone) ∙ end_alone row messages)
+
+-- with the end of one device more
+pub end_more : (journal : ℕ → List Entry) (index : ℕ) (here : List Entry) (end : DeviceEnd) (old new : List DeviceEnd) → here ≡ journal (index + 1) → end ≡ end_in here → old ≡ map (λ d. end_in (journal d)) (range_with_len 1 index) → new ≡ old ++ end ∷ []
+    → new ≡ map (λ d. end_in (journal d)) (range_with_len 1 (index + 1))
+end_more journal index here end old new of is are more =
+    more
+    ∙ (ap (λ (es : List DeviceEnd). es ++ end ∷ []) are
+    ∙ (ap (λ (e : DeviceEnd). map (λ d. end_in (journal d)) (range_with_len 1 index) ++ e ∷ []) (is ∙ ap end_in of)
+    ∙ sym (map-range_with_len_more (λ d. end_in (journal d)) 1 index (index + 1) (omega arith))))

@@ -1,6 +1,5 @@
 //! Rows and peers are closed, by seats that speak for all.
-ghost use Rattle.std.specs.Prelude.{◌≡◌, ◌<◌, ℕ, length, map, IfOk};
-ghost use Rattle.std.specs.List.{range_with_len};
+ghost use Rattle.std.specs.Prelude.{◌≡◌, ◌<◌, ℕ, length, IfOk};
 ghost use Rattle.device_machine.specs.Ends.{finals_of};
 ghost use Rattle.device_types.specs.declared.event.Lane.{Lane};
 ghost use Rattle.device_types.specs.Event.{IsCallLane};
@@ -11,7 +10,7 @@ ghost use Rattle.pool_ends.specs.Ends.{IsWhole};
 
 use crate::ends::finals;
 use crate::lanes::bring_lanes;
-use device_types::{Entry, Finals, ListOf};
+use device_types::Finals;
 use pool_rows::{SharedCalls, SharedRows};
 use std::alloc::{AllocError, Global};
 use std::sync::Wait;
@@ -27,25 +26,26 @@ pub struct Ended<S, Q> {
     pub peers: Q,
 }
 
-/// Brings the peers' lanes whole, and closes the peers, by a seat that speaks for all. The whole journals are given.
-fn close_peers<P: SharedCalls + Drop, R: Wait>(
+/// Brings the peers' lanes whole, by the journals in closed rows, which are whole, and closes the peers, by a seat that speaks for
+/// all.
+fn close_peers<T: SharedRows, P: SharedCalls + Drop, R: Wait>(
     rt: &R,
-    alloc: Global,
     devices: u32,
+    closed: &T::Closed,
     peers: P,
     mut seat: P::Seat,
-    journals: &[ListOf<Entry>],
 ) -> Result<P::Closed, AllocError>
 where
     P::Seat: Drop,
     requires devices { devices ≡ length (P.charter peers).rows }
-    requires journals { journals.now ≡ map (alone_in (P.charter peers)) (range_with_len 1 devices) }
+    requires closed { T.closes (P.charter peers) closed.now }
+    requires journals { (d : ℕ) → IsDevice devices d → T.journal closed.now d ≡ alone_in (P.charter peers) d }
     requires seat { P.is_seat peers seat }
     requires all { (n : ℕ) → n < P.count peers → P.speaks seat n }
     ensures peers { IfOk result (P.closes (P.charter peers)) }
     ensures lanes { IfOk result (λ closed. (d : ℕ) (lane : Lane) → IsDevice devices d → IsCallLane lane → P.accepted closed d lane ≡ effects_of lane (alone_in (P.charter peers) d)) }
 {
-    bring_lanes(rt, alloc, &peers, &mut seat, devices, journals)?;
+    bring_lanes::<T, P, R>(rt, &peers, &mut seat, devices, closed)?;
     peers.close(seat)
 }
 
@@ -78,9 +78,8 @@ where
     ensures lanes { IfOk result (λ ended. (d : ℕ) (lane : Lane) → IsDevice devices d → IsCallLane lane → P.accepted ended.peers d lane ≡ effects_of lane (alone_in (T.charter rows) d)) }
 {
     let store = rows.close(row_seat)?;
-    let journals = T::journals(alloc, &store, devices)?;
-    let finals = finals(alloc, &journals)?;
-    let peers = close_peers(rt, alloc, devices, peers, peer_seat, &journals)?;
+    let finals = finals::<T>(alloc, &store, devices)?;
+    let peers = close_peers::<T, P, R>(rt, devices, &store, peers, peer_seat)?;
     Ok(Ended {
         finals,
         store,

@@ -1,69 +1,50 @@
 //! What became of the devices.
-ghost use Rattle.std.specs.Prelude.{◌≡◌, length, map, IfOk};
-ghost use Rattle.std.specs.List.{filter_map, range_with_len};
-ghost use Rattle.device_machine.specs.Ends.{down_in, finals_of, gateway_in, subscriber_in};
-ghost use Rattle.device_types.specs.Journal.{session_of, taken_count};
-ghost use Rattle.session_store.specs.Charter.{CharterState, alone_in};
-ghost use Rattle.pool_ends.specs.Ends.{end_in};
+ghost use Rattle.std.specs.Prelude.{◌≡◌, ◌+◌, ◌<◌, ◌^◌, ℕ, fold, length, map, IfOk, OnOk};
+ghost use Rattle.std.specs.List.{range_with_len};
+ghost use Rattle.device_machine.specs.Ends.{finals_of};
+ghost use Rattle.device_types.specs.Journal.{session_of};
+ghost use Rattle.session_store.specs.Charter.{CharterState, alone_in, follows_alone};
+ghost use Rattle.session_store.specs.Law.{IsLawful};
+ghost use Rattle.session_store.specs.Rows.{IsDevice};
+ghost use Rattle.pool_ends.specs.Ends.{end_in, with_effect, with_entry};
 
-use crate::lanes::effects_of;
 use device_types::{
-    DeviceEnd, Downs, Effect, Entry, Finals, GwCalls, Input, Lane, ListOf, Session, SubCalls,
-    TryCopy,
+    DeviceEnd, DeviceId, Downs, Effect, Entry, Finals, GwCalls, Input, Session, SubCalls, TryCopy,
 };
+use pool_rows::SharedRows;
 use std::alloc::{AllocError, Global};
 
-/// How many messages were taken.
-fn taken_count(journal: &[Entry]) -> u64
-    ensures { result ≡ taken_count journal.now }
+/// Puts a copy of an effect at the end of its lane.
+fn put_effect(end: &mut DeviceEnd, effect: &Effect) -> Result<(), AllocError>
+    ensures { OnOk result (end.new ≡ with_effect end.old effect.now) }
 {
-    let mut count = 0;
-    for entry in journal {
-        match entry.input {
-            Input::Message(_) => count += 1,
-            Input::Answer { .. } => {}
-        }
+    match effect {
+        Effect::Down(down) => end.downs.push(down.copy()?),
+        Effect::Gateway(call) => end.gateway.push(call.copy()?),
+        Effect::Subscriber(call) => end.subscriber.push(call.copy()?),
     }
-    count
 }
 
-/// The messages to the device among effects.
-fn downs_in(alloc: Global, effects: ListOf<Effect>) -> Result<Downs, AllocError>
-    ensures { IfOk result (λ downs. downs ≡ filter_map down_in effects) }
+/// Puts copies of effects at the ends of their lanes, in order.
+fn put_effects(end: &mut DeviceEnd, effects: &[Effect]) -> Result<(), AllocError>
+    ensures { OnOk result (end.new ≡ fold with_effect end.old effects.now) }
 {
-    let mut downs = Downs::new(alloc);
-    for effect in effects.into_items() {
-        if let Effect::Down(down) = effect {
-            downs.push(down)?;
-        }
+    for effect in effects {
+        put_effect(end, effect)?;
     }
-    Ok(downs)
+    Ok(())
 }
 
-/// The calls of the serving gateway among effects.
-fn gateway_in(alloc: Global, effects: ListOf<Effect>) -> Result<GwCalls, AllocError>
-    ensures { IfOk result (λ calls. calls ≡ filter_map gateway_in effects) }
+/// Counts the message of an entry, if it is one of a message, and puts copies of its effects at the ends of their lanes.
+fn put_entry(end: &mut DeviceEnd, entry: &Entry) -> Result<(), AllocError>
+    requires { end.old.messages + 1 < 2 ^ 64 }
+    ensures { OnOk result (end.new ≡ with_entry end.old entry.now) }
 {
-    let mut calls = GwCalls::new(alloc);
-    for effect in effects.into_items() {
-        if let Effect::Gateway(call) = effect {
-            calls.push(call)?;
-        }
+    match entry.input {
+        Input::Message(_) => end.messages += 1,
+        Input::Answer { .. } => {}
     }
-    Ok(calls)
-}
-
-/// The calls of the subscriber server among effects.
-fn subscriber_in(alloc: Global, effects: ListOf<Effect>) -> Result<SubCalls, AllocError>
-    ensures { IfOk result (λ calls. calls ≡ filter_map subscriber_in effects) }
-{
-    let mut calls = SubCalls::new(alloc);
-    for effect in effects.into_items() {
-        if let Effect::Subscriber(call) = effect {
-            calls.push(call)?;
-        }
-    }
-    Ok(calls)
+    put_effects(end, entry.step.effects.items())
 }
 
 /// The session behind a journal.
@@ -76,29 +57,40 @@ fn session_of(alloc: Global, journal: &[Entry]) -> Result<Session, AllocError>
     }
 }
 
-/// What became of a device by its journal.
+/// What became of a device by its journal, over which it goes once.
 fn end_of(alloc: Global, journal: &[Entry]) -> Result<DeviceEnd, AllocError>
     ensures { IfOk result (λ end. end ≡ end_in journal.now) }
 {
-    Ok(DeviceEnd {
-        messages: taken_count(journal),
+    let mut end = DeviceEnd {
+        messages: 0,
         steps: journal.len() as u64,
-        downs: downs_in(alloc, effects_of(alloc, journal, Lane::Down)?)?,
-        gateway: gateway_in(alloc, effects_of(alloc, journal, Lane::Gateway)?)?,
-        subscriber: subscriber_in(alloc, effects_of(alloc, journal, Lane::Subscriber)?)?,
+        downs: Downs::new(alloc),
+        gateway: GwCalls::new(alloc),
+        subscriber: SubCalls::new(alloc),
         session: session_of(alloc, journal)?,
-    })
+    };
+    for entry in journal {
+        put_entry(&mut end, entry)?;
+    }
+    Ok(end)
 }
 
-/// What became of each device by its journal, in the same order: where each journal is whole, what the machine alone comes to. It
-/// fails for want of memory alone.
-pub fn finals(alloc: Global, journals: &[ListOf<Entry>]) -> Result<Finals, AllocError>
-    ensures ends { IfOk result (λ finals. finals ≡ map end_in journals.now) }
-    ensures whole { IfOk result (λ finals. (charter : CharterState) → length charter.lines ≡ length charter.rows → journals.now ≡ map (alone_in charter) (range_with_len 1 (length charter.rows)) → finals ≡ finals_of charter.rows charter.lines) }
+/// What became of each device by its journal in closed rows, device 1 first: where each journal is whole, what the machine alone
+/// comes to. Each journal is lawful. It fails for want of memory alone.
+pub fn finals<T: SharedRows>(
+    alloc: Global,
+    closed: &T::Closed,
+    devices: u32,
+) -> Result<Finals, AllocError>
+    requires { (charter : CharterState) × T.closes charter closed.now × (devices ≡ length charter.rows) }
+    ensures ends { IfOk result (λ finals. finals ≡ map (λ d. end_in (T.journal closed.now d)) (range_with_len 1 devices)) }
+    ensures lawful { OnOk result ((charter : CharterState) (d : ℕ) → T.closes charter closed.now → devices ≡ length charter.rows → IsDevice devices d → IsLawful (follows_alone charter d) (T.journal closed.now d)) }
+    ensures whole { IfOk result (λ finals. (charter : CharterState) → length charter.lines ≡ length charter.rows → devices ≡ length charter.rows → ((d : ℕ) → IsDevice devices d → T.journal closed.now d ≡ alone_in charter d) → finals ≡ finals_of charter.rows charter.lines) }
 {
     let mut finals = Finals::new(alloc);
-    for journal in journals {
-        finals.push(end_of(alloc, journal.items())?)?;
+    for index in 0..devices {
+        let journal = T::journal(closed, DeviceId(index + 1));
+        finals.push(end_of(alloc, journal)?)?;
     }
     Ok(finals)
 }

@@ -1,10 +1,11 @@
 -- What a charter has for each of its devices.
-use Rattle.std.proofs.Common.{◌≡◌, ◌≤◌, ◌-◌, ◌*◌, ℕ, List, length, Some, refl, sym, ap, ◌∙◌, arith}
+use Rattle.std.proofs.Common.{◌≡◌, ◌≤◌, ◌-◌, ◌*◌, ℕ, List, length, Some, refl, sym, subst, arith}
 use Rattle.std.specs.Prelude.{slice_get}
 use Rattle.std.proofs.lemmas.Option.{slice_get_within}
 use Rattle.device_types.specs.declared.effect.Effect.{Effect}
 use Rattle.device_types.specs.declared.event.Lane.{Lane}
 use Rattle.device_types.specs.declared.message.Message.{Message}
+use Rattle.device_types.specs.declared.step.Entry.{Entry}
 use Rattle.device_types.specs.declared.subscriber.Subscriber.{Subscriber}
 use Rattle.device_types.specs.Alone.{alone_of}
 use Rattle.device_types.specs.Journal.{effects_of, pushed_count}
@@ -38,11 +39,16 @@ few_on : (row : Subscriber) (ms : List Message) (l : Lane) → pushed_count l (a
 unfolding alone_of
 few_on row ms l = few_pushed row ms l (3 * length ms)
 
+-- a lane has few effects
+pub lane_few : (charter : CharterState) (d : ℕ) (l : Lane) → HasLine charter d → pushed_count l (alone_in charter d) ≤ 1200000
+lane_few charter d l line =
+    let few = few_on line.row line.messages l in
+    let short = line.short in
+    subst (λ (j : List Entry). pushed_count l j ≤ 1200000) (sym (alone_is charter d line)) (omega arith)
+
 -- an effect of a lane has a number that a peer takes
 pub number_low : (charter : CharterState) (d k : ℕ) (l : Lane) (effect : Effect) → HasLine charter d → slice_get (effects_of l (alone_in charter d)) (k - 1) ≡ Some effect → k ≤ 268435455
 number_low charter d k l effect line found =
-    let few = few_on line.row line.messages l in
-    let short = line.short in
-    let at : slice_get (effects_of l (alone_of line.row line.messages)) (k - 1) ≡ Some effect = ap (λ (j : List _). slice_get (effects_of l j) (k - 1)) (sym (alone_is charter d line)) ∙ found in
-    let within = slice_get_within (effects_of l (alone_of line.row line.messages)) (k - 1) effect at in
+    let few = lane_few charter d l line in
+    let within = slice_get_within (effects_of l (alone_in charter d)) (k - 1) effect found in
     omega arith

@@ -16,7 +16,7 @@ use Rattle.session_store.specs.declared.row_law.RowLaw as law
 use Rattle.session_store.specs.Charter.{CharterState}
 use Rattle.session_store.specs.Law.{IsLawful}
 use Rattle.session_store.specs.Rows.{Begins, IsDevice}
-use Rattle.session_store.specs.Shards.{shard_count, shard_of}
+use Rattle.session_store.specs.Shards.{IsHere, shard_count, shard_of}
 use Rattle.session_store.proofs.Shards.{shard_within}
 use Rattle.store_shared.specs.declared.basis.PeerBasis.{PeerBasis}
 use Rattle.store_shared.specs.declared.basis.ShardBasis.{ShardBasis}
@@ -25,7 +25,7 @@ use Rattle.store_shared.specs.declared.store_shard.StoreShard.{StoreShard}
 use Rattle.store_shared.specs.declared.front_row.FrontsSeat.{FrontsSeat}
 use Rattle.store_shared.specs.declared.turn.Turn.{Turn}
 use Rattle.store_shared.specs.FrontRow.{Along, IsFreshSeat, SpeaksOnAll, seen_at}
-use Rattle.store_shared.specs.Legal.{AreAcceptedIn, AreLawfulIn, IsAcceptedOf, accepted_in, journal_in}
+use Rattle.store_shared.specs.Legal.{AreAcceptedIn, IsAcceptedOf, accepted_in, journal_in}
 use Rattle.store_shared.specs.PeerBases.{peer_bases, peer_basis, peer_basis_at, peer_turns}
 use Rattle.store_shared.specs.StoreBases.{basis_at, store_basis, store_turns}
 use Rattle.store_shared.proofs.Columns.{got_map, placed_from, speaks_own}
@@ -59,7 +59,7 @@ got (x ∷ xs) zero lt = (x, refl)
 got (x ∷ xs) (suc k) lt = got xs k (omega arith)
 
 -- what was read of a list at the place of a device
-pub item_at : {X : Type 0} (xs : List X) (at k : ℕ) (x : X) → at ≡ k → k < length xs → x ≡ get_or xs at x → slice_get xs k ≡ Some x
+item_at : {X : Type 0} (xs : List X) (at k : ℕ) (x : X) → at ≡ k → k < length xs → x ≡ get_or xs at x → slice_get xs k ≡ Some x
 item_at xs at k x e lt is = get_here xs k x lt (is ∙ ap (λ n. get_or xs n x) e)
 
 pub every : {X : Type 0} (P : X → Type 0) (xs : List X) → ((x : X) → P x) → All P xs
@@ -68,21 +68,32 @@ every P xs all k d lt = all (get_or xs k d)
 -- ---- rows and calls
 
 module _ {L : Type 0} {h : law.Ghosts L} (charter : CharterState) (shards : List (StoreShard L h)) (d : ℕ) where
-  pub shard_is_there : AreClosedRows charter shards → shard_of d < length shards
+  shard_is_there : AreClosedRows charter shards → shard_of d < length shards
   shard_is_there closed = subst (λ (n : ℕ). shard_of d < n) (sym (closed_count store_basis (basis_at (length charter.rows) charter) shards closed.bases)) (shard_within d)
+
+  pub shard_read : (at : ℕ) (y : StoreShard L h) → AreClosedRows charter shards → at ≡ shard_of d → y ≡ get_or shards at y → slice_get shards (shard_of d) ≡ Some y
+  shard_read at y closed same is = item_at shards at (shard_of d) y same (shard_is_there closed) is
 
   module _ (y : StoreShard L h) (there : slice_get shards (shard_of d) ≡ Some y) where
     turns_there : turns_on store_turns shards (shard_of d) ≡ store_turns y
     turns_there = ap (λ o. option_map_or store_turns o []) there
 
-    pub journal_there : (turns : List Turn) → turns ≡ store_turns y → journal_in d turns ≡ closed_journal shards d
-    journal_there turns is = ap (journal_in d) (is ∙ sym turns_there)
+    basis_there : AreClosedRows charter shards → store_basis y ≡ basis_at (length charter.rows) charter (shard_of d)
+    basis_there closed = closed_basis store_basis (basis_at (length charter.rows) charter) shards (shard_of d) y closed.bases (shard_within d) there
 
-    pub lawful_there : (follows : CharterState → ℕ → List Entry → Entry → Type 0) → AreLawfulIn (follows y.shard.charter) y.shard.devices (store_turns y) → AreClosedRows charter shards → IsDevice (length charter.rows) d → IsLawful (follows charter d) (closed_journal shards d)
-    lawful_there follows lawful closed within =
-        let b = closed_basis store_basis (basis_at (length charter.rows) charter) shards (shard_of d) y closed.bases (shard_within d) there in
-        let at = subst (λ (c : ShardBasis). AreLawfulIn (follows c.charter) c.devices (store_turns y)) b lawful in
-        subst (λ (t : List Turn). IsLawful (follows charter d) (journal_in d t)) (sym turns_there) (at d within)
+    -- the device lies in that shard
+    pub here_there : AreClosedRows charter shards → IsDevice (length charter.rows) d → IsHere y.shard d
+    here_there closed within =
+        let b = basis_there closed in
+        (subst (λ (c : ShardBasis). IsDevice c.devices d) (sym b) within, sym (ap (λ (c : ShardBasis). c.shard) b))
+
+    pub journal_there : journal_in d (store_turns y) ≡ closed_journal shards d
+    journal_there = ap (journal_in d) (sym turns_there)
+
+    pub lawful_there : (follows : CharterState → ℕ → List Entry → Entry → Type 0) → IsLawful (follows y.shard.charter d) (journal_in d (store_turns y)) → AreClosedRows charter shards → IsLawful (follows charter d) (closed_journal shards d)
+    lawful_there follows lawful closed =
+        subst (IsLawful (follows charter d)) journal_there
+        (subst (λ (c : ShardBasis). IsLawful (follows c.charter d) (journal_in d (store_turns y))) (basis_there closed) lawful)
 
 -- what closed peers have accepted begins its lane of Alone
 pub calls_lawful : (charter : CharterState) (shards : List PeerShard) → map peer_basis shards ≡ peer_bases charter → (d : ℕ) (l : Lane) → IsDevice (length charter.rows) d → IsAcceptedOf charter d l (closed_calls shards d l)

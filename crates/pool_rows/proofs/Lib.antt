@@ -3,5 +3,4 @@ pub mod Closed
 pub mod Known
 pub mod Offers
 pub mod Seats
-pub mod Turns
 mod Worked

@@ -1,4 +1,3 @@
-pub mod Journals
 pub mod Laws
 pub mod Seats
 pub mod Shared

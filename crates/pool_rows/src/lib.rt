@@ -2,7 +2,6 @@
 #![tactic(auto)]
 
 mod calls;
-mod journals;
 mod rows;
 mod shared_peers;
 mod shared_store;

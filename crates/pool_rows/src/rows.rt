@@ -1,7 +1,6 @@
 //! Rows that threads share.
-ghost use Rattle.std.specs.Prelude.{◌≡◌, ◌≤◌, ◌<◌, ℕ, List, length, map, take, slice_get, All, Some, IfErr, IfOk, OnOk};
+ghost use Rattle.std.specs.Prelude.{◌≡◌, ◌≤◌, ◌<◌, ℕ, List, length, take, slice_get, All, Some, IfErr, IfOk, OnOk};
 ghost use Rattle.std.specs.Arc.{arc_value};
-ghost use Rattle.std.specs.List.{range_with_len};
 ghost use Rattle.device_types.specs.declared.effect.Effect.{Effect};
 ghost use Rattle.device_types.specs.declared.step.Entry.{Entry};
 ghost use Rattle.device_types.specs.Journal.{pushed_count};
@@ -12,7 +11,7 @@ ghost use Rattle.session_store.specs.Rows.{Begins, IsDevice, IsKnownAfter, openi
 ghost use Rattle.session_store.specs.Seen.{IsAsked, peeked_of, seen_of};
 ghost use Rattle.pool_rows.specs.Seats.{GoesOn, KnowsRows, Settles};
 
-use device_types::{DeviceId, Effect, Entry, Lane, ListOf, NoRoom};
+use device_types::{DeviceId, Effect, Entry, Lane, NoRoom};
 use effect_outbox::Settled;
 use session_row::Commit;
 use session_store::{Asked, Charter, EchoLaw, Peeked, Seen};
@@ -170,14 +169,9 @@ pub trait SharedRows: Sized {
         ensures closed { IfOk result (closes (charter self)) }
         ensures seen { IfOk result (λ closed. (d : ℕ) → Begins (known seat d).journal (journal closed d)) };
 
-    /// The journals of the devices in closed rows, copied in one pass, device 1 first; each is lawful. It fails for want of memory
-    /// alone.
-    fn journals(
-        alloc: Global,
-        closed: &Self::Closed,
-        devices: u32,
-    ) -> Result<Vec<ListOf<Entry>>, AllocError>
-        requires closed { (charter : CharterState) × closes charter closed.now × (devices ≡ length charter.rows) }
-        ensures ok { IfOk result (λ journals. journals.items ≡ map (journal closed.now) (range_with_len 1 devices)) }
-        ensures lawful { OnOk result ((charter : CharterState) (d : ℕ) → closes charter closed.now → IsDevice (length charter.rows) d → IsLawful (follows_alone charter d) (journal closed.now d)) };
+    /// The journal of a device in closed rows, lent; it is lawful. It takes no memory.
+    fn journal(closed: &Self::Closed, d: DeviceId) -> &[Entry]
+        requires closed { (charter : CharterState) × closes charter closed.now × IsDevice (length charter.rows) d.0 }
+        ensures value { result.now ≡ journal closed.now d.0 }
+        ensures lawful { (charter : CharterState) → closes charter closed.now → IsDevice (length charter.rows) d.0 → IsLawful (follows_alone charter d.0) (journal closed.now d.0) };
 }

@@ -5,12 +5,11 @@ ghost use Rattle.store_shared.specs.FrontRow.{AreSeatsOf, SpeaksOnAll};
 ghost use Rattle.store_shared.specs.StoreBases.{store_basis};
 ghost use Rattle.pool_rows.specs.Shared.{AreClosedRows, RowComes, closed_journal, row_known};
 
-use crate::journals::committed_entries;
 use crate::rows::SharedRows;
-use device_types::{DeviceId, Effect, Entry, Lane, ListOf, NoRoom};
+use device_types::{DeviceId, Effect, Entry, Lane, NoRoom};
 use effect_outbox::Settled;
 use session_row::Commit;
-use session_store::{Asked, Charter, EchoLaw, Peeked, Seen};
+use session_store::{Asked, Charter, EchoLaw, Peeked, Seen, shard_of};
 use std::alloc::{AllocError, Global};
 use std::sync::Wait;
 use store_shared::{SharedStore, StoreSeat, StoreShard};
@@ -115,11 +114,7 @@ impl SharedRows for SharedStore<EchoLaw> {
         }
     }
 
-    fn journals(
-        alloc: Global,
-        closed: &Vec<StoreShard<EchoLaw>>,
-        devices: u32,
-    ) -> Result<Vec<ListOf<Entry>>, AllocError> {
-        committed_entries(alloc, closed, devices)
+    fn journal(closed: &Vec<StoreShard<EchoLaw>>, d: DeviceId) -> &[Entry] {
+        closed[shard_of(d) as usize].journal(d)
     }
 }

@@ -2,6 +2,7 @@
 ghost use Rattle.std.specs.Prelude.{◌≡◌, ◌≤◌, ◌∷◌, ◌++◌, [], length, take, IfOk, IfErr, OnOk, OnErr};
 ghost use Rattle.device_types.specs.Journal.{pushed_count};
 ghost use Rattle.effect_outbox.specs.Outbox.{number_on, settled_by};
+ghost use Rattle.session_store.specs.Law.{IsLawful};
 ghost use Rattle.session_store.specs.Rows.{unsettled_effect};
 ghost use Rattle.session_store.specs.Seen.{IsAsked, seen_of, peeked_of};
 ghost use Rattle.session_store.specs.Shards.{IsHere};
@@ -74,6 +75,17 @@ impl<L: RowLaw> StoreShard<L> {
         self.recall();
         let turns: &[Turn] = &self.turns;
         turns
+    }
+
+    /// The journal of a device of the shard, lent: the entries that the turns have committed of it, in order, which are lawful. It
+    /// takes no memory.
+    pub fn journal(&self, d: DeviceId) -> &[Entry]
+        requires { IsHere self.now.shard d.0 }
+        ensures journal { result.now ≡ journal_in d.0 self.now.turns.items }
+        ensures lawful { IsLawful (L.follows self.now.shard.charter d.0) (journal_in d.0 self.now.turns.items) }
+    {
+        self.recall();
+        self.shard.row(d).entries()
     }
 
     /// What holds of every shard: the journals of its history are lawful. It does nothing at run time.

@@ -1,6 +1,6 @@
 use Rattle.std.proofs.Common.{◌≤◌, length}
 use Rattle.pool_rows.specs.Seats.{GoesOn, KnowsCalls}
-use Rattle.pool_ends.proofs.lanes.bring_calls.Given as goal
+use Rattle.pool_ends.proofs.lanes.bring_lane.Given as goal
 
 abbrev pub invariant-loop-k : goal.invariant-loop-k
 invariant-loop-k g l = record {
