@@ -21,7 +21,7 @@ use bearer_proc::{
 };
 use device_types::{
     Accept, Answer, Bearer, Body, CauseCode, Effect, Effects, GwCall, Input, Key, Message, NasOut,
-    Octets, Session, Stage, Step, SubCall, Subscriber, TryCopy,
+    Octets, Session, ShortOctets, Stage, Step, SubCall, Subscriber, TryCopy,
 };
 use std::alloc::AllocError;
 
@@ -313,8 +313,8 @@ fn vectors(
     if !session.is_at(Stage::AwaitVectors) {
         return Ok(None);
     }
-    session.res = res.copy()?;
-    session.key = Key::new(key.copy()?);
+    session.res = ShortOctets::from_slice(session.alloc(), res.octets())?;
+    session.key = Key::new(session.alloc(), key.octets())?;
     session.stage = Stage::Authenticating;
     let request = NasOut::AuthRequest {
         rand: rand.copy()?,

@@ -5,7 +5,7 @@ ghost use Rattle.device_types.specs.Line.{IsLine};
 use device_types::{
     Accept, Answer, Areas, Bearer, Body, Book, CauseCode, DeviceEnd, Down, Effect, Entry, GwCall,
     Input, Key, Lane, Link, ListOf, Message, Messages, NasOut, Octets, Offer, Reply, Second,
-    Session, Side, Stage, Step, SubCall, Subscriber, TryCopy,
+    Session, ShortOctets, Side, Stage, Step, SubCall, Subscriber, TryCopy,
 };
 use std::alloc::{AllocError, Global};
 use std::fmt::{Debug, Write};
@@ -14,8 +14,8 @@ use std::test::Fail;
 const COPIES: &str = "\
 ListOf { items: [7, 0, 255] }
 ListOf { items: [9, 65535] }
-Key { octets: ListOf { items: [] } }
-Key { octets: ListOf { items: [17] } }
+Key { shared: None }
+Key { shared: Some(ShortOctets { items: [17] }) }
 CauseCode { group: 2, extended: false, index: 3 }
 Subscriber { number: 1, imsi: 208930000000001, tmsi: 2, rand: ListOf { items: [1] }, autn: ListOf { items: [2] }, res: ListOf { items: [3] }, \
 key: ListOf { items: [4] }, apn: ListOf { items: [97] }, ip: 5, sgw: 6, teid: 7, ambr_dl: 8, ambr_ul: 9, forbidden: ListOf { items: [10] }, apn2: Some(ListOf { items: [98] }), ip2: Some(11) }
@@ -30,34 +30,34 @@ Accepted(Created(4, 5, 6))
 Repeat(Modified)
 Ahead(7)
 Nas { station: 1, enb: 2, nas: SecurityCommand { eea: 224, eia: 192 } }
-Setup { station: 1, enb: 2, dl: 3, ul: 4, sgw: 5, teid: 6, eea: 7, eia: 8, key: Key { octets: ListOf { items: [17] } }, accept: Yes { plmn: 9, tac: 10, pti: 11, ip: 12 } }
+Setup { station: 1, enb: 2, dl: 3, ul: 4, sgw: 5, teid: 6, eea: 7, eia: 8, key: Key { shared: Some(ShortOctets { items: [17] }) }, accept: Yes { plmn: 9, tac: 10, pti: 11, ip: 12 } }
 Release { station: 1, enb: 2, cause: CauseCode { group: 2, extended: false, index: 1 } }
 Page { plmn: 1, tac: 2 }
 Modify(1, 2)
 Purge
-Session { stage: Detached, link: Off, plmn: 0, tac: 0, eea: 0, eia: 0, pti: 0, res: ListOf { items: [] }, key: Key { octets: ListOf { items: [] } }, \
+Session { stage: Detached, link: Off, plmn: 0, tac: 0, eea: 0, eia: 0, pti: 0, res: ShortOctets { items: [] }, key: Key { shared: None }, \
 dl: 0, ul: 0, sgw: 0, teid: 0, ip: 0, side_addr: 0, side_teid: 0, bearer: None, registered: false, off: false, \
 cause: CauseCode { group: 0, extended: false, index: 0 }, radio: 0, \
 second: None, pti2: 0, sgw2: 0, teid2: 0, ip2: 0, side2_addr: 0, side2_teid: 0 }
-Session { stage: Connected, link: On { station: 1, enb: 2 }, plmn: 3, tac: 4, eea: 5, eia: 6, pti: 7, res: ListOf { items: [8] }, \
-key: Key { octets: ListOf { items: [9] } }, dl: 10, ul: 11, sgw: 12, teid: 13, ip: 14, side_addr: 15, side_teid: 16, bearer: Active, \
+Session { stage: Connected, link: On { station: 1, enb: 2 }, plmn: 3, tac: 4, eea: 5, eia: 6, pti: 7, res: ShortOctets { items: [8] }, \
+key: Key { shared: Some(ShortOctets { items: [9] }) }, dl: 10, ul: 11, sgw: 12, teid: 13, ip: 14, side_addr: 15, side_teid: 16, bearer: Active, \
 registered: true, off: true, cause: CauseCode { group: 1, extended: false, index: 1 }, radio: 17, \
 second: Radio, pti2: 18, sgw2: 19, teid2: 20, ip2: 21, side2_addr: 22, side2_teid: 23 }
 Reply { number: 1, version: 2, downs: ListOf { items: [Gateway(Create)] } }
-Step { session: Session { stage: Detached, link: Off, plmn: 0, tac: 0, eea: 0, eia: 0, pti: 0, res: ListOf { items: [] }, key: Key { octets: ListOf { items: [] } }, \
+Step { session: Session { stage: Detached, link: Off, plmn: 0, tac: 0, eea: 0, eia: 0, pti: 0, res: ShortOctets { items: [] }, key: Key { shared: None }, \
 dl: 0, ul: 0, sgw: 0, teid: 0, ip: 0, side_addr: 0, side_teid: 0, bearer: None, registered: false, off: false, \
 cause: CauseCode { group: 0, extended: false, index: 0 }, radio: 0, \
 second: None, pti2: 0, sgw2: 0, teid2: 0, ip2: 0, side2_addr: 0, side2_teid: 0 }, effects: ListOf { items: [Gateway(Create)] } }
-Entry { input: Message(Message { number: 4, station: 2, enb: 3, body: Service }), step: Step { session: Session { stage: Detached, link: Off, plmn: 0, tac: 0, eea: 0, eia: 0, pti: 0, res: ListOf { items: [] }, key: Key { octets: ListOf { items: [] } }, \
+Entry { input: Message(Message { number: 4, station: 2, enb: 3, body: Service }), step: Step { session: Session { stage: Detached, link: Off, plmn: 0, tac: 0, eea: 0, eia: 0, pti: 0, res: ShortOctets { items: [] }, key: Key { shared: None }, \
 dl: 0, ul: 0, sgw: 0, teid: 0, ip: 0, side_addr: 0, side_teid: 0, bearer: None, registered: false, off: false, \
 cause: CauseCode { group: 0, extended: false, index: 0 }, radio: 0, \
 second: None, pti2: 0, sgw2: 0, teid2: 0, ip2: 0, side2_addr: 0, side2_teid: 0 }, effects: ListOf { items: [Gateway(Create)] } } }
-Entry { input: Answer { lane: Gateway, k: 5, answer: Modified }, step: Step { session: Session { stage: Detached, link: Off, plmn: 0, tac: 0, eea: 0, eia: 0, pti: 0, res: ListOf { items: [] }, key: Key { octets: ListOf { items: [] } }, \
+Entry { input: Answer { lane: Gateway, k: 5, answer: Modified }, step: Step { session: Session { stage: Detached, link: Off, plmn: 0, tac: 0, eea: 0, eia: 0, pti: 0, res: ShortOctets { items: [] }, key: Key { shared: None }, \
 dl: 0, ul: 0, sgw: 0, teid: 0, ip: 0, side_addr: 0, side_teid: 0, bearer: None, registered: false, off: false, \
 cause: CauseCode { group: 0, extended: false, index: 0 }, radio: 0, \
 second: None, pti2: 0, sgw2: 0, teid2: 0, ip2: 0, side2_addr: 0, side2_teid: 0 }, effects: ListOf { items: [Gateway(Create)] } } }
 DeviceEnd { messages: 1, steps: 2, downs: ListOf { items: [Release { station: 1, enb: 2, cause: CauseCode { group: 2, extended: false, index: 1 } }] }, \
-gateway: ListOf { items: [Modify(1, 2)] }, subscriber: ListOf { items: [Purge] }, session: Session { stage: Detached, link: Off, plmn: 0, tac: 0, eea: 0, eia: 0, pti: 0, res: ListOf { items: [] }, key: Key { octets: ListOf { items: [] } }, \
+gateway: ListOf { items: [Modify(1, 2)] }, subscriber: ListOf { items: [Purge] }, session: Session { stage: Detached, link: Off, plmn: 0, tac: 0, eea: 0, eia: 0, pti: 0, res: ShortOctets { items: [] }, key: Key { shared: None }, \
 dl: 0, ul: 0, sgw: 0, teid: 0, ip: 0, side_addr: 0, side_teid: 0, bearer: None, registered: false, off: false, \
 cause: CauseCode { group: 0, extended: false, index: 0 }, radio: 0, \
 second: None, pti2: 0, sgw2: 0, teid2: 0, ip2: 0, side2_addr: 0, side2_teid: 0 } }
@@ -99,7 +99,7 @@ fn areas(alloc: Global, items: &[u16]) -> Result<Areas, AllocError> {
 }
 
 fn key(alloc: Global, octet: u8) -> Result<Key, AllocError> {
-    Ok(Key::new(list(alloc, octet)?))
+    Key::new(alloc, &[octet])
 }
 
 fn cause(group: u8, extended: bool, index: u8) -> CauseCode {
@@ -227,7 +227,7 @@ fn release() -> Down {
 }
 
 fn connected(alloc: Global) -> Result<Session, AllocError> {
-    let res = list(alloc, 8)?;
+    let res = ShortOctets::from_slice(alloc, &[8])?;
     let key = key(alloc, 9)?;
     Ok(Session {
         stage: Stage::Connected,
@@ -309,7 +309,7 @@ fn end(alloc: Global) -> Result<DeviceEnd, AllocError> {
 fn put_inputs(alloc: Global, text: &mut String) -> Result<(), Fail> {
     put(text, octets(alloc, &[7, 0, 255]))?;
     put(text, areas(alloc, &[9, 65535]))?;
-    put(text, Ok(Key::zeros(alloc)))?;
+    put(text, Ok(Key::zeros()))?;
     put(text, key(alloc, 17))?;
     put(text, Ok(cause(2, false, 3)))?;
     put(text, subscriber(alloc))?;
@@ -359,7 +359,7 @@ Message { number: 19, station: 2, enb: 3, body: SecondRefused }
 PdnReject { pti: 20, cause: 27 }
 Activate { pti: 21, apn: ListOf { items: [98] }, ip: 22 }
 Erab { station: 23, enb: 24, sgw: 25, teid: 26, pti: 27, ip: 28 }
-SetupTwo { station: 29, enb: 30, dl: 31, ul: 32, sgw: 33, teid: 34, eea: 35, eia: 36, key: Key { octets: ListOf { items: [37] } }, sgw2: 38, teid2: 39 }
+SetupTwo { station: 29, enb: 30, dl: 31, ul: 32, sgw: 33, teid: 34, eea: 35, eia: 36, key: Key { shared: Some(ShortOctets { items: [37] }) }, sgw2: 38, teid2: 39 }
 SecondCreate
 SecondModify(40, 41)
 SecondCreated(42, 43, 44)
@@ -504,7 +504,7 @@ fn octets_are_lent(rt: HostRuntime) -> Result<(), Fail> {
     let alloc = rt.alloc();
     let octets = octets(alloc, &[3, 2])?;
     assert_eq!(rt; octets.octets(), [3, 2].as_slice());
-    assert_eq!(rt; Key::zeros(alloc).octets().len(), 32);
+    assert_eq!(rt; Key::zeros().octets().len(), 32);
     Ok(())
 }
 

@@ -1,12 +1,14 @@
 //! Keys.
-ghost use Rattle.std.specs.Prelude.{◌≡◌, replicate};
-ghost use Rattle.device_types.specs.Keys.{full};
+ghost use Rattle.std.specs.Prelude.{◌≡◌, replicate, option_map, IfOk};
+ghost use Rattle.std.specs.Arc.{arc_value};
+ghost use Rattle.device_types.specs.Keys.{full, key_of};
 ghost use Rattle.device_types.specs.Octets.{AreOctets};
 
-use crate::list_of::Octets;
+use crate::short_octets::ShortOctets;
 use crate::try_copy::TryCopy;
 use std::alloc::{AllocError, Global};
 use std::marker::Model;
+use std::sync::Arc;
 
 /// As many octets as a key has.
 const LENGTH: usize = 32;
@@ -16,47 +18,52 @@ static ZEROS: [u8; LENGTH] = [0; LENGTH];
 
 /// The key of a device's authentication vector (3GPP TS 33.401, 6.1), which its base station is given as it is, as the Security
 /// Key of TS 36.413, 9.2.1.41: none is derived from it. Contracts see it as its 32 octets. A key that was made from another count
-/// of octets, but from none, is seen as those.
+/// of octets, but from none, is seen as those. The copies of a key share its octets.
 #[derive(Debug, Drop)]
 pub struct Key {
-    /// No octets stand for 32 octets of zero.
-    octets: Octets,
+    /// Nothing stands for 32 octets of zero.
+    shared: Option<Arc<ShortOctets<LENGTH>, Global>>,
 }
 
 impl Model for Key {
-    ghost use Rattle.std.specs.Prelude.{List, ℕ};
-    ghost use Rattle.device_types.specs.Keys.{full};
+    ghost use Rattle.std.specs.Prelude.{List, ℕ, option_map};
+    ghost use Rattle.std.specs.Arc.{arc_value};
+    ghost use Rattle.device_types.specs.Keys.{key_of};
 
     ghost Value = { List ℕ };
 
-    ghost view = { λ key. full key.octets };
+    ghost view = { λ key. key_of (option_map arc_value key.shared) };
 }
 
-/// The octets of the key that was made from these.
-fn full_octets(octets: &[u8]) -> &[u8]
-    ensures { result.now ≡ full octets.now }
+/// The octets of the key that has these, if any.
+fn octets_of(shared: &Option<Arc<ShortOctets<LENGTH>, Global>>) -> &[u8]
+    ensures { result.now ≡ key_of (option_map arc_value shared.now) }
 {
-    match octets {
-        [] => &ZEROS,
-        octets => octets,
+    match shared {
+        None => &ZEROS,
+        Some(octets) => octets.octets(),
     }
 }
 
 impl Key {
     /// The key of 32 octets of zero. It takes no memory.
-    pub fn zeros(alloc: Global) -> Key
+    pub fn zeros() -> Key
         ensures { result ≡ replicate 32 0 }
     {
-        Key {
-            octets: Octets::new(alloc),
-        }
+        Key { shared: None }
     }
 
-    /// The key of these octets, or the key of zeros where there are none.
-    pub fn new(octets: Octets) -> Key
-        ensures { result ≡ full octets }
+    /// The key of these octets, or the key of zeros where there are none. It fails for want of memory alone.
+    pub fn new(alloc: Global, octets: &[u8]) -> Result<Key, AllocError>
+        ensures { IfOk result (λ key. key ≡ full octets.now) }
     {
-        Key { octets }
+        if octets.is_empty() {
+            return Ok(Key::zeros());
+        }
+        let octets = ShortOctets::from_slice(alloc, octets)?;
+        Ok(Key {
+            shared: Some(Arc::new(alloc, octets)?),
+        })
     }
 
     /// The octets of the key, each below 256.
@@ -64,21 +71,24 @@ impl Key {
         ensures value { result.now ≡ self.now }
         ensures range { AreOctets self.now }
     {
-        let octets: &[u8] = full_octets(self.octets.octets());
+        let octets: &[u8] = octets_of(&self.shared);
         octets
     }
 }
 
-/// The octets are copied, and the key of zeros takes no memory.
+/// The copy shares the octets, and takes no memory.
 impl Clone for Key {
     ghost use Rattle.std.specs.Prelude.{◌≡◌};
 
     ghost is_clone = { λ key clone. clone ≡ key };
 
     fn clone(&self) -> Result<Key, AllocError> {
-        Ok(Key {
-            octets: self.octets.copy()?,
-        })
+        match &self.shared {
+            None => Ok(Key::zeros()),
+            Some(octets) => Ok(Key {
+                shared: Some(Arc::try_clone(octets)?),
+            }),
+        }
     }
 }
 

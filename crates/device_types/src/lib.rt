@@ -20,6 +20,7 @@ mod message;
 mod nas_out;
 mod no_room;
 mod session;
+mod short_octets;
 mod state;
 mod step;
 mod step_laws;
@@ -44,6 +45,7 @@ pub use message::{Body, Message, Messages, Side};
 pub use nas_out::NasOut;
 pub use no_room::NoRoom;
 pub use session::{Bearer, Link, Second, Session, Stage};
+pub use short_octets::ShortOctets;
 pub use step::{Entry, Reply, Step};
 pub use step_laws::{
     answers_in_range, elsewhere_fits_no_row, listed_areas_are_forbidden, one_row_fits,

@@ -4,7 +4,7 @@ ghost use Rattle.device_types.specs.Session.{opening};
 
 use crate::cause::CauseCode;
 use crate::key::Key;
-use crate::list_of::Octets;
+use crate::short_octets::ShortOctets;
 use crate::try_copy::TryCopy;
 use std::alloc::{AllocError, Global};
 
@@ -108,7 +108,7 @@ pub struct Session {
     /// The procedure transaction identity of its attach request (TS 24.301, 9.4).
     pub pti: u8,
     /// The response that is expected of it, at most 16 octets (TS 33.401, 6.1).
-    pub res: Octets,
+    pub res: ShortOctets<16>,
     /// Its key.
     pub key: Key,
     /// The aggregate maximum bit rate down, at most 10,000,000,000 bit/s (TS 36.413, 9.2.1.20).
@@ -164,8 +164,8 @@ impl Session {
             eea: 0,
             eia: 0,
             pti: 0,
-            res: Octets::new(alloc),
-            key: Key::zeros(alloc),
+            res: ShortOctets::new(alloc),
+            key: Key::zeros(),
             dl: 0,
             ul: 0,
             sgw: 0,
@@ -193,7 +193,7 @@ impl Session {
     }
 
     /// The same session, with the expected response and the key of another authentication vector. It takes no memory.
-    pub fn with_vector(&self, res: Octets, key: Key) -> Session
+    pub fn with_vector(&self, res: ShortOctets<16>, key: Key) -> Session
         ensures { result ≡ record self.now { res = res; key = key } }
     {
         Session {

@@ -17,9 +17,9 @@ const SECOND: &str = "03 1a c0a80003 1b1c1d1e 0a2d8001 c0a80004 1f202122";
 
 /// The same as the program has it.
 const SET_FIELDS: &str = "Session { stage: Connected, link: On { station: 258, enb: 197637 }, \
-plmn: 194617, tac: 1543, eea: 8, eia: 9, pti: 10, res: ListOf { items: [177, 178] }, key: Key { octets: ListOf { items: \
+plmn: 194617, tac: 1543, eea: 8, eia: 9, pti: 10, res: ShortOctets { items: [177, 178] }, key: Key { shared: Some(ShortOctets { items: \
 [192, 193, 194, 195, 196, 197, 198, 199, 200, 201, 202, 203, 204, 205, 206, 207, \
-208, 209, 210, 211, 212, 213, 214, 215, 216, 217, 218, 219, 220, 221, 222, 223] } }, dl: 4328719365, ul: 8640529670, \
+208, 209, 210, 211, 212, 213, 214, 215, 216, 217, 218, 219, 220, 221, 222, 223] }) }, dl: 4328719365, ul: 8640529670, \
 sgw: 3232235521, teid: 185339150, ip: 170721281, side_addr: 3232235522, side_teid: 252711186, bearer: Active, \
 registered: true, off: false, cause: CauseCode { group: 3, extended: true, index: 21 }, radio: 370612249, ";
 

@@ -266,9 +266,9 @@ session_format = formats.◌>>=◌ (format_alone form_field) (λ form. just form
 unfoldable pub IsWrongAt : List ℕ → ℕ → Type 0
 IsWrongAt os place = session_format.Refuses (start os) (record { reason = reasons.BadSession; place = place })
 
--- a session of which something is kept in memory of its own: RES, and a key that is not zeros
+-- a session of which something is kept in memory of its own: a key that is not zeros
 abbrev pub TakesMemory : Session → Type 0
-TakesMemory s = (s.res ≢ []) ⊎ (s.key ≢ replicate 32 0)
+TakesMemory s = s.key ≢ replicate 32 0
 
 -- what reading gives
 unfoldable pub session_at : Reader Session

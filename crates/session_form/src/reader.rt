@@ -224,7 +224,8 @@ impl<'a> FormReader<'a> {
     #[tactic(auto, unfolding(crate::specs::Fields::reading, crate::specs::Fields::value_at))]
     pub fn counted(&mut self, most: u64) -> Result<&'a [u8], Refusal>
         requires { most < 256 }
-        ensures { GivesOrEndsBy (λ octets. octets.now) result self.new (counted_at most self.old) }
+        ensures read { GivesOrEndsBy (λ octets. octets.now) result self.new (counted_at most self.old) }
+        ensures most { IfOk result (λ octets. length octets.now ≤ most) }
     {
         let count = self.number(1, 0, most)?;
         self.octets(count as usize)

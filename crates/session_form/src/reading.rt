@@ -11,23 +11,12 @@ ghost use Rattle.session_form.specs.declared.version.Version.TheVariants.{Two};
 
 use crate::reader::FormReader;
 use crate::version::Version;
-use device_types::{Bearer, CauseCode, Key, Link, Octets, Second, Session, Stage};
+use device_types::{Bearer, CauseCode, Key, Link, Second, Session, ShortOctets, Stage};
 use echo_base::{Bad, OutOfMemory, Refusal};
 use std::alloc::Global;
 
 /// The greatest aggregate maximum bit rate (3GPP TS 36.413, 9.2.1.20), in bit/s.
 const MOST_BIT_RATE: u64 = 10_000_000_000;
-
-/// Octets in memory of their own. None take none.
-fn owned(alloc: Global, octets: &[u8]) -> Result<Octets, OutOfMemory>
-    ensures value { IfOk result (λ own. own ≡ octets.now) }
-    ensures taking { IsErr result → octets.now ≢ [] }
-{
-    if octets.is_empty() {
-        return Ok(Octets::new(alloc));
-    }
-    Ok(Octets::from(Vec::from_slice(alloc, octets)?))
-}
 
 /// Is each octet zero?
 fn are_zeros(octets: &[u8]) -> bool
@@ -43,9 +32,9 @@ fn key_of(alloc: Global, octets: &[u8]) -> Result<Key, OutOfMemory>
     ensures taking { IsErr result → octets.now ≢ replicate 32 0 }
 {
     if are_zeros(octets) {
-        return Ok(Key::zeros(alloc));
+        return Ok(Key::zeros());
     }
-    Ok(Key::new(owned(alloc, octets)?))
+    Key::new(alloc, octets)
 }
 
 /// Where the device is, and what it can do: the stage, the link, the tracking area, the algorithms, the transaction.
@@ -160,7 +149,7 @@ fn read_fields(alloc: Global, r: &mut FormReader) -> Result<Session, Bad>
         eea,
         eia,
         pti,
-        res: owned(alloc, res)?,
+        res: ShortOctets::from_slice(alloc, res)?,
         key: key_of(alloc, key)?,
         dl,
         ul,
@@ -189,8 +178,8 @@ fn read_fields(alloc: Global, r: &mut FormReader) -> Result<Session, Bad>
 }
 
 /// Reads the session of which the octets are a form: form 2, or form 1, in which it has no second connection. They are refused as
-/// BadSession at the first octet of the first field that is not whole or not in its range, or at the first octet too many. RES and a
-/// key that is not zeros take memory, and nothing else does.
+/// BadSession at the first octet of the first field that is not whole or not in its range, or at the first octet too many. A key that is not
+/// zeros takes memory, and nothing else does.
 ///
 /// ```rust
 /// let session = read_session(alloc, write_session(alloc, &Session::opening(alloc))?.octets())?;

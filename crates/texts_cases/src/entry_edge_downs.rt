@@ -60,7 +60,7 @@ fn key_of(row: &Subscriber) -> Result<Key, Fail>
     requires { IsSubscriber row.now }
     ensures { IfOk result IsKey }
 {
-    Ok(Key::new(row.key.copy()?))
+    Ok(Key::new(row.key.alloc(), row.key.octets())?)
 }
 
 /// The context of an attach.
@@ -88,10 +88,10 @@ fn set_up_and_accepted(row: &Subscriber) -> Result<Down, Fail>
 }
 
 /// The context of a service, with the largest rate that there is.
-fn set_up(alloc: Global) -> Down
+fn set_up() -> Down
     ensures { (row : Subscriber) → IsDown row result }
 {
-    let key = Key::zeros(alloc);
+    let key = Key::zeros();
     // That each octet is below 256 is a clause of `octets`.
     let _count = key.octets().len();
     Down::Setup {
@@ -186,7 +186,7 @@ fn tell_setups(alloc: Global, text: &mut String, row: &Subscriber) -> Result<(),
 {
     let down = set_up_and_accepted(row)?;
     tell(alloc, text, row, "set up, accepted", &down)?;
-    tell(alloc, text, row, "set up", &set_up(alloc))?;
+    tell(alloc, text, row, "set up", &set_up())?;
     tell(alloc, text, row, "set up, both", &set_up_both(row)?)?;
     tell(alloc, text, row, "added", &added(row)?)
 }

@@ -80,10 +80,10 @@ fn added(row: &Subscriber) -> Result<Down, Fail>
 }
 
 /// A context with two bearers.
-fn set_up_both(alloc: Global) -> Down
+fn set_up_both() -> Down
     ensures { (row : Subscriber) → IsDown row result }
 {
-    let key = Key::zeros(alloc);
+    let key = Key::zeros();
     let _count = key.octets().len();
     Down::SetupTwo {
         station: 5,
@@ -113,7 +113,7 @@ fn attached_downs(alloc: Global, row: &Subscriber) -> Result<Downs, Fail>
     let (eea, eia) = (0xf0, 0x60);
     let nas = NasOut::SecurityCommand { eea, eia };
     push_down(row, &mut downs, Down::Nas { station, enb, nas })?;
-    let key = Key::zeros(alloc);
+    let key = Key::zeros();
     let _count = key.octets().len();
     let setup = Down::Setup {
         station,
@@ -134,7 +134,7 @@ fn attached_downs(alloc: Global, row: &Subscriber) -> Result<Downs, Fail>
     };
     push_down(row, &mut downs, setup)?;
     push_down(row, &mut downs, added(row)?)?;
-    push_down(row, &mut downs, set_up_both(alloc))?;
+    push_down(row, &mut downs, set_up_both())?;
     Ok(downs)
 }
 

@@ -7,7 +7,8 @@
 use super::{message, octets, pair, subscriber, write_cause, write_effects};
 use device_machine::step;
 use device_types::{
-    Answer, Bearer, CauseCode, Input, Key, Lane, Link, Second, Session, Stage, Step, Subscriber,
+    Answer, Bearer, CauseCode, Input, Key, Lane, Link, Second, Session, ShortOctets, Stage, Step,
+    Subscriber,
 };
 use std::alloc::{AllocError, Global};
 use std::fmt::Debug;
@@ -436,8 +437,8 @@ fn session(alloc: Global, words: &str) -> Result<Session, Fail> {
         eea: 13,
         eia: 14,
         pti: 15,
-        res: octets(alloc, 16)?,
-        key: Key::new(octets(alloc, 17)?),
+        res: ShortOctets::from_slice(alloc, &[16])?,
+        key: Key::new(alloc, &[17])?,
         dl: 18,
         ul: 19,
         sgw: 20,
