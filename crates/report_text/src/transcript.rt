@@ -1,50 +1,77 @@
 //! The lines of a transcript.
 
-ghost use Rattle.std.specs.Prelude.{◌≡◌, ◌++◌, Some, IfOk, OnOk, string_bytes};
+ghost use Rattle.std.specs.Prelude.{◌≡◌, ◌++◌, codes, decimal, IfOk, OnOk, string_bytes};
+ghost use Rattle.case_form.specs.Event.{lane_word};
 ghost use Rattle.report_text.specs.Transcript.{answer_text, transcript_line};
 
-use case_form::LaneWord;
-use device_types::{EventAnswer, Octets};
+use device_types::{EventAnswer, Lane, Octets};
 use echo_base::OutOfMemory;
+use itoa::Buffer;
 use std::alloc::Global;
-use std::fmt;
 
-/// What an event comes to.
-#[derive(Clone, Copy)]
-struct AnswerText(EventAnswer);
+/// The word of a lane.
+fn lane_word(lane: Lane) -> &'static str
+    ensures { result.now ≡ lane_word lane }
+{
+    match lane {
+        Lane::Down => "down",
+        Lane::Gateway => "gateway",
+        Lane::Subscriber => "subscriber",
+    }
+}
 
-impl fmt::Display for AnswerText {
-    ghost output = { λ answer. Some (answer_text answer.0) };
+/// Puts a number behind a text, in decimal.
+fn put_number(text: &mut String, number: u64) -> Result<(), OutOfMemory>
+    ensures { OnOk result (string_bytes text.new ≡ string_bytes text.old ++ decimal number) }
+{
+    text.push_str(Buffer::new().format(number))
+}
 
-    fn fmt<W: fmt::Write>(&self, f: &mut fmt::Formatter<W>) -> fmt::Result {
-        match self.0 {
-            EventAnswer::Sent => write!(f, "sent"),
-            EventAnswer::Taken => write!(f, "taken"),
-            EventAnswer::Stopped => write!(f, "stopped"),
-            EventAnswer::Pushed => write!(f, "pushed"),
-            EventAnswer::VoidReplica => write!(f, "void replica"),
-            EventAnswer::VoidWindow => write!(f, "void window"),
-            EventAnswer::VoidLink => write!(f, "void link"),
-            EventAnswer::VoidHand => write!(f, "void hand"),
-            EventAnswer::VoidOutbox => write!(f, "void outbox"),
-            EventAnswer::Ready(version) => write!(f, "ready {version}"),
-            EventAnswer::Waiting(lane, k) => {
-                let lane = LaneWord(lane);
-                write!(f, "waiting {lane} {k}")
-            }
-            EventAnswer::Repeat(n) => write!(f, "repeat {n}"),
-            EventAnswer::Settled(n) => write!(f, "settled {n}"),
-            EventAnswer::Ahead(n) => write!(f, "ahead {n}"),
-            EventAnswer::OldCall(lane, k) => {
-                let lane = LaneWord(lane);
-                write!(f, "old {lane} {k}")
-            }
-            EventAnswer::Committed(version) => write!(f, "committed {version}"),
-            EventAnswer::Stale { read, current } => write!(f, "stale {read} {current}"),
-            EventAnswer::Acked(n) => write!(f, "acked {n}"),
-            EventAnswer::Accepted(k) => write!(f, "accepted {k}"),
-            EventAnswer::Old(n) => write!(f, "old {n}"),
+/// Puts a word behind a text, and a number behind that.
+fn put_counted(text: &mut String, word: &str, number: u64) -> Result<(), OutOfMemory>
+    ensures { OnOk result (string_bytes text.new ≡ string_bytes text.old ++ word.now ++ decimal number) }
+{
+    text.push_str(word)?;
+    put_number(text, number)
+}
+
+/// Puts a word, a lane and the number of a call of it behind a text.
+fn put_call(text: &mut String, word: &str, lane: Lane, k: u64) -> Result<(), OutOfMemory>
+    ensures { OnOk result (string_bytes text.new ≡ string_bytes text.old ++ word.now ++ lane_word lane ++ codes " " ++ decimal k) }
+{
+    text.push_str(word)?;
+    text.push_str(lane_word(lane))?;
+    put_counted(text, " ", k)
+}
+
+/// Puts behind a text what an event comes to.
+fn put_answer(text: &mut String, answer: &EventAnswer) -> Result<(), OutOfMemory>
+    ensures { OnOk result (string_bytes text.new ≡ string_bytes text.old ++ answer_text answer.now) }
+{
+    match *answer {
+        EventAnswer::Sent => text.push_str("sent"),
+        EventAnswer::Taken => text.push_str("taken"),
+        EventAnswer::Stopped => text.push_str("stopped"),
+        EventAnswer::Pushed => text.push_str("pushed"),
+        EventAnswer::VoidReplica => text.push_str("void replica"),
+        EventAnswer::VoidWindow => text.push_str("void window"),
+        EventAnswer::VoidLink => text.push_str("void link"),
+        EventAnswer::VoidHand => text.push_str("void hand"),
+        EventAnswer::VoidOutbox => text.push_str("void outbox"),
+        EventAnswer::Ready(version) => put_counted(text, "ready ", version),
+        EventAnswer::Waiting(lane, k) => put_call(text, "waiting ", lane, k),
+        EventAnswer::Repeat(n) => put_counted(text, "repeat ", n),
+        EventAnswer::Settled(n) => put_counted(text, "settled ", n),
+        EventAnswer::Ahead(n) => put_counted(text, "ahead ", n),
+        EventAnswer::OldCall(lane, k) => put_call(text, "old ", lane, k),
+        EventAnswer::Committed(version) => put_counted(text, "committed ", version),
+        EventAnswer::Stale { read, current } => {
+            put_counted(text, "stale ", read)?;
+            put_counted(text, " ", current)
         }
+        EventAnswer::Acked(n) => put_counted(text, "acked ", n),
+        EventAnswer::Accepted(k) => put_counted(text, "accepted ", k),
+        EventAnswer::Old(n) => put_counted(text, "old ", n),
     }
 }
 
@@ -57,8 +84,10 @@ pub fn put_transcript_line(
 ) -> Result<(), OutOfMemory>
     ensures { OnOk result (string_bytes text.new ≡ string_bytes text.old ++ transcript_line index answer.now) }
 {
-    let answer = AnswerText(*answer);
-    writeln!(text, "event {index}: {answer}")
+    put_counted(text, "event ", index)?;
+    text.push_str(": ")?;
+    put_answer(text, answer)?;
+    text.push_str("\n")
 }
 
 /// The line of event number `index` in a transcript, as `put_transcript_line` puts it.
