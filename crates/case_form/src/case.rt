@@ -4,29 +4,59 @@ ghost use Rattle.device_types.specs.Event.{IsInForm};
 ghost use Rattle.subs_table.specs.Table.{IsTable};
 ghost use Rattle.case_form.specs.Said.{most_lines, HasStation, IsInLimits};
 
-use device_types::{Event, Octets};
+use device_types::Event;
 use echo_base::Reason;
 use std::marker::Model;
 use subs_table::SubsTable;
 
+/// The text of a PDU, where it stands in the case text.
+#[derive(Clone, Debug, Drop)]
+pub struct PduText<'a> {
+    octets: &'a [u8],
+}
+
+impl<'a> Model for PduText<'a> {
+    ghost use Rattle.std.specs.Prelude.{ℕ, List};
+
+    ghost Value = { List ℕ };
+
+    ghost view = { λ text. text.octets.now };
+}
+
+impl<'a> PduText<'a> {
+    /// The text with these octets. It takes no memory.
+    pub fn new(octets: &'a [u8]) -> PduText<'a>
+        ensures { result ≡ octets.now }
+    {
+        PduText { octets }
+    }
+
+    /// Its octets. They take no memory.
+    pub fn octets(&self) -> &'a [u8]
+        ensures { result.now ≡ self.now }
+    {
+        self.octets
+    }
+}
+
 /// A line of a trace.
 #[derive(Debug, Drop)]
-pub struct TraceLine {
+pub struct TraceLine<'a> {
     /// The number of the line in the case text, from 1.
     pub line: u32,
     /// What it says.
-    pub kind: TraceKind,
+    pub kind: TraceKind<'a>,
 }
 
 /// What a line of a trace says.
 #[derive(Debug, Drop)]
-pub enum TraceKind {
+pub enum TraceKind<'a> {
     /// What a base station sent.
     Pdu {
         /// The base station, from 1.
         station: u16,
         /// The PDU as hexadecimal text, which is not yet looked at: one octet or more, none of which is a space.
-        text: Octets,
+        text: PduText<'a>,
     },
     /// The gateway's notice that data waits for a device.
     Data {
@@ -39,13 +69,13 @@ pub enum TraceKind {
 /// the numbers of an event are in their limits, its device is one of the subscribers, and trace and schedule have at most 100,000
 /// lines each.
 #[derive(Debug, Drop)]
-pub struct Case {
+pub struct Case<'a> {
     pub(crate) table: SubsTable,
-    pub(crate) trace: Vec<TraceLine>,
+    pub(crate) trace: Vec<TraceLine<'a>>,
     pub(crate) schedule: Vec<Event>,
 }
 
-impl Model for Case {
+impl<'a> Model for Case<'a> {
     ghost use Rattle.case_form.specs.Said.{CaseState, IsInLimits};
 
     ghost Value = { CaseState };
@@ -55,7 +85,7 @@ impl Model for Case {
     ghost invariant = { λ case. IsInLimits (record { table = case.table; trace = case.trace.items; schedule = case.schedule.items }) };
 }
 
-impl Case {
+impl<'a> Case<'a> {
     /// The subscribers. It takes no memory.
     pub fn table(&self) -> &SubsTable
         ensures value { result.now ≡ self.now.table }
@@ -66,7 +96,7 @@ impl Case {
     }
 
     /// What base stations and the gateway sent, in order. It takes no memory.
-    pub fn trace(&self) -> &[TraceLine]
+    pub fn trace(&self) -> &[TraceLine<'a>]
         ensures value { result.now ≡ self.now.trace }
         ensures stations { All (λ line. HasStation line.kind) self.now.trace }
         ensures most { length self.now.trace ≤ most_lines }
@@ -84,11 +114,11 @@ impl Case {
     }
 
     /// The subscribers, what base stations and the gateway sent, and the events, each by itself. It takes no memory.
-    pub fn into_parts(self) -> (SubsTable, Vec<TraceLine>, Vec<Event>)
-        ensures table { result.0 ≡ self.table }
-        ensures trace { result.1.items ≡ self.trace }
-        ensures schedule { result.2.items ≡ self.schedule }
-        ensures limits { IsInLimits self }
+    pub fn into_parts(self) -> (SubsTable, Vec<TraceLine<'a>>, Vec<Event>)
+        ensures table { result.0 ≡ self.entry.table }
+        ensures trace { result.1.items ≡ self.entry.trace }
+        ensures schedule { result.2.items ≡ self.entry.schedule }
+        ensures limits { IsInLimits self.entry }
     {
         (self.table, self.trace, self.schedule)
     }

@@ -11,7 +11,7 @@ mod section;
 mod trace;
 mod words;
 
-pub use case::{Case, CaseBad, TraceKind, TraceLine};
+pub use case::{Case, CaseBad, PduText, TraceKind, TraceLine};
 pub use laws::{events_are_exact, trace_lines_are_exact};
 pub use printed::{EventLine, LaneWord};
 pub use reading::read_case;

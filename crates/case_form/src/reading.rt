@@ -55,11 +55,10 @@ fn take_row(alloc: Global, table: &mut SubsTable, line: &[u8]) -> Result<(), Bad
 
 /// Adds a line of that number to the trace.
 #[tactic(auto, unfolding(crate::specs::State::trace_after))]
-fn take_trace_line(
-    alloc: Global,
-    trace: &mut Vec<TraceLine>,
+fn take_trace_line<'a>(
+    trace: &mut Vec<TraceLine<'a>>,
     number: u32,
-    line: &[u8],
+    line: &'a [u8],
 ) -> Result<(), Bad>
     ensures { Takes result (form_reason (length trace.old.items) (is_some (kind_of line.now))) true
         (trace.new.items ≡ trace_after number trace.old.items line.now) }
@@ -67,7 +66,7 @@ fn take_trace_line(
     if trace.len() >= MOST_LINES {
         return Err(refused(Reason::TooManyLines).into());
     }
-    let Some(kind) = read_kind(alloc, line)? else {
+    let Some(kind) = read_kind(line) else {
         return Err(refused(Reason::BadLine).into());
     };
     trace.push(TraceLine { line: number, kind })?;
@@ -92,7 +91,7 @@ fn take_event(schedule: &mut Vec<Event>, rows: u32, line: &[u8]) -> Result<(), B
 
 /// A case text that was read in part.
 #[derive(Drop)]
-struct Reading {
+struct Reading<'a> {
     alloc: Global,
     /// The section of the last heading.
     section: Option<Section>,
@@ -101,13 +100,13 @@ struct Reading {
     /// The rows of the subscribers.
     table: SubsTable,
     /// The lines of the trace.
-    trace: Vec<TraceLine>,
+    trace: Vec<TraceLine<'a>>,
     /// The events of the schedule.
     schedule: Vec<Event>,
 }
 
 /// Nothing read.
-fn begin(alloc: Global) -> Reading
+fn begin<'a>(alloc: Global) -> Reading<'a>
     ensures { seen_of result ≡ unread }
 {
     Reading {
@@ -122,7 +121,7 @@ fn begin(alloc: Global) -> Reading
 
 /// Takes a line, of the number that is set.
 #[tactic(auto, unfolding(crate::specs::State::reason_behind, crate::specs::State::counts_behind, crate::specs::State::after))]
-fn take(reading: &mut Reading, line: &[u8]) -> Result<(), Bad>
+fn take<'a>(reading: &mut Reading<'a>, line: &'a [u8]) -> Result<(), Bad>
     ensures { Takes result (reason_behind (seen_of reading.old) line.now) (counts_behind reading.old.section line.now)
         (seen_of reading.new ≡ after (seen_of reading.old) line.now) }
 {
@@ -140,7 +139,7 @@ fn take(reading: &mut Reading, line: &[u8]) -> Result<(), Bad>
     match reading.section {
         None => Err(refused(Reason::BadSection).into()),
         Some(Section::Subscribers) => take_row(alloc, &mut reading.table, line),
-        Some(Section::Trace) => take_trace_line(alloc, &mut reading.trace, number, line),
+        Some(Section::Trace) => take_trace_line(&mut reading.trace, number, line),
         Some(Section::Schedule) => {
             let rows = reading.table.len();
             take_event(&mut reading.schedule, rows, line)
@@ -149,7 +148,7 @@ fn take(reading: &mut Reading, line: &[u8]) -> Result<(), Bad>
 }
 
 /// Takes the next line.
-fn take_next(reading: &mut Reading, line: &[u8]) -> Result<(), CaseBad>
+fn take_next<'a>(reading: &mut Reading<'a>, line: &'a [u8]) -> Result<(), CaseBad>
     ensures { let seen = next (seen_of reading.old) in
         TakesLine result (reason_behind seen line.now) (counts_behind seen.section line.now) seen.number
         (seen_of reading.new ≡ after seen line.now) }
@@ -183,7 +182,7 @@ fn take_next(reading: &mut Reading, line: &[u8]) -> Result<(), CaseBad>
 /// where it has another form. Line numbers begin with 1; those above 4,294,967,295 count as that number. Only lines of a
 /// section take memory.
 #[tactic(auto, unfolding(crate::specs::Case::first_bad))]
-pub fn read_case(alloc: Global, bytes: &[u8]) -> Result<Case, CaseBad>
+pub fn read_case<'a>(alloc: Global, bytes: &'a [u8]) -> Result<Case<'a>, CaseBad>
     ensures first_bad { MatchFirstBad result (first_bad bytes.now) }
     ensures case { IfOk result (IsCase bytes.now) }
     ensures numbers { IfErr result IsNumbered }

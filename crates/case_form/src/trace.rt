@@ -1,16 +1,13 @@
 //! The lines of a trace.
 
-ghost use Rattle.std.specs.Prelude.{◌≡◌, option_map, IfOk};
+ghost use Rattle.std.specs.Prelude.{◌≡◌, option_map};
 ghost use Rattle.echo_base.specs.Reading.{GivesSome, GivesSomeBy};
 ghost use Rattle.subs_table.specs.Kinds as kinds;
 ghost use Rattle.case_form.specs.Trace.{text_at, sent_of, data_at, imsi_at, notice_of, kind_of};
 
-use crate::case::TraceKind;
+use crate::case::{PduText, TraceKind};
 use crate::number::are_digits;
 use crate::words::Words;
-use device_types::Octets;
-use echo_base::OutOfMemory;
-use std::alloc::Global;
 use std::str;
 use subs_table::fifteen_digits;
 
@@ -86,17 +83,15 @@ fn read_notice(line: &[u8]) -> Option<u64>
     Some(imsi)
 }
 
-/// What a line of a trace says, if it is one. It fails for want of memory alone.
+/// What a line of a trace says, if it is one.
 #[tactic(auto, unfolding(crate::specs::Trace::kind_of))]
-pub(crate) fn read_kind(alloc: Global, line: &[u8]) -> Result<Option<TraceKind>, OutOfMemory>
-    ensures { IfOk result (λ kind. kind ≡ kind_of line.now) }
+pub(crate) fn read_kind(line: &[u8]) -> Option<TraceKind<'_>>
+    ensures { result ≡ kind_of line.now }
 {
     if let Some((station, text)) = read_sent(line) {
-        let text = Octets::from(Vec::from_slice(alloc, text)?);
-        return Ok(Some(TraceKind::Pdu { station, text }));
+        let text = PduText::new(text);
+        return Some(TraceKind::Pdu { station, text });
     }
-    match read_notice(line) {
-        Some(imsi) => Ok(Some(TraceKind::Data { imsi })),
-        None => Ok(None),
-    }
+    let imsi = read_notice(line)?;
+    Some(TraceKind::Data { imsi })
 }

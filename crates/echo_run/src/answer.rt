@@ -64,12 +64,12 @@ fn replay<F: Floor>(
 ) -> Result<Octets, OutOfMemory>
     requires replicas { IsWithin 16 replicas }
     ensures exact { F.exact floor.new ≡ F.exact floor.old }
-    ensures run { let turns = history case.table case.trace in
-        OnOk result (IsRun case.table turns case.schedule replicas (F.exact floor.old) (F.setting floor.new) (F.given floor.new) (F.ends floor.new)) }
-    ensures text { let turns = history case.table case.trace in
-        IfOk result (λ text. text ≡ told_of case.table turns case.schedule (F.given floor.new) (F.ends floor.new)) }
-    ensures definition { let turns = history case.table case.trace in
-        IfOk result (λ text. F.exact floor.old ≡ true → text ≡ replay_of case.table turns case.schedule replicas) }
+    ensures run { let turns = history case.entry.table case.entry.trace in
+        OnOk result (IsRun case.entry.table turns case.entry.schedule replicas (F.exact floor.old) (F.setting floor.new) (F.given floor.new) (F.ends floor.new)) }
+    ensures text { let turns = history case.entry.table case.entry.trace in
+        IfOk result (λ text. text ≡ told_of case.entry.table turns case.entry.schedule (F.given floor.new) (F.ends floor.new)) }
+    ensures definition { let turns = history case.entry.table case.entry.trace in
+        IfOk result (λ text. F.exact floor.old ≡ true → text ≡ replay_of case.entry.table turns case.entry.schedule replicas) }
 {
     let Admitted { book, refused } = admitted(alloc, &case)?;
     let (table, trace, schedule) = case.into_parts();
@@ -158,9 +158,9 @@ fn text_of<F: Floor>(
     requires not_itself { is_case_wanted command ≡ false }
     ensures exact { F.exact floor.new ≡ F.exact floor.old }
     ensures other { IsWithoutFloor command → floor.new ≡ floor.old }
-    ensures run { OnOk result (RunsOn command case.table case.trace case.schedule (F.exact floor.old) (F.setting floor.new) (F.given floor.new) (F.ends floor.new)) }
-    ensures text { IfOk result (λ text. text ≡ text_on command case.table case.trace case.schedule (F.given floor.new) (F.ends floor.new)) }
-    ensures definition { IfOk result (λ text. F.exact floor.old ≡ true → text ≡ text_of command case.table case.trace case.schedule) }
+    ensures run { OnOk result (RunsOn command case.entry.table case.entry.trace case.entry.schedule (F.exact floor.old) (F.setting floor.new) (F.given floor.new) (F.ends floor.new)) }
+    ensures text { IfOk result (λ text. text ≡ text_on command case.entry.table case.entry.trace case.entry.schedule (F.given floor.new) (F.ends floor.new)) }
+    ensures definition { IfOk result (λ text. F.exact floor.old ≡ true → text ≡ text_of command case.entry.table case.entry.trace case.entry.schedule) }
 {
     match command {
         Command::Plain => plain(alloc, &case),
@@ -206,7 +206,6 @@ pub fn answer<F: Floor>(
         Err(CaseBad::Refused { reason, line }) => return Err(NoText::refused(reason, line)),
         Err(CaseBad::OutOfMemory) => return Err(NoText::OutOfMemory),
     };
-    drop(octets);
     let text = text_of(alloc, command, case, floor)?;
     Ok(text)
 }

@@ -114,7 +114,7 @@ const CASE: &str =
 const SAID: &str = "\
 1 208930000000001 1
 2 208930000000002 2
-[TraceLine { line: 8, kind: Pdu { station: 1, text: ListOf { items: [48, 103] } } }, TraceLine { line: 10, kind: Pdu { station: 65535, text: ListOf { items: [195, 169] } } }, \
+[TraceLine { line: 8, kind: Pdu { station: 1, text: PduText { octets: [48, 103] } } }, TraceLine { line: 10, kind: Pdu { station: 65535, text: PduText { octets: [195, 169] } } }, \
 TraceLine { line: 11, kind: Data { imsi: 7 } }]
 [Send { d: DeviceId(1), n: 7 }, Take { r: 4, d: DeviceId(2), n: 8 }, Answer { r: 3, d: DeviceId(1), lane: Subscriber, k: 8 }, \
 Answer { r: 6, d: DeviceId(2), lane: Gateway, k: 5 }, Read { r: 4 }, Write { r: 5 }, Stop { r: 16 }, Reply { d: DeviceId(2), n: 9 }, \

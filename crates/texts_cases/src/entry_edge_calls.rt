@@ -173,7 +173,8 @@ fn put_refused(text: &mut String, refused: RefusedLine) -> Result<(), Fail> {
 
 /// Writes what `admit` gives for a trace: the messages of each device in turn, then the refused lines.
 fn told(alloc: Global, trace: &str) -> Result<String, Fail> {
-    let case = read_case(alloc, case_text(alloc, trace)?.as_bytes())?;
+    let given = case_text(alloc, trace)?;
+    let case = read_case(alloc, given.as_bytes())?;
     let admitted = admit(alloc, case.table(), case.trace())?;
     let mut text = String::new(alloc);
     for (i, messages) in admitted.book.items().iter().enumerate() {

@@ -2,7 +2,7 @@
 ghost use Rattle.std.specs.Prelude.{◌≡◌, [], length};
 
 use crate::report_text_calls::FIRST;
-use case_form::{TraceKind, TraceLine};
+use case_form::{PduText, TraceKind, TraceLine};
 use device_types::*;
 use echo_base::Status;
 use report_text::{final_text, show_dia_text, show_gtp_text, show_text, status_line};
@@ -54,16 +54,16 @@ line 23 ErabSetupRequest 0005003700000300000002000100080002000100100024000011001
 ";
 
 /// The line of a trace with that number and text, or a notice for `data`.
-fn line(alloc: Global, line: u32, text: &str) -> Result<TraceLine, Fail> {
+fn line(line: u32, text: &str) -> TraceLine {
     let kind = if text == "data" {
         TraceKind::Data { imsi: 1 }
     } else {
         TraceKind::Pdu {
             station: 1,
-            text: Octets::from(Vec::from_slice(alloc, text.as_bytes())?),
+            text: PduText::new(text.as_bytes()),
         }
     };
-    Ok(TraceLine { line, kind })
+    TraceLine { line, kind }
 }
 
 /// The lines of a trace with these texts.
@@ -72,7 +72,7 @@ fn trace(alloc: Global, texts: &str) -> Result<Vec<TraceLine>, Fail> {
     let mut number = 6_u32;
     for text in texts.lines() {
         number = number.saturating_add(1);
-        trace.push(line(alloc, number, text)?)?;
+        trace.push(line(number, text))?;
     }
     Ok(trace)
 }

@@ -133,7 +133,6 @@ pub(crate) fn answer<R: Threads + Wait + Sync, G: Gate + Sync>(
         Err(CaseBad::Refused { reason, line }) => return Err(NoText::refused(reason, line)),
         Err(CaseBad::OutOfMemory) => return Err(NoText::OutOfMemory),
     };
-    drop(octets);
     let answered = answer_case(rt, alloc, command, &case, gates)?;
     Ok(answered)
 }
