@@ -36,7 +36,7 @@ fn written(replica: &mut Replica, store: &mut Store<EchoLaw>) -> Result<Commit, 
     ensures store_err { OnErr result (store.new ≡ store.old) }
     ensures err { OnErr result (replica.new ≡ replica.old) }
 {
-    Ok(replica.write(store)?.commit)
+    replica.commit(store)
 }
 
 impl World {

@@ -79,7 +79,7 @@ impl<'a, G: Gate> Worker<'a, G> {
         ensures remembers { AreSessionsOf (T.charter store.new.rows) replica.new.cache }
     {
         self.gate.pass(self.number, d, Point::Ready);
-        match replica.write(store)?.commit {
+        match replica.commit(store)? {
             Commit::Committed(_) => {
                 self.board.tell(d, news);
                 self.gate.pass(self.number, d, Point::Committed);

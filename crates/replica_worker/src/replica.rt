@@ -3,7 +3,7 @@ ghost use Rattle.std.specs.Prelude.{◌≡◌, ◌↔◌, ℕ, [], IfOk, OnOk, O
 ghost use Rattle.replica_worker.specs.Cache.{AreSessionsOf, cache_written};
 ghost use Rattle.replica_worker.specs.Hands.{held_in, CanBeRead, hand_after};
 ghost use Rattle.replica_worker.specs.Replica.{ReplicaState, Remembers, MayCount};
-ghost use Rattle.replica_worker.specs.Replies.{reply_when};
+ghost use Rattle.replica_worker.specs.Replies.{reply_when, told_in};
 ghost use Rattle.replica_worker.specs.Writes.{OwnsHeld, MayWrite, IsReady, IsWritten, WritesHeld, written_reply, TookMessage};
 ghost use Rattle.session_store.specs.Rows.{Begins};
 ghost use Rattle.session_store.specs.Seen.{IsRepeat, asked_of, look_to, repeated_reply};
@@ -147,8 +147,46 @@ impl Replica {
     }
 
     /// Writes the step that it holds for the version that it read, and holds nothing then, whether or not it was committed. It
-    /// remembers the session that was committed. What the reply to the message and this session take memory for is made before the
-    /// step is committed. For want of memory it is as before.
+    /// remembers the session that was committed. What this session takes memory for is made before the step is committed. For want of
+    /// memory it is as before.
+    pub fn commit<S: RowStore<Law = EchoLaw>>(
+        &mut self,
+        store: &mut S,
+    ) -> Result<Commit, AllocError>
+        requires ready { IsReady self.old.hand }
+        requires may { MayWrite (S.charter store.old) (S.devices store.old) (S.known store.old) self.old.hand }
+        requires remembers { AreSessionsOf (S.charter store.old) self.old.cache }
+        ensures charter { S.charter store.new ≡ S.charter store.old }
+        ensures devices { S.devices store.new ≡ S.devices store.old }
+        ensures extends { (i : ℕ) → Begins (S.known store.old i) (S.known store.new i) }
+        ensures store { IfOk result (λ commit. WritesHeld S.writes self.old.hand store.old store.new commit) }
+        ensures store_err { OnErr result (S.keeps store.old store.new) }
+        ensures uncounted { S.reads store.new ≡ S.reads store.old }
+        ensures commit { IfOk result (λ commit. IsWritten self.old.hand (S.known store.new) commit) }
+        ensures reply { IfOk result (λ commit. reply_when (told_in self.old.hand) commit ≡ written_reply self.old.hand (S.known store.new) commit) }
+        ensures empty { OnOk result (self.new.hand ≡ Hand.Empty) }
+        ensures cache { IfOk result (λ commit. self.new.cache ≡ cache_written self.old.cache self.old.hand commit) }
+        ensures remembers { AreSessionsOf (S.charter store.new) self.new.cache }
+        ensures err { OnErr result (self.new ≡ self.old) }
+    {
+        let session = written_session(&self.hand)?;
+        let Hand::Ready { d, version, entry } = mem::replace(&mut self.hand, Hand::Empty) else {
+            unreachable!();
+        };
+        match store.commit(d, version, entry) {
+            Ok(commit) => {
+                self.cache.note(cached_when(d, session, commit));
+                Ok(commit)
+            }
+            Err(NoRoom(entry)) => {
+                self.hold(Hand::Ready { d, version, entry });
+                Err(AllocError)
+            }
+        }
+    }
+
+    /// `commit`, and the reply to the message, where the step of a message was committed. What the reply takes memory for is made
+    /// before the step is committed.
     pub fn write<S: RowStore<Law = EchoLaw>>(&mut self, store: &mut S) -> Result<Wrote, AllocError>
         requires ready { IsReady self.old.hand }
         requires may { MayWrite (S.charter store.old) (S.devices store.old) (S.known store.old) self.old.hand }
@@ -168,19 +206,7 @@ impl Replica {
         ensures err { OnErr result (self.new ≡ self.old) }
     {
         let told = told_in(&self.hand)?;
-        let session = written_session(&self.hand)?;
-        let Hand::Ready { d, version, entry } = mem::replace(&mut self.hand, Hand::Empty) else {
-            unreachable!();
-        };
-        match store.commit(d, version, entry) {
-            Ok(commit) => {
-                self.cache.note(cached_when(d, session, commit));
-                Ok(written(told, commit))
-            }
-            Err(NoRoom(entry)) => {
-                self.hold(Hand::Ready { d, version, entry });
-                Err(AllocError)
-            }
-        }
+        let commit = self.commit(store)?;
+        Ok(written(told, commit))
     }
 }

@@ -296,7 +296,7 @@ fn turn<S: RowStore<Law = EchoLaw>>(
     replica.take(DeviceId(1), Input::Message(service(n)));
     replica.read(row, store)?;
     if let Hand::Ready { .. } = replica.hand() {
-        replica.write(store)?;
+        replica.commit(store)?;
     }
     Ok(())
 }

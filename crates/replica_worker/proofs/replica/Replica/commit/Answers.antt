@@ -1,14 +1,13 @@
 use Rattle.std.proofs.Common.{◌≡◌, Some, sym, ap, ◌∙◌, subst}
 use Rattle.replica_worker.specs.declared.hand.Hand.{Hand}
 use Rattle.replica_worker.specs.declared.hand.Hand.TheVariants as hands
-use Rattle.replica_worker.specs.declared.replica.Wrote.{Wrote}
 use Rattle.replica_worker.specs.Cache.{AreSessionsOf, cached_when, written_session}
 use Rattle.replica_worker.specs.Replica.{ReplicaState}
 use Rattle.replica_worker.specs.Replies.{told_in, reply_when}
 use Rattle.replica_worker.specs.Writes.{written_reply}
 use Rattle.replica_worker.proofs.Answered.{reply_is}
 use Rattle.replica_worker.proofs.Cached.{IsFresh, noted_all, written_fresh}
-use Rattle.replica_worker.proofs.replica.Replica.write.Goals as goal
+use Rattle.replica_worker.proofs.replica.Replica.commit.Goals as goal
 
 pub returns-in-Ok-clause-reply : goal.returns-in-Ok-clause-reply
 returns-in-Ok-clause-reply g c =
@@ -20,12 +19,9 @@ returns-in-Ok-clause-reply g c =
     let commit = c.in-Ok.commit in
     let was = ap (λ (r : ReplicaState). r.hand) c.self.view_is in
     let hand : c.args.self.now.hand ≡ hands.Ready d version entry = sym was ∙ sym c.in-Ready.ensures.value in
-    let told : c.in_ok-told.told ≡ told_in c.args.self.now.hand = c.in_ok-told.ensures ∙ ap told_in was in
-    ap (λ (w : Wrote). w.reply) c.written.ensures
-    ∙ ap (λ t. reply_when t commit) (told ∙ ap told_in hand)
+    ap (λ (h : Hand). reply_when (told_in h) commit) hand
     ∙ reply_is charter d.0 version (known d.0) entry commit c.in-Ok.ensures.in_form c.in-Ok.ensures.lawful c.in-Ok.ensures.ok
     ∙ sym (ap (λ (h : Hand). written_reply h known commit) hand)
-    ∙ sym (ap (λ (w : Wrote). written_reply c.args.self.now.hand known w.commit) c.written.ensures)
 
 pub returns-in-Ok-clause-remembers : goal.returns-in-Ok-clause-remembers
 returns-in-Ok-clause-remembers g c =
