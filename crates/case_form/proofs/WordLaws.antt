@@ -7,9 +7,7 @@ use Rattle.std.specs.List.{position_or_len}
 use Rattle.std.proofs.lemmas.Bool.{ltb-true, ltb-false, lt-ltb, le-ltb}
 use Rattle.std.proofs.lemmas.Bool.Decides.{nat_tests}
 use Rattle.std.proofs.lemmas.Option.{cond_some}
-use Rattle.std.proofs.lemmas.Grind.{elements}
 use Rattle.std.proofs.lemmas.List.{take_rest}
-use Rattle.std.proofs.lemmas.List.Quantifiers.{position-Some}
 use Rattle.std.proofs.lemmas.List.Splits.{slice_split_first, slice_split_none, length-slice_split}
 use Rattle.std.proofs.lemmas.List.Sums.{position_or_len_is, fails_before_first}
 use Rattle.memchr.specs.Find.{IsFirstByte, is_byte}
@@ -30,14 +28,6 @@ space_found line None none =
 space_found line (Some at) (before, hit) =
     let first : position_or_len is_space line ≡ at = position_or_len_is is_space line at 0 (omega (arith, before.high)) (λ k within. is_false _ (before.before k (omega arith) within)) (λ within. hit) in
     rw (first, lt-ltb at (length line) before.high) refl
-
--- the first space of a front is the first of the line
-pub space_is_near : (line : List ℕ) (n at : ℕ) → position is_space (take n line) ≡ Some at → Some at ≡ position is_space line
-space_is_near line n at e =
-    let found = position-Some is_space (take n line) at 0 e in
-    let first : position_or_len is_space line ≡ at = position_or_len_is is_space line at 0 (grind (arith, found.0, elements))
-    (λ k within. grind (arith, found.0, found.2 k within, elements)) (λ within. grind (arith, found.0, found.1, elements)) in
-    rw (first, lt-ltb at (length line) (grind (arith, found.0, elements))) refl
 
 -- no space: the line is the one word
 pub last_word : (line : List ℕ) → position is_space line ≡ None → words_of line ≡ line ∷ []

@@ -1,6 +1,6 @@
 //! Events and lanes as they stand in a schedule.
 
-ghost use Rattle.std.specs.Prelude.{Some};
+ghost use Rattle.std.specs.Prelude.{◌≡◌, Some};
 ghost use Rattle.case_form.specs.Event.{lane_word, event_line};
 
 use device_types::{Event, Lane};
@@ -10,15 +10,24 @@ use std::fmt;
 #[derive(Clone, Copy)]
 pub struct LaneWord(pub Lane);
 
+impl LaneWord {
+    /// The word.
+    pub fn word(self) -> &'static str
+        ensures { result.now ≡ lane_word self.0 }
+    {
+        match self.0 {
+            Lane::Down => "down",
+            Lane::Gateway => "gateway",
+            Lane::Subscriber => "subscriber",
+        }
+    }
+}
+
 impl fmt::Display for LaneWord {
     ghost output = { λ lane. Some (lane_word lane.0) };
 
     fn fmt<W: fmt::Write>(&self, f: &mut fmt::Formatter<W>) -> fmt::Result {
-        match self.0 {
-            Lane::Down => write!(f, "down"),
-            Lane::Gateway => write!(f, "gateway"),
-            Lane::Subscriber => write!(f, "subscriber"),
-        }
+        f.write_str(self.word())
     }
 }
 

@@ -37,7 +37,10 @@ fn near_space(octets: &[u8]) -> Option<usize>
 fn first_space(octets: &[u8]) -> Option<usize>
     ensures { result ≡ position (λ octet. octet == 32) octets.now }
 {
-    match near_space(&octets[..octets.len().min(NEAR)]) {
+    if octets.len() <= NEAR {
+        return near_space(octets);
+    }
+    match near_space(&octets[..NEAR]) {
         Some(at) => Some(at),
         None => memchr(b' ', octets),
     }

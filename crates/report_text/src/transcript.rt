@@ -2,23 +2,14 @@
 
 ghost use Rattle.std.specs.Prelude.{◌≡◌, ◌++◌, codes, decimal, IfOk, OnOk, string_bytes};
 ghost use Rattle.case_form.specs.Event.{lane_word};
+ghost use Rattle.report_text.specs.Lines.{ended};
 ghost use Rattle.report_text.specs.Transcript.{answer_text, transcript_line};
 
+use case_form::LaneWord;
 use device_types::{EventAnswer, Lane, Octets};
 use echo_base::OutOfMemory;
 use itoa::Buffer;
 use std::alloc::Global;
-
-/// The word of a lane.
-fn lane_word(lane: Lane) -> &'static str
-    ensures { result.now ≡ lane_word lane }
-{
-    match lane {
-        Lane::Down => "down",
-        Lane::Gateway => "gateway",
-        Lane::Subscriber => "subscriber",
-    }
-}
 
 /// Puts a number behind a text, in decimal.
 fn put_number(text: &mut String, number: u64) -> Result<(), OutOfMemory>
@@ -35,43 +26,51 @@ fn put_counted(text: &mut String, word: &str, number: u64) -> Result<(), OutOfMe
     put_number(text, number)
 }
 
-/// Puts a word, a lane and the number of a call of it behind a text.
-fn put_call(text: &mut String, word: &str, lane: Lane, k: u64) -> Result<(), OutOfMemory>
-    ensures { OnOk result (string_bytes text.new ≡ string_bytes text.old ++ word.now ++ lane_word lane ++ codes " " ++ decimal k) }
+/// Puts a word behind a text, a number behind that, and an LF.
+fn put_counted_end(text: &mut String, word: &str, number: u64) -> Result<(), OutOfMemory>
+    ensures { OnOk result (string_bytes text.new ≡ string_bytes text.old ++ word.now ++ ended (decimal number)) }
 {
-    text.push_str(word)?;
-    text.push_str(lane_word(lane))?;
-    put_counted(text, " ", k)
+    put_counted(text, word, number)?;
+    text.push_str("\n")
 }
 
-/// Puts behind a text what an event comes to.
+/// Puts a word, a lane and the number of a call of it behind a text, and an LF.
+fn put_call(text: &mut String, word: &str, lane: Lane, k: u64) -> Result<(), OutOfMemory>
+    ensures { OnOk result (string_bytes text.new ≡ string_bytes text.old ++ word.now ++ lane_word lane ++ codes " " ++ ended (decimal k)) }
+{
+    text.push_str(word)?;
+    text.push_str(LaneWord(lane).word())?;
+    put_counted_end(text, " ", k)
+}
+
+/// Puts behind a text what an event comes to, between `: ` and an LF.
 fn put_answer(text: &mut String, answer: &EventAnswer) -> Result<(), OutOfMemory>
-    ensures { OnOk result (string_bytes text.new ≡ string_bytes text.old ++ answer_text answer.now) }
+    ensures { OnOk result (string_bytes text.new ≡ string_bytes text.old ++ codes ": " ++ ended (answer_text answer.now)) }
 {
     match *answer {
-        EventAnswer::Sent => text.push_str("sent"),
-        EventAnswer::Taken => text.push_str("taken"),
-        EventAnswer::Stopped => text.push_str("stopped"),
-        EventAnswer::Pushed => text.push_str("pushed"),
-        EventAnswer::VoidReplica => text.push_str("void replica"),
-        EventAnswer::VoidWindow => text.push_str("void window"),
-        EventAnswer::VoidLink => text.push_str("void link"),
-        EventAnswer::VoidHand => text.push_str("void hand"),
-        EventAnswer::VoidOutbox => text.push_str("void outbox"),
-        EventAnswer::Ready(version) => put_counted(text, "ready ", version),
-        EventAnswer::Waiting(lane, k) => put_call(text, "waiting ", lane, k),
-        EventAnswer::Repeat(n) => put_counted(text, "repeat ", n),
-        EventAnswer::Settled(n) => put_counted(text, "settled ", n),
-        EventAnswer::Ahead(n) => put_counted(text, "ahead ", n),
-        EventAnswer::OldCall(lane, k) => put_call(text, "old ", lane, k),
-        EventAnswer::Committed(version) => put_counted(text, "committed ", version),
+        EventAnswer::Sent => text.push_str(": sent\n"),
+        EventAnswer::Taken => text.push_str(": taken\n"),
+        EventAnswer::Stopped => text.push_str(": stopped\n"),
+        EventAnswer::Pushed => text.push_str(": pushed\n"),
+        EventAnswer::VoidReplica => text.push_str(": void replica\n"),
+        EventAnswer::VoidWindow => text.push_str(": void window\n"),
+        EventAnswer::VoidLink => text.push_str(": void link\n"),
+        EventAnswer::VoidHand => text.push_str(": void hand\n"),
+        EventAnswer::VoidOutbox => text.push_str(": void outbox\n"),
+        EventAnswer::Ready(version) => put_counted_end(text, ": ready ", version),
+        EventAnswer::Waiting(lane, k) => put_call(text, ": waiting ", lane, k),
+        EventAnswer::Repeat(n) => put_counted_end(text, ": repeat ", n),
+        EventAnswer::Settled(n) => put_counted_end(text, ": settled ", n),
+        EventAnswer::Ahead(n) => put_counted_end(text, ": ahead ", n),
+        EventAnswer::OldCall(lane, k) => put_call(text, ": old ", lane, k),
+        EventAnswer::Committed(version) => put_counted_end(text, ": committed ", version),
         EventAnswer::Stale { read, current } => {
-            put_counted(text, "stale ", read)?;
-            put_counted(text, " ", current)
+            put_counted(text, ": stale ", read)?;
+            put_counted_end(text, " ", current)
         }
-        EventAnswer::Acked(n) => put_counted(text, "acked ", n),
-        EventAnswer::Accepted(k) => put_counted(text, "accepted ", k),
-        EventAnswer::Old(n) => put_counted(text, "old ", n),
+        EventAnswer::Acked(n) => put_counted_end(text, ": acked ", n),
+        EventAnswer::Accepted(k) => put_counted_end(text, ": accepted ", k),
+        EventAnswer::Old(n) => put_counted_end(text, ": old ", n),
     }
 }
 
@@ -85,9 +84,7 @@ pub fn put_transcript_line(
     ensures { OnOk result (string_bytes text.new ≡ string_bytes text.old ++ transcript_line index answer.now) }
 {
     put_counted(text, "event ", index)?;
-    text.push_str(": ")?;
-    put_answer(text, answer)?;
-    text.push_str("\n")
+    put_answer(text, answer)
 }
 
 /// The line of event number `index` in a transcript, as `put_transcript_line` puts it.
