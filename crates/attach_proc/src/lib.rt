@@ -52,7 +52,7 @@ pub fn attach_step(
     let Some(effects) = attach_step_in_place(row, &mut session, input)? else {
         return Ok(None);
     };
-    Ok(Some(Step { session, effects }))
+    Ok(Some(Step::new(session, effects)?))
 }
 
 fn on_message(

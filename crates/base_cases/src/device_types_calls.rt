@@ -273,12 +273,12 @@ fn reply(alloc: Global) -> Result<Reply, AllocError> {
 fn step(alloc: Global) -> Result<Step, AllocError> {
     let effects = list(alloc, Effect::Gateway(GwCall::Create))?;
     let session = Session::opening(alloc);
-    Ok(Step { session, effects })
+    Step::new(session, effects)
 }
 
 fn entry(alloc: Global, input: Input) -> Result<Entry, AllocError> {
     let step = step(alloc)?;
-    Ok(Entry { input, step })
+    Entry::new(alloc, input, step)
 }
 
 /// The answer to a call of the gateway.

@@ -170,7 +170,7 @@ pub fn move_link(s: Session, station: u16, enb: u32) -> Result<Step, AllocError>
 {
     let mut session = s;
     let effects = move_link_in_place(&mut session, station, enb)?;
-    Ok(Step { session, effects })
+    Step::new(session, effects)
 }
 
 /// What releases another S1 connection of the device.
@@ -219,7 +219,7 @@ pub fn drop_device(s: Session, cause: CauseCode) -> Result<Step, AllocError>
 {
     let mut session = s;
     let effects = drop_device_in_place(&mut session, cause)?;
-    Ok(Step { session, effects })
+    Step::new(session, effects)
 }
 
 /// Frees the radio bearers: the gateway lets go of the base station first, where it has one, and then the device's context is
@@ -244,5 +244,5 @@ pub fn free_link(s: Session, cause: CauseCode) -> Result<Step, AllocError>
 {
     let mut session = s;
     let effects = free_link_in_place(&mut session, cause)?;
-    Ok(Step { session, effects })
+    Step::new(session, effects)
 }

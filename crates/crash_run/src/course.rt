@@ -89,7 +89,7 @@ impl Course {
         ensures { result.now ≡ option_map_or (λ entry. entry.step.session) (last_of self.now.entries) self.now.opening }
     {
         match self.entries.items().last() {
-            Some(entry) => &entry.step.session,
+            Some(entry) => entry.step.session.get(),
             None => &self.opening,
         }
     }
@@ -147,7 +147,8 @@ impl Course {
         let step = step(row, self.session(), &input)?;
         self.peers.offer_all(row, &step)?;
         self.taken += messages_in(&input);
-        self.entries.push(Entry { input, step })?;
+        self.entries
+            .push(Entry::new(row.rand.alloc(), input, step)?)?;
         Ok(true)
     }
 }

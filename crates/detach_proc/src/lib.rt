@@ -43,7 +43,7 @@ pub fn detach_step(session: &Session, input: &Input) -> Result<Option<Step>, All
     let Some(effects) = detach_step_in_place(&mut session, input)? else {
         return Ok(None);
     };
-    Ok(Some(Step { session, effects }))
+    Ok(Some(Step::new(session, effects)?))
 }
 
 fn on_message(session: &mut Session, message: &Message) -> Result<Option<Effects>, AllocError>

@@ -121,7 +121,7 @@ pub fn alone(row: &Subscriber, messages: &[Message]) -> Result<Vec<Step>, AllocE
             return Ok(steps);
         };
         let session = course.session.copy()?;
-        steps.push(Step { session, effects })?;
+        steps.push(Step::new(session, effects)?)?;
     }
     Ok(steps)
 }

@@ -25,7 +25,7 @@ pub fn step(row: &Subscriber, session: &Session, input: &Input) -> Result<Step, 
 {
     let mut session = session.copy()?;
     let effects = step_in_place(row, &mut session, input)?;
-    Ok(Step { session, effects })
+    Step::new(session, effects)
 }
 
 /// The session takes the step of the one row that fits, or else none at all, and its effects are given. For want of memory the session

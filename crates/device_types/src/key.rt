@@ -1,14 +1,13 @@
 //! Keys.
-ghost use Rattle.std.specs.Prelude.{◌≡◌, replicate, option_map, IfOk};
-ghost use Rattle.std.specs.Arc.{arc_value};
+ghost use Rattle.std.specs.Prelude.{◌≡◌, [], replicate, IfOk, IsOk};
 ghost use Rattle.device_types.specs.Keys.{full, key_of};
 ghost use Rattle.device_types.specs.Octets.{AreOctets};
 
+use crate::shared::Shared;
 use crate::short_octets::ShortOctets;
 use crate::try_copy::TryCopy;
 use std::alloc::{AllocError, Global};
 use std::marker::Model;
-use std::sync::Arc;
 
 /// As many octets as a key has.
 const LENGTH: usize = 32;
@@ -22,26 +21,25 @@ static ZEROS: [u8; LENGTH] = [0; LENGTH];
 #[derive(Debug, Drop)]
 pub struct Key {
     /// Nothing stands for 32 octets of zero.
-    shared: Option<Arc<ShortOctets<LENGTH>, Global>>,
+    shared: Option<Shared<ShortOctets<LENGTH>>>,
 }
 
 impl Model for Key {
-    ghost use Rattle.std.specs.Prelude.{List, ℕ, option_map};
-    ghost use Rattle.std.specs.Arc.{arc_value};
+    ghost use Rattle.std.specs.Prelude.{List, ℕ};
     ghost use Rattle.device_types.specs.Keys.{key_of};
 
     ghost Value = { List ℕ };
 
-    ghost view = { λ key. key_of (option_map arc_value key.shared) };
+    ghost view = { λ key. key_of key.shared };
 }
 
 /// The octets of the key that has these, if any.
-fn octets_of(shared: &Option<Arc<ShortOctets<LENGTH>, Global>>) -> &[u8]
-    ensures { result.now ≡ key_of (option_map arc_value shared.now) }
+fn octets_of(shared: &Option<Shared<ShortOctets<LENGTH>>>) -> &[u8]
+    ensures { result.now ≡ key_of shared.now }
 {
     match shared {
         None => &ZEROS,
-        Some(octets) => octets.octets(),
+        Some(octets) => octets.get().octets(),
     }
 }
 
@@ -53,16 +51,18 @@ impl Key {
         Key { shared: None }
     }
 
-    /// The key of these octets, or the key of zeros where there are none. It fails for want of memory alone.
+    /// The key of these octets, or the key of zeros where there are none. It fails for want of memory alone, and takes none for the key of
+    /// zeros.
     pub fn new(alloc: Global, octets: &[u8]) -> Result<Key, AllocError>
-        ensures { IfOk result (λ key. key ≡ full octets.now) }
+        ensures none { octets.now ≡ [] → IsOk result }
+        ensures key { IfOk result (λ key. key ≡ full octets.now) }
     {
         if octets.is_empty() {
             return Ok(Key::zeros());
         }
         let octets = ShortOctets::from_slice(alloc, octets)?;
         Ok(Key {
-            shared: Some(Arc::new(alloc, octets)?),
+            shared: Some(Shared::new(alloc, octets)?),
         })
     }
 
@@ -76,7 +76,7 @@ impl Key {
     }
 }
 
-/// The copy shares the octets, and takes no memory.
+/// The copy shares the octets.
 impl Clone for Key {
     ghost use Rattle.std.specs.Prelude.{◌≡◌};
 
@@ -86,7 +86,7 @@ impl Clone for Key {
         match &self.shared {
             None => Ok(Key::zeros()),
             Some(octets) => Ok(Key {
-                shared: Some(Arc::try_clone(octets)?),
+                shared: Some(octets.copy()?),
             }),
         }
     }

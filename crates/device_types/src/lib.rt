@@ -20,6 +20,7 @@ mod message;
 mod nas_out;
 mod no_room;
 mod session;
+mod shared;
 mod short_octets;
 mod state;
 mod step;
@@ -45,6 +46,7 @@ pub use message::{Body, Message, Messages, Side};
 pub use nas_out::NasOut;
 pub use no_room::NoRoom;
 pub use session::{Bearer, Link, Second, Session, Stage};
+pub use shared::Shared;
 pub use short_octets::ShortOctets;
 pub use step::{Entry, Reply, Step};
 pub use step_laws::{

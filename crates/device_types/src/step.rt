@@ -1,17 +1,32 @@
 //! The steps of a device.
+ghost use Rattle.std.specs.Prelude.{◌≡◌, IfOk};
 
 use crate::effect::Effects;
 use crate::input::Input;
 use crate::session::Session;
+use crate::shared::Shared;
 use crate::try_copy::TryCopy;
+use std::alloc::{AllocError, Global};
 
 /// What follows from an input.
 #[derive(Clone, Debug, Drop)]
 pub struct Step {
     /// The session after the input.
-    pub session: Session,
+    pub session: Shared<Session>,
     /// What is sent, in order.
     pub effects: Effects,
+}
+
+impl Step {
+    /// The step to that session, which sends these. It fails for want of memory alone.
+    pub fn new(session: Session, effects: Effects) -> Result<Step, AllocError>
+        ensures { IfOk result (λ step. step ≡ record { session = session; effects = effects }) }
+    {
+        Ok(Step {
+            session: Shared::new(session.alloc(), session)?,
+            effects,
+        })
+    }
 }
 
 impl TryCopy for Step {
@@ -24,9 +39,21 @@ impl TryCopy for Step {
 #[derive(Clone, Debug, Drop)]
 pub struct Entry {
     /// The input.
-    pub input: Input,
+    pub input: Shared<Input>,
     /// Its step.
     pub step: Step,
+}
+
+impl Entry {
+    /// The entry of an input and its step. It fails for want of memory alone.
+    pub fn new(alloc: Global, input: Input, step: Step) -> Result<Entry, AllocError>
+        ensures { IfOk result (λ entry. entry ≡ record { input = input; step = step }) }
+    {
+        Ok(Entry {
+            input: Shared::new(alloc, input)?,
+            step,
+        })
+    }
 }
 
 impl TryCopy for Entry {

@@ -67,12 +67,8 @@ impl Maker<NumberedLaw> for NumberedLaw {
             enb: 7,
             body: Body::Service,
         };
-        Ok(Some(Entry {
-            input: Input::Message(message),
-            step: Step {
-                session,
-                effects: Effects::new(self.alloc),
-            },
-        }))
+        let step = Step::new(session, Effects::new(self.alloc))?;
+        let entry = Entry::new(self.alloc, Input::Message(message), step)?;
+        Ok(Some(entry))
     }
 }

@@ -9,7 +9,7 @@ ghost use Rattle.schedule_laws.specs.Answer.{IsEvent};
 ghost use Rattle.link_schedule.specs.World.{answer_given, accepted_calls, Answers};
 
 use crate::world::{World, row_at};
-use device_types::{Answer, DeviceId, Event, EventAnswer, Input, Lane, Subscriber};
+use device_types::{Answer, DeviceId, Event, EventAnswer, Input, Lane, Shared, Subscriber};
 use peer_gateway::Gateway;
 use peer_subscriber::SubscriberPeer;
 use std::alloc::AllocError;
@@ -89,7 +89,8 @@ impl World {
         let Some(answer) = given(&self.gateway, &self.server, row, lane, k)? else {
             return Ok(self.log.noted(event, EventAnswer::VoidLink));
         };
-        self.replicas[r as usize - 1].take(d, Input::Answer { lane, k, answer });
+        let input = Shared::new(row.rand.alloc(), Input::Answer { lane, k, answer })?;
+        self.replicas[r as usize - 1].take(d, input);
         Ok(self.log.noted(event, EventAnswer::Taken))
     }
 }

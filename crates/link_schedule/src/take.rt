@@ -5,8 +5,8 @@ ghost use Rattle.schedule_laws.specs.Answer.{IsEvent};
 ghost use Rattle.schedule_laws.specs.Input.{no_message};
 ghost use Rattle.link_schedule.specs.World.{Answers};
 
-use crate::world::{Agent, World};
-use device_types::{DeviceId, Event, EventAnswer, Input, Message, TryCopy};
+use crate::world::{Agent, World, row_at};
+use device_types::{DeviceId, Event, EventAnswer, Input, Message, Shared, TryCopy};
 use std::alloc::AllocError;
 
 /// Message `n` of the line of a device, copied.
@@ -37,7 +37,9 @@ impl World {
             return Ok(self.log.noted(event, EventAnswer::VoidLink));
         }
         let message = message_at(&self.agents[index], n)?;
-        self.replicas[r as usize - 1].take(d, Input::Message(message));
+        let alloc = row_at(&self.law, d).rand.alloc();
+        let input = Shared::new(alloc, Input::Message(message))?;
+        self.replicas[r as usize - 1].take(d, input);
         Ok(self.log.noted(event, EventAnswer::Taken))
     }
 }

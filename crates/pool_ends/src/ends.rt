@@ -40,7 +40,7 @@ fn put_entry(end: &mut DeviceEnd, entry: &Entry) -> Result<(), AllocError>
     requires { end.old.messages + 1 < 2 ^ 64 }
     ensures { OnOk result (end.new ≡ with_entry end.old entry.now) }
 {
-    match entry.input {
+    match entry.input.get() {
         Input::Message(_) => end.messages += 1,
         Input::Answer { .. } => {}
     }
@@ -52,7 +52,7 @@ fn session_of(alloc: Global, journal: &[Entry]) -> Result<Session, AllocError>
     ensures { IfOk result (λ session. session ≡ session_of journal.now) }
 {
     match journal.last() {
-        Some(entry) => entry.step.session.copy(),
+        Some(entry) => entry.step.session.get().copy(),
         None => Ok(Session::opening(alloc)),
     }
 }

@@ -11,7 +11,7 @@ use crate::line::Packet;
 use crate::lines::row_of;
 use crate::seat_store::SeatStore;
 use device_machine::awaited;
-use device_types::{DeviceId, Effect, Input};
+use device_types::{DeviceId, Effect, Input, Shared};
 use pool_rows::SharedRows;
 use replica_worker::{Hand, Replica};
 use session_row::Commit;
@@ -53,7 +53,7 @@ fn news_of(hand: &Hand) -> Option<News>
         return None;
     };
     Some(News {
-        taken: match &entry.input {
+        taken: match entry.input.get() {
             Input::Message(message) => Some(message.number),
             Input::Answer { .. } => None,
         },
@@ -107,7 +107,7 @@ impl<'a, G: Gate> Worker<'a, G> {
     {
         let Packet { d, input } = packet;
         let row = row_of(self.charter, d);
-        replica.take(d, input);
+        replica.take(d, Shared::new(row.rand.alloc(), input)?);
         replica.read(row, store)?;
         match news_of(replica.hand()) {
             Some(news) => self.write(replica, store, d, news),

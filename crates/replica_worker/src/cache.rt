@@ -3,7 +3,7 @@ ghost use Rattle.std.specs.Prelude.{◌≡◌, ◌∷◌, [], IfOk, option_copie
 ghost use Rattle.replica_worker.specs.Cache.{remember, is_of, session_in, noted, fresh_at, cached_when};
 
 use circular_buffer::HeapCircularBuffer;
-use device_types::{DeviceId, Look, Session};
+use device_types::{DeviceId, Look, Session, Shared};
 use session_row::Commit;
 use std::alloc::{AllocError, Global};
 use std::marker::Model;
@@ -19,7 +19,7 @@ pub struct CachedSession {
     /// How many steps were committed.
     pub version: u64,
     /// The session behind them.
-    pub session: Session,
+    pub session: Shared<Session>,
 }
 
 impl CachedSession {
@@ -44,7 +44,7 @@ pub(crate) fn fresh_at(look: Look, cached: CachedSession) -> Option<CachedSessio
 /// What is remembered of a write: the session that was committed.
 pub(crate) fn cached_when(
     d: DeviceId,
-    session: Option<Session>,
+    session: Option<Shared<Session>>,
     commit: Commit,
 ) -> Option<CachedSession>
     ensures { result ≡ cached_when d session commit }
@@ -65,7 +65,7 @@ fn session_among(sessions: &[CachedSession], d: DeviceId, version: u64) -> Optio
 {
     for cached in sessions {
         if cached.is_of(d, version) {
-            return Some(&cached.session);
+            return Some(cached.session.get());
         }
     }
     None

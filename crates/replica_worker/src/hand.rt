@@ -4,7 +4,7 @@ ghost use Rattle.replica_worker.specs.Cache.{written_session};
 ghost use Rattle.replica_worker.specs.Hands.{held_in, lent_held, hand_of};
 ghost use Rattle.session_store.specs.Seen.{asked_of};
 
-use device_types::{DeviceId, Entry, Input, Session, Step, TryCopy};
+use device_types::{DeviceId, Entry, Input, Session, Shared, Step, TryCopy};
 use session_store::Asked;
 use std::alloc::AllocError;
 
@@ -18,7 +18,7 @@ pub enum Hand {
         /// The device.
         d: DeviceId,
         /// The message, or the answer to a call.
-        input: Input,
+        input: Shared<Input>,
     },
     /// An input of a device with its step, to be written for the version that was read.
     Ready {
@@ -38,14 +38,14 @@ impl Hand {
     {
         match self {
             Hand::Empty => None,
-            Hand::Taken { d, input } => Some((*d, input)),
-            Hand::Ready { d, entry, .. } => Some((*d, &entry.input)),
+            Hand::Taken { d, input } => Some((*d, input.get())),
+            Hand::Ready { d, entry, .. } => Some((*d, entry.input.get())),
         }
     }
 }
 
 /// The input of a hand, with its device.
-pub(crate) fn into_held(hand: Hand) -> Option<(DeviceId, Input)>
+pub(crate) fn into_held(hand: Hand) -> Option<(DeviceId, Shared<Input>)>
     ensures { result ≡ held_in hand }
 {
     match hand {
@@ -56,7 +56,7 @@ pub(crate) fn into_held(hand: Hand) -> Option<(DeviceId, Input)>
 }
 
 /// The hand with an input of a device, and with its step for that version, if one was made.
-pub(crate) fn hand_of(d: DeviceId, input: Input, version: u64, step: Option<Step>) -> Hand
+pub(crate) fn hand_of(d: DeviceId, input: Shared<Input>, version: u64, step: Option<Step>) -> Hand
     ensures { result ≡ hand_of d input version step }
 {
     match step {
@@ -80,7 +80,7 @@ pub(crate) fn asked_of(input: &Input) -> Asked
 }
 
 /// The session of the step that a hand is to write.
-pub(crate) fn written_session(hand: &Hand) -> Result<Option<Session>, AllocError>
+pub(crate) fn written_session(hand: &Hand) -> Result<Option<Shared<Session>>, AllocError>
     ensures { IfOk result (λ session. session ≡ written_session hand.now) }
 {
     match hand {

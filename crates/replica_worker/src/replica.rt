@@ -12,7 +12,7 @@ use crate::cache::{Cache, cached_when};
 use crate::hand::{Hand, hand_of, into_held, written_session};
 use crate::replies::{Told, reply_when, told_in};
 use crate::sight::{Sight, see};
-use device_types::{DeviceId, Input, Look, NoRoom, Reply, Subscriber};
+use device_types::{DeviceId, Input, Look, NoRoom, Reply, Shared, Subscriber};
 use session_row::Commit;
 use session_store::{EchoLaw, RowStore};
 use std::alloc::{AllocError, Global};
@@ -88,7 +88,7 @@ impl Replica {
     }
 
     /// It takes an input of a device, whatever it held before. It takes no memory.
-    pub fn take(&mut self, d: DeviceId, input: Input)
+    pub fn take(&mut self, d: DeviceId, input: Shared<Input>)
         ensures { self.new ≡ record self.old { hand = Hand.Taken d input } }
     {
         self.hold(Hand::Taken { d, input });

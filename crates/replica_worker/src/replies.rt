@@ -19,7 +19,7 @@ fn told_of(entry: &Entry) -> Result<Option<Told>, AllocError>
     ensures { IfOk result (λ told. told ≡ told_of entry.now) }
 {
     let effects = &entry.step.effects;
-    match &entry.input {
+    match entry.input.get() {
         Input::Message(message) => Ok(Some(Told {
             number: message.number,
             downs: downs_of(effects.alloc(), effects.items())?,

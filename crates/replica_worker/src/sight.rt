@@ -51,7 +51,7 @@ fn sight_in(row: &Subscriber, d: DeviceId, input: &Input, seen: Seen) -> Result<
         look,
         reply,
     } = seen;
-    let step = step_at(row, &session, input, look)?;
+    let step = step_at(row, session.get(), input, look)?;
     Ok(Sight {
         peeked: Peeked {
             version,

@@ -9,7 +9,8 @@ ghost use Rattle.session_store.specs.Rows.{Begins, journal_of};
 ghost use Rattle.rows_cases.specs.Services.{service, services, service_charter};
 
 use device_types::{
-    Body, Book, DeviceId, Entry, Input, ListOf, Message, Messages, NoRoom, Subscriber, TryCopy,
+    Body, Book, DeviceId, Entry, Input, ListOf, Message, Messages, NoRoom, Shared, Subscriber,
+    TryCopy,
 };
 use replica_worker::{Hand, Replica};
 use session_row::Commit;
@@ -208,7 +209,8 @@ fn read<S: RowStore<Law = EchoLaw> + CountsReads>(
     ensures extends { (i : ℕ) → Begins (S.known store.old i) (S.known store.new i) }
     ensures may { OnOk result (MayWrite (S.charter store.new) (S.devices store.new) (S.known store.new) replica.new.hand) }
 {
-    replica.take(DeviceId(1), Input::Message(service(n)));
+    let input = Shared::new(row.rand.alloc(), Input::Message(service(n)))?;
+    replica.take(DeviceId(1), input);
     let looked = replica.read(row, store)?;
     let reads = store.read_count();
     writeln!(told, "{looked:?} {reads}")?;
@@ -293,7 +295,8 @@ fn turn<S: RowStore<Law = EchoLaw>>(
     ensures devices { S.devices store.new ≡ 1 }
     ensures remembers { AreSessionsOf (S.charter store.new) replica.new.cache }
 {
-    replica.take(DeviceId(1), Input::Message(service(n)));
+    let input = Shared::new(row.rand.alloc(), Input::Message(service(n)))?;
+    replica.take(DeviceId(1), input);
     replica.read(row, store)?;
     if let Hand::Ready { .. } = replica.hand() {
         replica.commit(store)?;

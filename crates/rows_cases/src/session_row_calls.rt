@@ -164,7 +164,8 @@ fn tell_step<const W: u64>(
     if !may_write(row, read, &input) {
         return writeln!(told, "not ready");
     }
-    match row.commit(read, Entry { input, step }) {
+    let entry = Entry::new(step.effects.alloc(), input, step)?;
+    match row.commit(read, entry) {
         Ok(commit) => writeln!(told, "{commit:?}"),
         Err(_) => Err(AllocError),
     }
@@ -181,7 +182,7 @@ fn tell_write<const W: u64>(
     requires { AwaitsAtMostOne effects }
 {
     let session = row.session()?;
-    tell_step(row, read, input, Step { session, effects }, told)
+    tell_step(row, read, input, Step::new(session, effects)?, told)
 }
 
 fn tell_settled<const W: u64>(
@@ -304,7 +305,7 @@ fn tell_session(
     requires { IsSession session }
 {
     let effects = effects(alloc, "plain")?;
-    tell_step(row, 0, message(1), Step { session, effects }, told)
+    tell_step(row, 0, message(1), Step::new(session, effects)?, told)
 }
 
 /// The octets before and behind a write of an idle session, and behind a stale one of the opening session.

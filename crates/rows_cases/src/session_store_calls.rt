@@ -133,10 +133,7 @@ fn first(alloc: Global) -> Result<Entry, AllocError>
         enb: 7,
         body: Body::Service,
     };
-    Ok(Entry {
-        input: Input::Message(message),
-        step: Step { session, effects },
-    })
+    Entry::new(alloc, Input::Message(message), Step::new(session, effects)?)
 }
 
 /// Writes the first message of a device for version 0, and tells what comes of it.

@@ -227,10 +227,7 @@ pub fn second_step(
 {
     let mut own = session.copy()?;
     match (second_step_in_place(row, &mut own, input)?, base) {
-        (Some(effects), _) => Ok(Some(Step {
-            session: own,
-            effects,
-        })),
+        (Some(effects), _) => Ok(Some(Step::new(own, effects)?)),
         (None, Some(step)) => Ok(Some(change(session, input, step)?)),
         (None, None) => Ok(None),
     }
@@ -240,12 +237,10 @@ pub fn second_step(
 fn change(before: &Session, input: &Input, step: Step) -> Result<Step, AllocError>
     ensures { IfOk result (λ all. all ≡ changed before.now input.now step) }
 {
-    let Step {
-        mut session,
-        effects,
-    } = step;
+    let Step { session, effects } = step;
+    let mut session = session.get().copy()?;
     let effects = change_step(before, &mut session, input, effects)?;
-    Ok(Step { session, effects })
+    Step::new(session, effects)
 }
 
 fn change_by_message(

@@ -45,7 +45,7 @@ pub fn service_step(session: &Session, input: &Input) -> Result<Option<Step>, Al
     let Some(effects) = service_step_in_place(&mut session, input)? else {
         return Ok(None);
     };
-    Ok(Some(Step { session, effects }))
+    Ok(Some(Step::new(session, effects)?))
 }
 
 fn on_message(session: &mut Session, message: &Message) -> Result<Option<Effects>, AllocError>

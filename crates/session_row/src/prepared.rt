@@ -43,7 +43,7 @@ fn reply_for(
 ) -> Result<Option<Reply>, AllocError>
     ensures { IfOk result (λ reply. option_to_list reply ≡ (if is_message entry.now.input then reply_to number version entry.now ∷ [] else [])) }
 {
-    match &entry.input {
+    match entry.input.get() {
         Input::Message(_) => Ok(Some(Reply {
             number,
             version,
@@ -79,7 +79,7 @@ pub(crate) fn prepare(
     let alloc = *journal.allocator();
     let version = journal.len() as u64 + 1;
     Ok(Prepared {
-        session: write_session(alloc, &entry.step.session)?,
+        session: write_session(alloc, entry.step.session.get())?,
         effects: entry.step.effects.copy()?,
         reply: reply_for(alloc, taken + 1, version, entry)?,
     })

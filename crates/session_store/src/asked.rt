@@ -1,6 +1,6 @@
 //! What a store is asked about a row, and what it tells.
 
-use device_types::{Lane, Look, Reply, Session, TryCopy};
+use device_types::{Lane, Look, Reply, Session, Shared, TryCopy};
 
 /// An input, by its number, about which a row is asked.
 #[derive(Clone, Copy, Debug, PartialEq, Eq)]
@@ -17,7 +17,7 @@ pub struct Seen {
     /// How many steps were committed.
     pub version: u64,
     /// The session of the last step, or the opening one.
-    pub session: Session,
+    pub session: Shared<Session>,
     /// What the row says to the input.
     pub look: Look,
     /// The kept reply to the message, where the look says that it is a repeat.

@@ -4,7 +4,7 @@ ghost use Rattle.session_store.specs.Seen.{IsAsked, IsRepeat, look_to, repeated_
 
 use crate::asked::{Asked, Peeked, Seen};
 use crate::shard::DeviceRow;
-use device_types::{Look, Reply, TryCopy};
+use device_types::{Look, Reply, Shared, TryCopy};
 use std::alloc::AllocError;
 
 /// What the row says to an input.
@@ -53,6 +53,7 @@ pub(crate) fn seen_of(row: &DeviceRow, asked: Asked) -> Result<Seen, AllocError>
     ensures told { IfOk result (λ seen. IsSome seen.reply ↔ IsRepeat seen.look) }
 {
     let session = row.session()?;
+    let session = Shared::new(session.alloc(), session)?;
     let Peeked {
         version,
         look,

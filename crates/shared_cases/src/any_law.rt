@@ -61,11 +61,6 @@ pub(crate) fn first_entry(alloc: Global) -> Result<Entry, AllocError>
         enb: 7,
         body: Body::Service,
     };
-    Ok(Entry {
-        input: Input::Message(message),
-        step: Step {
-            session: Session::opening(alloc),
-            effects,
-        },
-    })
+    let step = Step::new(Session::opening(alloc), effects)?;
+    Entry::new(alloc, Input::Message(message), step)
 }

@@ -46,7 +46,7 @@ pub fn tau_step(
     let Some(effects) = tau_step_in_place(row, &mut session, input)? else {
         return Ok(None);
     };
-    Ok(Some(Step { session, effects }))
+    Ok(Some(Step::new(session, effects)?))
 }
 
 fn on_message(

@@ -567,7 +567,7 @@ fn write_link(text: &mut String, old: Link, new: Link) -> Result<(), AllocError>
 
 /// What a step changes, and what it makes, put behind the text.
 fn tell_step(text: &mut String, old: &Session, step: &Step) -> Result<(), AllocError> {
-    write_changes(text, old, &step.session)?;
+    write_changes(text, old, step.session.get())?;
     text.push_str(" |")?;
     write_effects(text, step.effects.items())
 }

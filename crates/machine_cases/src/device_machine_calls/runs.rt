@@ -180,7 +180,7 @@ fn steps(alloc: Global, row: &Subscriber, messages: &[Message]) -> Result<String
 {
     let mut text = String::new(alloc);
     for step in alone(row, messages)? {
-        write!(text, "{:?} |", step.session.stage)?;
+        write!(text, "{:?} |", step.session.get().stage)?;
         write_effects(&mut text, step.effects.items())?;
         text.push('\n')?;
     }

@@ -1,4 +1,4 @@
-use Rattle.std.proofs.Common.{◌+◌, refl, sym, ap, ◌∙◌, arith}
+use Rattle.std.proofs.Common.{◌+◌, ◌++◌, ◌∷◌, [], refl, sym, ap, ◌∙◌, arith}
 use Rattle.device_types.specs.declared.effect.Effect.TheVariants as effects
 use Rattle.device_types.specs.declared.event.Lane.TheVariants as lanes
 use Rattle.device_types.specs.StepTable.{step_of}
@@ -19,5 +19,6 @@ pub returns-clause-more : goal.returns-clause-more
 returns-clause-more c = λ _.
     let session = session_is c.args.row.now c.args.messages.now c.args.v c.args.self.now c.session.result.now c.requires.course c.session.ensures in
     let step = c.in_ok-step.ensures.step ∙ ap (λ s. step_of c.args.row.now s c.in-Some.input) session in
+    let entries = c.in_ok-push.ensures.ok ∙ ap (λ entry. c.args.self.now.entries ++ entry ∷ []) c.in_ok-new.ensures in
     goes_on c.args.row.now c.args.messages.now c.args.v c.args.self.now _ c.in-Some.input c.in_ok-step.step c.requires.course (sym c.in-Some.is ∙ c.in_ok-input.ensures) step
-    refl c.in_ok-push.ensures.ok (ap (λ n. c.args.self.now.taken + n) c.messages_in.ensures.value) c.in_ok-offer_all.ensures.gateway c.in_ok-offer_all.ensures.server c.in_ok-offer_all.ensures.sizes
+    refl entries (ap (λ n. c.args.self.now.taken + n) c.messages_in.ensures.value) c.in_ok-offer_all.ensures.gateway c.in_ok-offer_all.ensures.server c.in_ok-offer_all.ensures.sizes

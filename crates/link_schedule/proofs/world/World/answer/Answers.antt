@@ -84,6 +84,6 @@ invariant_of-self-2 c =
       charter = c.self.invariant.charter;
       caches = caches_kept (arc_value c.self.inside.law.charter) replicas (c.args.r - 1) c.index_mut.result.now c.take.new.self c.self.invariant.caches
           (replica_within w.setting H w.parts replicas c.args.r refl (i.0.0, c.if-r-self.false) c.self.invariant.world.parts) c.index_mut.ensures.value (ap (λ (x : ReplicaState). x.cache) c.take.ensures);
-      world = notes_hand w e told.Taken c.args.r replicas c.take.new.self (hands.Taken d (inputs.Answer l c.args.k c.in-Some.answer)) _ (ap (λ (x : ReplicaState). x.hand) c.take.ensures) c.noted-2.ensures.events c.self.invariant.world i given
+      world = notes_hand w e told.Taken c.args.r replicas c.take.new.self (hands.Taken d (inputs.Answer l c.args.k c.in-Some.answer)) _ (ap (λ (x : ReplicaState). x.hand) c.take.ensures ∙ ap (hands.Taken d) c.in_ok-input.ensures) c.noted-2.ensures.events c.self.invariant.world i given
           (takes_answer w.setting H w.parts c.args.r d l c.args.k c.in-Some.answer both.1 (le_of c.args.k (accepted d.0 l H) both.0) (i.0.0, c.if-r-self.false) c.self.invariant.world.parts);
     }
