@@ -59,6 +59,7 @@ impl<'a> Words<'a> {
     }
 
     /// The next word, if there is one.
+    #[inline(always)]
     pub(crate) fn word(&mut self) -> Option<&'a [u8]>
         ensures { GivesSomeBy (λ word. word.now) result self.new (word_at self.old) }
     {

@@ -10,7 +10,7 @@ ghost use Rattle.device_types.specs.declared.session.Second.TheVariants as secon
 
 use attach_proc::attach_step_in_place;
 use detach_proc::detach_step_in_place;
-use device_types::{Effects, Input, Second, Session, Step, Subscriber, TryCopy};
+use device_types::{Effects, Input, Second, Session, Shared, Step, Subscriber, TryCopy};
 use second_proc::{change_step, second_step_in_place};
 use service_proc::service_step_in_place;
 use std::alloc::AllocError;
@@ -46,19 +46,19 @@ pub fn step_in_place(
         return Ok(Effects::new(session.alloc()));
     };
     match before {
-        Some(before) => change_step(&before, session, input, effects),
+        Some(before) => change_step(before.get(), session, input, effects),
         None => Ok(effects),
     }
 }
 
 /// The session, where it has a second connection.
-fn with_second(session: &Session) -> Result<Option<Session>, AllocError>
+fn with_second(session: &Session) -> Result<Option<Shared<Session>>, AllocError>
     ensures { IfOk result (λ copy. copy ≡ (if second_at seconds.None session.now then None else Some session.now)) }
 {
     if session.is_second_at(Second::None) {
         return Ok(None);
     }
-    Ok(Some(session.copy()?))
+    Ok(Some(Shared::new(session.alloc(), session.copy()?)?))
 }
 
 /// The session takes the step of the one procedure that has a row for the input, if one has. For want of memory it may have changed.

@@ -5,7 +5,7 @@ use std::alloc::AllocError;
 
 /// A value that is copied exactly: its clone is equal to it, in contracts too.
 pub trait TryCopy: Clone {
-    /// The same value, in memory of its own. It fails for want of memory alone.
+    /// The same value, in memory of its own but for what is `Shared`. It fails for want of memory alone.
     final fn copy(&self) -> Result<Self, AllocError>
         ensures { IfOk result (λ copy. copy ≡ self.now) }
     {

@@ -81,6 +81,7 @@ impl Replica {
     }
 
     /// It holds that, and not what it held before.
+    #[inline(always)]
     fn hold(&mut self, hand: Hand)
         ensures { self.new ≡ record self.old { hand = hand } }
     {
