@@ -151,12 +151,12 @@ fn tell(
     text: &mut String,
     row: &Subscriber,
     name: &str,
-    down: &Down,
+    down: Down,
 ) -> Result<(), Fail>
     requires row { IsSubscriber row.now }
-    requires down { IsDown row.now down.now }
+    requires down { IsDown row.now down }
 {
-    let octets = down_bytes(alloc, row, down)?;
+    let octets = down_bytes(alloc, row, &down)?;
     let digits = hex::encode(alloc, octets.octets())?;
     writeln!(text, "{name}: {digits}")?;
     Ok(())
@@ -169,15 +169,15 @@ fn tell_messages(alloc: Global, text: &mut String, row: &Subscriber) -> Result<(
     let (station, enb) = (3, SMALL);
     let nas = NasOut::AuthReject;
     let down = Down::Nas { station, enb, nas };
-    tell(alloc, text, row, "AUTHENTICATION REJECT", &down)?;
+    tell(alloc, text, row, "AUTHENTICATION REJECT", down)?;
     let enb = LARGE;
     let nas = NasOut::AreaReject { cause: 12 };
     let down = Down::Nas { station, enb, nas };
-    tell(alloc, text, row, "TRACKING AREA UPDATE REJECT", &down)?;
+    tell(alloc, text, row, "TRACKING AREA UPDATE REJECT", down)?;
     let enb = SMALL;
     let nas = NasOut::PdnReject { pti: 9, cause: 27 };
     let down = Down::Nas { station, enb, nas };
-    tell(alloc, text, row, "PDN CONNECTIVITY REJECT", &down)
+    tell(alloc, text, row, "PDN CONNECTIVITY REJECT", down)
 }
 
 /// Tells contexts that are set up.
@@ -185,10 +185,10 @@ fn tell_setups(alloc: Global, text: &mut String, row: &Subscriber) -> Result<(),
     requires { IsSubscriber row.now }
 {
     let down = set_up_and_accepted(row)?;
-    tell(alloc, text, row, "set up, accepted", &down)?;
-    tell(alloc, text, row, "set up", &set_up())?;
-    tell(alloc, text, row, "set up, both", &set_up_both(row)?)?;
-    tell(alloc, text, row, "added", &added(row)?)
+    tell(alloc, text, row, "set up, accepted", down)?;
+    tell(alloc, text, row, "set up", set_up())?;
+    tell(alloc, text, row, "set up, both", set_up_both(row)?)?;
+    tell(alloc, text, row, "added", added(row)?)
 }
 
 /// A cause.
@@ -208,11 +208,11 @@ fn tell_releases(alloc: Global, text: &mut String, row: &Subscriber) -> Result<(
     requires { IsSubscriber row.now }
 {
     let down = released(SMALL, cause(2, false, 1));
-    tell(alloc, text, row, "released, root", &down)?;
+    tell(alloc, text, row, "released, root", down)?;
     let down = released(SMALL, cause(0, true, 5));
-    tell(alloc, text, row, "released, extended", &down)?;
+    tell(alloc, text, row, "released, extended", down)?;
     let down = released(LARGE, cause(2, true, 63));
-    tell(alloc, text, row, "released, last", &down)
+    tell(alloc, text, row, "released, last", down)
 }
 
 /// A paging in the device's area.
@@ -225,15 +225,21 @@ fn paged() -> Down
     }
 }
 
+/// Tells all that goes down to the device of the row.
+fn tell_downs(alloc: Global, text: &mut String, row: &Subscriber) -> Result<(), Fail>
+    requires { IsSubscriber row.now }
+{
+    tell_messages(alloc, text, row)?;
+    tell_setups(alloc, text, row)?;
+    tell_releases(alloc, text, row)?;
+    tell(alloc, text, row, "paged", paged())
+}
+
 #[test]
 fn downs_have_their_octets(rt: HostRuntime) -> Result<(), Fail> {
     let alloc = rt.alloc();
-    let row = read_row(alloc, ROW.as_bytes(), 2)?;
     let mut text = String::new(alloc);
-    tell_messages(alloc, &mut text, &row)?;
-    tell_setups(alloc, &mut text, &row)?;
-    tell_releases(alloc, &mut text, &row)?;
-    tell(alloc, &mut text, &row, "paged", &paged())?;
+    tell_downs(alloc, &mut text, &read_row(alloc, ROW.as_bytes(), 2)?)?;
     assert_eq!(rt; text.as_str(), DOWNS);
     Ok(())
 }

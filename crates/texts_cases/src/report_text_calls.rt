@@ -1,10 +1,11 @@
 //! The final text of two devices. The octets are worked out from the standards, not taken from the program.
-ghost use Rattle.std.specs.Prelude.{◌^◌, ◌<◌, All, IfOk, OnOk};
+ghost use Rattle.std.specs.Prelude.{◌≡◌, ◌+◌, ◌++◌, ◌∷◌, [], ◌^◌, ◌<◌, length, All, IfOk, OnOk};
 ghost use Rattle.device_types.specs.Cause.{IsCauseCode};
 ghost use Rattle.device_types.specs.Down.{IsDown};
 ghost use Rattle.device_types.specs.Finals.{IsEndOf};
 ghost use Rattle.device_types.specs.Subscriber.{IsSubscriber};
 ghost use Rattle.device_types.specs.declared.subscriber.Subscriber.{Subscriber};
+ghost use Rattle.report_text.specs.Final.{AreEnds};
 
 use device_types::*;
 use echo_base::{Reason, Refusal};
@@ -240,18 +241,42 @@ fn released(alloc: Global, row: &Subscriber) -> Result<DeviceEnd, Fail>
     })
 }
 
-#[test]
+/// Adds a device with what became of it.
+fn add(
+    table: &mut SubsTable,
+    finals: &mut Finals,
+    row: Subscriber,
+    end: DeviceEnd,
+) -> Result<(), Fail>
+    requires number { row.number ≡ length table.old + 1 }
+    requires ranges { IsSubscriber row }
+    ensures table { OnOk result (table.new ≡ table.old ++ row ∷ []) }
+    ensures finals { OnOk result (finals.new ≡ finals.old ++ end ∷ []) }
+{
+    finals.push(end)?;
+    table.add(row)?;
+    Ok(())
+}
+
+/// Adds both devices.
 #[tactic(auto, using(crate::proofs::Ends::two_ends))]
-fn text_of_two_devices(rt: HostRuntime) -> Result<(), Fail> {
-    let alloc = rt.alloc();
-    let mut table = SubsTable::new(alloc);
-    let first = read_row(alloc, FIRST.as_bytes(), 1)?;
-    let second = read_row(alloc, SECOND.as_bytes(), 2)?;
-    let mut finals = Finals::new(alloc);
-    finals.push(attached(alloc, &first)?)?;
-    finals.push(released(alloc, &second)?)?;
-    table.add(first)?;
-    table.add(second)?;
+fn add_both(alloc: Global, table: &mut SubsTable, finals: &mut Finals) -> Result<(), Fail>
+    requires table { table.old ≡ [] }
+    requires finals { finals.old ≡ [] }
+    ensures { OnOk result (AreEnds table.new finals.new) }
+{
+    let row = read_row(alloc, FIRST.as_bytes(), 1)?;
+    let end = attached(alloc, &row)?;
+    add(table, finals, row, end)?;
+    let row = read_row(alloc, SECOND.as_bytes(), 2)?;
+    let end = released(alloc, &row)?;
+    add(table, finals, row, end)
+}
+
+/// Tells the text of these devices by itself, and then behind a line that is there.
+fn tell(alloc: Global, told: &mut String, table: &SubsTable, finals: &Finals) -> Result<(), Fail>
+    requires { AreEnds table.now finals.now }
+{
     let refused = [RefusedLine {
         line: 9,
         refusal: Refusal {
@@ -259,11 +284,22 @@ fn text_of_two_devices(rt: HostRuntime) -> Result<(), Fail> {
             place: 0,
         },
     }];
-    let text = final_text(alloc, &table, &refused, &finals)?;
-    assert_eq!(rt; text.octets(), FINAL.as_bytes());
-    let mut text = String::new(alloc);
-    text.push_str("event 1: sent\n")?;
-    put_final_text(alloc, &mut text, &table, &refused, &finals)?;
-    assert_eq!(rt; text.as_str().strip_prefix("event 1: sent\n"), Some(FINAL));
+    let text = final_text(alloc, table, &refused, finals)?;
+    told.push_str(str::from_utf8(text.octets())?)?;
+    told.push_str("event 1: sent\n")?;
+    put_final_text(alloc, told, table, &refused, finals)?;
+    Ok(())
+}
+
+#[test]
+fn text_of_two_devices(rt: HostRuntime) -> Result<(), Fail> {
+    let alloc = rt.alloc();
+    let mut table = SubsTable::new(alloc);
+    let mut finals = Finals::new(alloc);
+    add_both(alloc, &mut table, &mut finals)?;
+    let mut told = String::new(alloc);
+    tell(alloc, &mut told, &table, &finals)?;
+    let texts = told.as_str().split_once("event 1: sent\n");
+    assert_eq!(rt; texts, Some((FINAL, FINAL)));
     Ok(())
 }

@@ -1,8 +1,10 @@
 //! The lines of a device's streams.
 
-use device_types::{Second, Session};
+use device_types::{Octets, Second, Session};
+use echo_base::OutOfMemory;
 use epoch_agents::{EpochAnswer, Merged};
 use report_text::{epoch_line, merge_line, session_line};
+use std::alloc::Global;
 use std::test::Fail;
 
 /// A line for each answer of `answer`, in its order, then a committed message, and the line of a session, which has none of its second
@@ -41,25 +43,33 @@ fn answer(number: u64) -> EpochAnswer {
     }
 }
 
+/// Puts a line behind those that were told.
+fn put(told: &mut String, line: Octets) -> Result<(), Fail> {
+    told.push_str(str::from_utf8(line.octets())?)?;
+    Ok(())
+}
+
+/// The line of a session with a second connection.
+fn line_of_session(alloc: Global) -> Result<Octets, OutOfMemory> {
+    let mut session = Session::opening(alloc);
+    session.second = Second::Active;
+    session_line(alloc, &session)
+}
+
 #[test]
 fn tells_streams(rt: HostRuntime) -> Result<(), Fail> {
     let alloc = rt.alloc();
     let mut told = String::new(alloc);
     for number in 1..=12 {
-        let line = epoch_line(alloc, number, answer(number))?;
-        told.push_str(str::from_utf8(line.octets())?)?;
+        put(&mut told, epoch_line(alloc, number, answer(number))?)?;
     }
     let entry = Merged {
         a: 9,
         stamp: 6,
         n: 5,
     };
-    let line = merge_line(alloc, 65535, 4, entry)?;
-    told.push_str(str::from_utf8(line.octets())?)?;
-    let mut session = Session::opening(alloc);
-    session.second = Second::Active;
-    let line = session_line(alloc, &session)?;
-    told.push_str(str::from_utf8(line.octets())?)?;
+    put(&mut told, merge_line(alloc, 65535, 4, entry)?)?;
+    put(&mut told, line_of_session(alloc)?)?;
     assert_eq!(rt; told.as_str(), LINES);
     Ok(())
 }

@@ -187,35 +187,30 @@ fn steps(alloc: Global, row: &Subscriber, messages: &[Message]) -> Result<String
     Ok(text)
 }
 
+/// What the machine alone makes of the messages of these lines.
+fn told(alloc: Global, lines: &str) -> Result<String, Fail> {
+    let row = subscriber(alloc)?;
+    let messages = messages(alloc, lines)?;
+    if messages.len() > 30 {
+        return Err(Fail::new("more than 30 messages"));
+    }
+    Ok(steps(alloc, &row, &messages)?)
+}
+
 #[test]
 fn a_device_comes_and_goes(rt: HostRuntime) -> Result<(), Fail> {
-    let alloc = rt.alloc();
-    let row = subscriber(alloc)?;
-    let messages = messages(alloc, MESSAGES)?;
-    assert!(rt; messages.len() < 30);
-    let steps = steps(alloc, &row, &messages)?;
-    assert_eq!(rt; steps.as_str(), STEPS);
+    assert_eq!(rt; told(rt.alloc(), MESSAGES)?.as_str(), STEPS);
     Ok(())
 }
 
 #[test]
 fn a_second_connection_comes_and_goes(rt: HostRuntime) -> Result<(), Fail> {
-    let alloc = rt.alloc();
-    let row = subscriber(alloc)?;
-    let messages = messages(alloc, TWO_MESSAGES)?;
-    assert!(rt; messages.len() < 30);
-    let steps = steps(alloc, &row, &messages)?;
-    assert_eq!(rt; steps.as_str(), TWO_STEPS);
+    assert_eq!(rt; told(rt.alloc(), TWO_MESSAGES)?.as_str(), TWO_STEPS);
     Ok(())
 }
 
 #[test]
 fn a_second_connection_is_gone_with_an_attach(rt: HostRuntime) -> Result<(), Fail> {
-    let alloc = rt.alloc();
-    let row = subscriber(alloc)?;
-    let messages = messages(alloc, ANEW_MESSAGES)?;
-    assert!(rt; messages.len() < 30);
-    let steps = steps(alloc, &row, &messages)?;
-    assert_eq!(rt; steps.as_str(), ANEW_STEPS);
+    assert_eq!(rt; told(rt.alloc(), ANEW_MESSAGES)?.as_str(), ANEW_STEPS);
     Ok(())
 }
