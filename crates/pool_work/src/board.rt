@@ -1,6 +1,6 @@
 //! What the threads tell one another, besides what goes through the channel. No clause rests on it.
 
-use device_types::DeviceId;
+use device_types::{DeviceId, Lane};
 use std::alloc::{AllocError, Global};
 use std::sync::Wait;
 use std::sync::atomic::{AtomicU64, Ordering};
@@ -102,6 +102,15 @@ impl Made {
         gateway: 0,
         subscriber: 0,
     };
+
+    /// How many of one lane.
+    pub(crate) fn on(&self, lane: Lane) -> u64 {
+        match lane {
+            Lane::Down => self.down,
+            Lane::Gateway => self.gateway,
+            Lane::Subscriber => self.subscriber,
+        }
+    }
 }
 
 /// What a write tells of its device.
@@ -111,8 +120,8 @@ pub(crate) struct News {
     pub(crate) taken: Option<u64>,
     /// How many steps were committed.
     pub(crate) version: u64,
-    /// No answer is awaited.
-    pub(crate) rests: bool,
+    /// The lane of the call whose answer is awaited, if one is.
+    pub(crate) awaits: Option<Lane>,
     /// The effects of the step.
     pub(crate) made: Made,
 }
@@ -233,7 +242,7 @@ impl Board {
             if let Some(number) = news.taken {
                 told.taken.fetch_max(number, Ordering::SeqCst);
             }
-            let rests = if news.rests { 1 } else { 0 };
+            let rests = if news.awaits.is_none() { 1 } else { 0 };
             let status = news.version.saturating_mul(2).saturating_add(rests);
             told.status.fetch_max(status, Ordering::SeqCst);
             told.add(news.made);

@@ -6,6 +6,7 @@ ghost use Rattle.session_store.specs.Rows.{IsDevice};
 ghost use Rattle.pool_work.specs.Packets.{IsPacket};
 ghost use Rattle.pool_work.specs.Stores.{Kept, TakesOver};
 
+use crate::board::News;
 use crate::bring::bring;
 use crate::gate::Gate;
 use crate::line::{Packet, message_at};
@@ -96,7 +97,7 @@ impl<'a, P: SharedCalls, R: Wait, G: Gate> Runner<'a, P, R, G> {
         }
     }
 
-    /// Deals with the input that a device of which so many messages were taken waits for. It tells whether it has written.
+    /// Deals with the input that a device of which so many messages were taken waits for, and gives what it told of the write.
     pub(crate) fn advance<T: SharedRows>(
         &self,
         replica: &mut Replica,
@@ -104,7 +105,7 @@ impl<'a, P: SharedCalls, R: Wait, G: Gate> Runner<'a, P, R, G> {
         seat: &mut P::Seat,
         d: DeviceId,
         taken: u64,
-    ) -> Result<bool, AllocError>
+    ) -> Result<Option<News>, AllocError>
         requires charter { self.now.worker.charter.now ≡ T.charter store.old.rows }
         requires peers { P.charter self.now.peers.now ≡ T.charter store.old.rows }
         requires device { IsDevice (length (P.charter self.now.peers.now).rows) d.0 }
@@ -116,19 +117,52 @@ impl<'a, P: SharedCalls, R: Wait, G: Gate> Runner<'a, P, R, G> {
     {
         match self.missing(store, seat, d, taken)? {
             Some(packet) => self.worker.deal(replica, store, packet),
-            None => Ok(false),
+            None => Ok(None),
         }
     }
 
-    /// Goes on with a device after so many inputs, where there is one to go on with.
-    fn go_on<T: SharedRows>(
+    /// The input that a device waits for behind a write of this thread, by what all have told: the answer to the call of that write, or
+    /// the next message.
+    fn next<T: SharedRows>(
+        &self,
+        store: &mut SeatStore<'_, T, R>,
+        seat: &mut P::Seat,
+        d: DeviceId,
+        news: News,
+    ) -> Result<Option<Packet>, AllocError>
+        requires charter { self.now.worker.charter.now ≡ T.charter store.old.rows }
+        requires peers { P.charter self.now.peers.now ≡ T.charter store.old.rows }
+        requires device { IsDevice (length (P.charter self.now.peers.now).rows) d.0 }
+        requires seat { P.is_seat self.now.peers.now seat.old }
+        ensures store { Kept T.speaks T.known store.old store.new }
+        ensures seat { TakesOver (P.is_seat self.now.peers.now) P.speaks seat.old seat.new }
+        ensures packet { IfOk result (λ packet. IfSome packet (IsPacket (P.charter self.now.peers.now))) }
+    {
+        let board = self.worker.board;
+        match news.awaits {
+            None => message_at(self.worker.charter, d, board.taken(d)),
+            Some(lane) => fetch(
+                self.rt,
+                store,
+                self.peers,
+                seat,
+                d,
+                lane,
+                board.made(d).on(lane),
+            ),
+        }
+    }
+
+    /// Deals with that input, and gives what it told of the write. None where another thread was at the device too, so that it was not
+    /// that one.
+    fn take_next<T: SharedRows>(
         &self,
         replica: &mut Replica,
         store: &mut SeatStore<'_, T, R>,
         seat: &mut P::Seat,
         d: DeviceId,
-        dealt: u32,
-    ) -> Result<bool, AllocError>
+        news: News,
+    ) -> Result<Option<News>, AllocError>
         requires charter { self.now.worker.charter.now ≡ T.charter store.old.rows }
         requires peers { P.charter self.now.peers.now ≡ T.charter store.old.rows }
         requires device { IsDevice (length (P.charter self.now.peers.now).rows) d.0 }
@@ -138,11 +172,38 @@ impl<'a, P: SharedCalls, R: Wait, G: Gate> Runner<'a, P, R, G> {
         ensures seat { TakesOver (P.is_seat self.now.peers.now) P.speaks seat.old seat.new }
         ensures remembers { AreSessionsOf (T.charter store.new.rows) replica.new.cache }
     {
-        let board = self.worker.board;
-        if dealt >= GOES_ON && board.rests_at(d).is_some() {
-            return Ok(false);
+        match self.next(store, seat, d, news)? {
+            Some(packet) => self.worker.deal(replica, store, packet),
+            None => Ok(None),
         }
-        self.advance(replica, store, seat, d, board.taken(d))
+    }
+
+    /// Goes on with a device after so many inputs, the last of which told this, where there is one to go on with.
+    fn go_on<T: SharedRows>(
+        &self,
+        replica: &mut Replica,
+        store: &mut SeatStore<'_, T, R>,
+        seat: &mut P::Seat,
+        d: DeviceId,
+        dealt: u32,
+        news: News,
+    ) -> Result<Option<News>, AllocError>
+        requires charter { self.now.worker.charter.now ≡ T.charter store.old.rows }
+        requires peers { P.charter self.now.peers.now ≡ T.charter store.old.rows }
+        requires device { IsDevice (length (P.charter self.now.peers.now).rows) d.0 }
+        requires seat { P.is_seat self.now.peers.now seat.old }
+        requires remembers { AreSessionsOf (T.charter store.old.rows) replica.old.cache }
+        ensures store { Kept T.speaks T.known store.old store.new }
+        ensures seat { TakesOver (P.is_seat self.now.peers.now) P.speaks seat.old seat.new }
+        ensures remembers { AreSessionsOf (T.charter store.new.rows) replica.new.cache }
+    {
+        if dealt >= GOES_ON && news.awaits.is_none() {
+            return Ok(None);
+        }
+        match self.take_next(replica, store, seat, d, news)? {
+            Some(news) => Ok(Some(news)),
+            None => self.advance(replica, store, seat, d, self.worker.board.taken(d)),
+        }
     }
 
     /// Deals with an input, and goes on with its device: brings the calls whose answers are awaited, and takes the next messages. It
@@ -164,14 +225,14 @@ impl<'a, P: SharedCalls, R: Wait, G: Gate> Runner<'a, P, R, G> {
         ensures remembers { AreSessionsOf (T.charter store.new.rows) replica.new.cache }
     {
         let d = packet.d;
-        let mut more = self.worker.deal(replica, store, packet)?;
+        let mut told = self.worker.deal(replica, store, packet)?;
         let mut dealt = 0u32;
         for _ in self.rt.forever() {
-            if !more {
+            let Some(news) = told else {
                 return Ok(());
-            }
+            };
             dealt = dealt.saturating_add(1);
-            more = self.go_on(replica, store, seat, d, dealt)?;
+            told = self.go_on(replica, store, seat, d, dealt, news)?;
         }
         unreachable!()
     }

@@ -58,20 +58,20 @@ fn news_of(hand: &Hand) -> Option<News>
             Input::Answer { .. } => None,
         },
         version: version.saturating_add(1),
-        rests: awaited(&entry.step).is_none(),
+        awaits: awaited(&entry.step),
         made: made_of(entry.step.effects.items()),
     })
 }
 
 impl<'a, G: Gate> Worker<'a, G> {
-    /// Writes the step that the replica holds. False where another has written first.
+    /// Writes the step that the replica holds, and gives what it tells. None where another has written first.
     fn write<T: SharedRows, R: Wait>(
         &self,
         replica: &mut Replica,
         store: &mut SeatStore<'_, T, R>,
         d: DeviceId,
         news: News,
-    ) -> Result<bool, AllocError>
+    ) -> Result<Option<News>, AllocError>
         requires ready { IsReady replica.old.hand }
         requires may { MayWrite (T.charter store.old.rows) (length (T.charter store.old.rows).rows) (λ i. seen_of_alone (T.charter store.old.rows) i (T.known store.old.seat i).journal) replica.old.hand }
         requires remembers { AreSessionsOf (T.charter store.old.rows) replica.old.cache }
@@ -83,22 +83,23 @@ impl<'a, G: Gate> Worker<'a, G> {
             Commit::Committed(_) => {
                 self.board.tell(d, news);
                 self.gate.pass(self.number, d, Point::Committed);
-                Ok(true)
+                Ok(Some(news))
             }
             Commit::Stale { .. } => {
                 self.gate.pass(self.number, d, Point::Stale);
-                Ok(false)
+                Ok(None)
             }
         }
     }
 
-    /// Deals with one input: takes it, reads the row, and writes the step if the row was ready. It tells whether it has written.
+    /// Deals with one input: takes it, reads the row, and writes the step if the row was ready. It gives what it told of the write, if
+    /// it has written.
     pub(crate) fn deal<T: SharedRows, R: Wait>(
         &self,
         replica: &mut Replica,
         store: &mut SeatStore<'_, T, R>,
         packet: Packet,
-    ) -> Result<bool, AllocError>
+    ) -> Result<Option<News>, AllocError>
         requires charter { self.now.charter.now ≡ T.charter store.old.rows }
         requires packet { IsPacket self.now.charter.now packet }
         requires remembers { AreSessionsOf (T.charter store.old.rows) replica.old.cache }
@@ -111,7 +112,7 @@ impl<'a, G: Gate> Worker<'a, G> {
         replica.read(row, store)?;
         match news_of(replica.hand()) {
             Some(news) => self.write(replica, store, d, news),
-            None => Ok(false),
+            None => Ok(None),
         }
     }
 }
