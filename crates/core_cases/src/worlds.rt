@@ -7,7 +7,7 @@ ghost use Rattle.link_schedule.specs.World.{IsShort};
 
 use crate::events::{case_text, happen_all, may_happen, put_wanted};
 use crate::messages::{attach, message};
-use case_form::read_case;
+use case_form::{Case, read_case};
 use device_types::{Body, Book, DeviceEnd, DeviceId, Event, Finals, Messages, Octets};
 use link_schedule::{Floor, OwnFloor, World};
 use std::alloc::{AllocError, Global};
@@ -369,18 +369,35 @@ fn opened(alloc: Global, table: &SubsTable, name: &str, replicas: u32) -> Result
     Ok(World::new(alloc, table, &book, replicas)?)
 }
 
+/// Puts what the events come to in a world behind the text. It takes all of them.
+fn tell_world(told: &mut String, mut world: World, events: &[Event]) -> Result<(), Fail> {
+    happen_all(&mut world, told, events)?;
+    if world.event_count() != events.len() as u64 {
+        return Err(Fail::from("not all events"));
+    }
+    Ok(())
+}
+
+/// Puts what the schedule of a case comes to behind the text, where device 1 has the messages of that name.
+fn tell_schedule(
+    alloc: Global,
+    told: &mut String,
+    case: &Case,
+    name: &str,
+    replicas: u32,
+) -> Result<(), Fail> {
+    let world = opened(alloc, case.table(), name, replicas)?;
+    tell_world(told, world, case.schedule())
+}
+
 /// Puts what the events of a schedule come to, behind its first line, behind the text.
 fn tell_answers(alloc: Global, told: &mut String, title: &str, lines: &str) -> Result<(), Fail> {
     let (name, rest) = title.split_once(" ").ok_or("no replicas")?;
     let (count, _) = rest.split_once(": ").ok_or("no title")?;
+    let replicas = count.parse::<u32>()?;
     let text = case_text(alloc, ROWS, lines)?;
     let case = read_case(alloc, text.as_bytes())?;
-    let mut world = opened(alloc, case.table(), name, count.parse::<u32>()?)?;
-    happen_all(&mut world, told, case.schedule())?;
-    if world.event_count() != case.schedule().len() as u64 {
-        return Err(Fail::from("not all events"));
-    }
-    Ok(())
+    tell_schedule(alloc, told, &case, name, replicas)
 }
 
 /// What the schedules come to, and what they are to come to.
@@ -568,18 +585,17 @@ Sent
 0 0 0 Detached
 ";
 
-/// What a floor comes to that settles twice, and is opened anew.
-fn told_floor(alloc: Global) -> Result<String, Fail> {
+/// Puts what a new floor comes to, which settles twice and is opened anew, behind the text.
+fn tell_new_floor(alloc: Global, told: &mut String) -> Result<(), Fail> {
     let text = case_text(alloc, ROWS, "")?;
     let case = read_case(alloc, text.as_bytes())?;
-    let mut told = String::new(alloc);
-    run(alloc, &mut OwnFloor::new(), case.table(), &mut told)?;
-    Ok(told)
+    run(alloc, &mut OwnFloor::new(), case.table(), told)
 }
 
 #[test]
 fn floor_settles(rt: HostRuntime) -> Result<(), Fail> {
-    let told = told_floor(rt.alloc())?;
+    let mut told = String::new(rt.alloc());
+    tell_new_floor(rt.alloc(), &mut told)?;
     assert_eq!(rt; told.as_str(), REJECTED);
     Ok(())
 }
