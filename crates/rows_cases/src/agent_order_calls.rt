@@ -1,6 +1,7 @@
 //! A line at both ends.
 ghost use Rattle.std.specs.Prelude.{◌≡◌, IfOk, length};
 
+use crate::words::two_words;
 use agent_order::Line;
 use device_types::{Body, Message, Messages};
 use std::alloc::{AllocError, Global};
@@ -71,8 +72,7 @@ fn tell_step(line: &mut Line, what: &str, n: u64, told: &mut String) -> Result<(
 
 fn tell_steps(line: &mut Line, told: &mut String) -> Result<(), Fail> {
     for step in STEPS.lines() {
-        let (what, rest) = step.split_once(" ").ok_or("no number")?;
-        let (n, _) = rest.split_once(" ").ok_or("no answer")?;
+        let (what, n) = two_words(step).ok_or("no step")?;
         tell_step(line, what, n.parse::<u64>()?, told)?;
     }
     Ok(())

@@ -1,6 +1,7 @@
 //! Windows of two, on lines of three and of five messages.
 ghost use Rattle.std.specs.Prelude.{◌≡◌};
 
+use crate::words::two_words;
 use agent_order::Line;
 use agent_resend::Window;
 use device_types::{Body, CauseCode, Down, Effects, Message, Messages, Reply};
@@ -138,8 +139,7 @@ fn tell_steps(
     told: &mut String,
 ) -> Result<(), Fail> {
     for step in steps.lines() {
-        let (what, rest) = step.split_once(" ").ok_or("no number")?;
-        let (n, _) = rest.split_once(" ").ok_or("no answer")?;
+        let (what, n) = two_words(step).ok_or("no step")?;
         tell_step(alloc, window, what, n.parse::<u64>()?, told)?;
     }
     Ok(())

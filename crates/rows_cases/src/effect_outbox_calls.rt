@@ -1,5 +1,6 @@
 //! Three lanes from their first effect to their last.
 
+use crate::words::three_words;
 use device_types::{CauseCode, Down, Effect, Effects, GwCall, Lane, SubCall};
 use effect_outbox::Outbox;
 use std::alloc::{AllocError, Global};
@@ -87,9 +88,7 @@ fn tell_step(
 
 fn tell_steps(outbox: &mut Outbox, told: &mut String) -> Result<(), Fail> {
     for step in STEPS.lines() {
-        let (what, rest) = step.split_once(" ").ok_or("no lane")?;
-        let (lane, rest) = rest.split_once(" ").ok_or("no number")?;
-        let (k, _) = rest.split_once(" ").ok_or("no answer")?;
+        let (what, lane, k) = three_words(step).ok_or("no step")?;
         tell_step(outbox, what, lane, k.parse::<u64>()?, told)?;
     }
     Ok(())

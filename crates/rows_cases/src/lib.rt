@@ -2,8 +2,8 @@
 //! of their own, so that the crates below are proved without them, and a test that is changed proves this crate alone. There is
 //! nothing else here.
 //!
-//! Each module has the calls of one crate. A test writes what came of each case into one text, which is compared once with the
-//! table of the cases.
+//! Each module but `words` has the calls of one crate. A test writes what came of each case into one text, which is compared once
+//! with the table of the cases.
 #![tactic(auto)]
 
 #[cfg(test)]
@@ -24,3 +24,5 @@ mod replica_worker_calls;
 mod session_row_calls;
 #[cfg(test)]
 mod session_store_calls;
+#[cfg(test)]
+mod words;

@@ -2,6 +2,7 @@
 ghost use Rattle.std.specs.Prelude.{◌≡◌, ◌≤◌, length, OnOk};
 ghost use Rattle.device_types.specs.Numbers.{IsWithin};
 
+use crate::words::three_words;
 use device_types::{Areas, DeviceId, GwCall, Octets, Subscriber};
 use peer_gateway::Gateway;
 use std::alloc::{AllocError, Global};
@@ -136,11 +137,9 @@ fn tell_offers(alloc: Global, gateway: &mut Gateway, told: &mut String) -> Resul
     ensures { OnOk result (length gateway.new ≡ 2) }
 {
     for offer in OFFERS.lines() {
-        let (device, rest) = offer.split_once(" ").ok_or("no number")?;
-        let (k, rest) = rest.split_once(" ").ok_or("no call")?;
-        let (word, _) = rest.split_once(" ").ok_or("no answer")?;
-        let row = row_of(alloc, device);
-        tell_offer(gateway, &row, k.parse::<u64>()?, word, told)?;
+        let (device, k, word) = three_words(offer).ok_or("no offer")?;
+        let k = k.parse::<u64>()?;
+        tell_offer(gateway, &row_of(alloc, device), k, word, told)?;
     }
     Ok(())
 }

@@ -2,6 +2,7 @@
 ghost use Rattle.std.specs.Prelude.{◌≡◌, ◌≤◌, length, IfOk, OnOk};
 ghost use Rattle.device_types.specs.Numbers.{IsWithin};
 
+use crate::words::three_words;
 use device_types::{Areas, DeviceId, Octets, SubCall, Subscriber};
 use peer_subscriber::SubscriberPeer;
 use std::alloc::{AllocError, Global};
@@ -119,11 +120,9 @@ fn tell_offers(alloc: Global, peer: &mut SubscriberPeer, told: &mut String) -> R
     ensures { OnOk result (length peer.new ≡ 2) }
 {
     for offer in OFFERS.lines() {
-        let (device, rest) = offer.split_once(" ").ok_or("no number")?;
-        let (k, rest) = rest.split_once(" ").ok_or("no call")?;
-        let (word, _) = rest.split_once(" ").ok_or("no answer")?;
-        let row = row_of(alloc, device)?;
-        tell_offer(peer, &row, k.parse::<u64>()?, word, told)?;
+        let (device, k, word) = three_words(offer).ok_or("no offer")?;
+        let k = k.parse::<u64>()?;
+        tell_offer(peer, &row_of(alloc, device)?, k, word, told)?;
     }
     Ok(())
 }

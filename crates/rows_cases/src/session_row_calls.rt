@@ -5,6 +5,7 @@ ghost use Rattle.device_types.specs.Session.{IsSession};
 ghost use Rattle.device_types.specs.declared.look.Look.TheVariants.{Ready};
 ghost use Rattle.session_row.specs.Row.{look_at, AwaitsAtMostOne};
 
+use crate::words::three_words;
 use device_types::{
     Answer, Body, CauseCode, Down, Effect, Effects, Entry, GwCall, Input, Lane, Look, Message,
     Session, Stage, Step, SubCall,
@@ -241,9 +242,7 @@ fn tell_came(
 /// Does what each step says, and writes it again with what came.
 fn tell_steps(alloc: Global, row: &mut Row<2>, told: &mut String) -> Result<(), Fail> {
     for step in STEPS.lines() {
-        let (what, rest) = step.split_once(" ").ok_or("no number")?;
-        let (a, rest) = rest.split_once(" ").ok_or("no number")?;
-        let (b, _) = rest.split_once(" ").ok_or("no answer")?;
+        let (what, a, b) = three_words(step).ok_or("no step")?;
         let (a, b) = (a.parse::<u64>()?, b.parse::<u64>()?);
         write!(told, "{what} {a} {b} ")?;
         tell_came(alloc, row, what, a, b, told)?;
