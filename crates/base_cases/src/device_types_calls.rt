@@ -197,6 +197,15 @@ fn vectors(alloc: Global) -> Result<Input, AllocError> {
     })
 }
 
+fn accept() -> Accept {
+    Accept::Yes {
+        plmn: 9,
+        tac: 10,
+        pti: 11,
+        ip: 12,
+    }
+}
+
 fn setup(alloc: Global) -> Result<Down, AllocError> {
     let key = key(alloc, 17)?;
     Ok(Down::Setup {
@@ -209,12 +218,7 @@ fn setup(alloc: Global) -> Result<Down, AllocError> {
         eea: 7,
         eia: 8,
         key,
-        accept: Accept::Yes {
-            plmn: 9,
-            tac: 10,
-            pti: 11,
-            ip: 12,
-        },
+        accept: accept(),
     })
 }
 
@@ -366,23 +370,22 @@ SecondCreated(42, 43, 44)
 SecondModified
 ";
 
+fn context_done(addr: u32, teid: u32, second: Option<Side>) -> Body {
+    Body::ContextDone { addr, teid, second }
+}
+
+fn second_done(addr: u32, teid: u32) -> Body {
+    Body::SecondDone { addr, teid }
+}
+
 /// The copies of the messages of a device for a second connection.
 fn put_second_messages(text: &mut String) -> Result<(), Fail> {
-    let (addr, teid, second) = (6, 7, None);
-    put(
-        text,
-        Ok(message(5, Body::ContextDone { addr, teid, second })),
-    )?;
-    let (addr, teid) = (9, 10);
-    let second = Some(Side { addr: 11, teid: 12 });
-    put(
-        text,
-        Ok(message(8, Body::ContextDone { addr, teid, second })),
-    )?;
+    put(text, Ok(message(5, context_done(6, 7, None))))?;
+    let second = Side { addr: 11, teid: 12 };
+    put(text, Ok(message(8, context_done(9, 10, Some(second)))))?;
     put(text, Ok(message(13, Body::PdnRequest { pti: 14 })))?;
     put(text, Ok(message(15, Body::PdnAccept)))?;
-    let (addr, teid) = (17, 18);
-    put(text, Ok(message(16, Body::SecondDone { addr, teid })))?;
+    put(text, Ok(message(16, second_done(17, 18))))?;
     put(text, Ok(message(19, Body::SecondRefused)))
 }
 
@@ -470,31 +473,34 @@ fn doubled<T: TryCopy>(alloc: Global, first: T, second: T) -> Result<ListOf<T>, 
 }
 
 /// Adds a line with the count of a list, and its values.
-fn put_list<T: Debug + Drop>(
-    text: &mut String,
-    list: Result<ListOf<T>, AllocError>,
-) -> Result<(), Fail> {
-    let list = list?;
+fn put_list<T: Debug + Drop>(text: &mut String, list: ListOf<T>) -> Result<(), Fail> {
     let count = list.items().len();
     let items = list.into_items();
     writeln!(text, "{count} {items:?}")?;
     Ok(())
 }
 
+/// Adds a line with a list of the first value twice and the second.
+fn put_doubled<T: TryCopy + Debug>(
+    text: &mut String,
+    alloc: Global,
+    first: T,
+    second: T,
+) -> Result<(), Fail> {
+    put_list(text, doubled(alloc, first, second)?)
+}
+
 #[test]
 fn lists_keep_their_items(rt: HostRuntime) -> Result<(), Fail> {
     let alloc = rt.alloc();
     let mut text = String::new(alloc);
-    put_list(&mut text, doubled(alloc, 7u8, 9))?;
-    put_list(&mut text, doubled(alloc, 7u16, 9))?;
-    put_list(
-        &mut text,
-        doubled(alloc, GwCall::Create, GwCall::Modify(1, 2)),
-    )?;
-    put_list(&mut text, doubled(alloc, SubCall::Vectors, SubCall::Purge))?;
+    put_doubled(&mut text, alloc, 7u8, 9)?;
+    put_doubled(&mut text, alloc, 7u16, 9)?;
+    put_doubled(&mut text, alloc, GwCall::Create, GwCall::Modify(1, 2))?;
+    put_doubled(&mut text, alloc, SubCall::Vectors, SubCall::Purge)?;
     let first = Effect::Gateway(GwCall::Create);
     let second = Effect::Subscriber(SubCall::Purge);
-    put_list(&mut text, doubled(alloc, first, second))?;
+    put_doubled(&mut text, alloc, first, second)?;
     assert_eq!(rt; text.as_str(), LISTS);
     Ok(())
 }

@@ -1,8 +1,7 @@
 //! Whole reads and writes over concrete sources and sinks, and the printed texts.
 use echo_base::{
-    Bad, Column, Give, Identity, MemSink, MemSource, OutOfMemory, ReadAll, RealSink, RealSource,
-    Reason, Refusal, Status, SureSource, WriteFault, decode_hex, encode_hex, read_all, read_hex,
-    refused, write_all,
+    Bad, Column, Give, Identity, MemSink, MemSource, OutOfMemory, RealSink, RealSource, Reason,
+    Refusal, Source, Status, SureSource, decode_hex, encode_hex, read_all, read_hex, write_all,
 };
 use std::alloc::Global;
 use std::fmt::Write as _;
@@ -25,13 +24,23 @@ const READS: &str = "\
 0 3 Err(TooLong)
 ";
 
+/// Adds a line with what is read up to a limit.
+fn put_octets<S: Source>(
+    text: &mut String,
+    alloc: Global,
+    from: &mut S,
+    limit: usize,
+) -> Result<(), Fail> {
+    let read = read_all(alloc, from, limit);
+    writeln!(text, "{read:?}")?;
+    Ok(())
+}
+
 /// Adds a line with what is read up to a limit, by these calls of a plan.
 fn put_read(text: &mut String, alloc: Global, limit: usize, plan: &[Give]) -> Result<(), Fail> {
     let calls = plan.len();
-    let mut from = source(alloc, b"abcdef", plan)?;
-    let read = read_all(alloc, &mut from, limit);
-    writeln!(text, "{limit} {calls} {read:?}")?;
-    Ok(())
+    write!(text, "{limit} {calls} ")?;
+    put_octets(text, alloc, &mut source(alloc, b"abcdef", plan)?, limit)
 }
 
 #[test]
@@ -46,21 +55,22 @@ fn reads_up_to_the_limit(rt: HostRuntime) -> Result<(), Fail> {
     Ok(())
 }
 
+/// A fault after two octets and a call that gives none, what is read then, and nothing.
+const READ_ON: &str = "\
+Err(ReadFault)
+Ok([100, 101, 102])
+Ok([])
+";
+
 #[test]
 fn reads_on_after_a_fault(rt: HostRuntime) -> Result<(), Fail> {
-    let mut from = source(
-        rt.alloc(),
-        b"abcdef",
-        &[Give::Piece(2), Give::Piece(0), Give::Fail],
-    )?;
-    assert_eq!(rt;
-        read_all(rt.alloc(), &mut from, 10).err(),
-        Some(ReadAll::ReadFault)
-    );
-    let rest = read_all(rt.alloc(), &mut from, 10)?;
-    assert_eq!(rt; rest.as_slice(), b"def".as_slice());
-    let nothing = read_all(rt.alloc(), &mut from, 0)?;
-    assert_eq!(rt; nothing.len(), 0);
+    let plan = [Give::Piece(2), Give::Piece(0), Give::Fail];
+    let mut from = source(rt.alloc(), b"abcdef", &plan)?;
+    let mut text = String::new(rt.alloc());
+    for limit in [10, 10, 0] {
+        put_octets(&mut text, rt.alloc(), &mut from, limit)?;
+    }
+    assert_eq!(rt; text.as_str(), READ_ON);
     Ok(())
 }
 
@@ -153,32 +163,50 @@ impl Write for Unflushed {
 
 #[test]
 fn reads_a_reader(rt: HostRuntime) -> Result<(), Fail> {
+    let mut text = String::new(rt.alloc());
     let mut from = RealSource::new(b"abc".as_slice());
-    let bytes = read_all(rt.alloc(), &mut from, 3)?;
-    assert_eq!(rt; bytes.as_slice(), b"abc".as_slice());
+    put_octets(&mut text, rt.alloc(), &mut from, 3)?;
     let mut broken = RealSource::new(Broken {
         takes_nothing: false,
     });
-    assert_eq!(rt;
-        read_all(rt.alloc(), &mut broken, 3).err(),
-        Some(ReadAll::ReadFault)
-    );
+    put_octets(&mut text, rt.alloc(), &mut broken, 3)?;
+    assert_eq!(rt; text.as_str(), "Ok([97, 98, 99])\nErr(ReadFault)\n");
     Ok(())
 }
 
+/// Adds a line with what comes of a write of `abc` to a writer.
+fn put_written<W: Write + Drop>(text: &mut String, to: W) -> Result<(), Fail> {
+    let written = write_all(&mut RealSink::new(to), b"abc");
+    writeln!(text, "{written:?}")?;
+    Ok(())
+}
+
+/// Adds a line with what comes of a write of `abc` to a list of octets, and one with the list.
+fn put_held(text: &mut String, alloc: Global) -> Result<(), Fail> {
+    let mut held = Vec::new(alloc);
+    put_written(text, &mut held)?;
+    writeln!(text, "{held:?}")?;
+    Ok(())
+}
+
+/// What comes of writes to a list, to writers that fail or take nothing, and to one that cannot flush.
+const REAL_WRITES: &str = "\
+Ok(())
+[97, 98, 99]
+Err(WriteFault)
+Err(WriteFault)
+Err(WriteFault)
+";
+
 #[test]
 fn writes_to_a_writer(rt: HostRuntime) -> Result<(), Fail> {
-    let mut held = Vec::new(rt.alloc());
-    assert_eq!(rt; write_all(&mut RealSink::new(&mut held), b"abc"), Ok(()));
-    assert_eq!(rt; held.as_slice(), b"abc".as_slice());
+    let mut text = String::new(rt.alloc());
+    put_held(&mut text, rt.alloc())?;
     for takes_nothing in [false, true] {
-        let mut broken = RealSink::new(Broken { takes_nothing });
-        assert_eq!(rt; write_all(&mut broken, b"abc"), Err(WriteFault));
+        put_written(&mut text, Broken { takes_nothing })?;
     }
-    assert_eq!(rt;
-        write_all(&mut RealSink::new(Unflushed), b"abc"),
-        Err(WriteFault)
-    );
+    put_written(&mut text, Unflushed)?;
+    assert_eq!(rt; text.as_str(), REAL_WRITES);
     Ok(())
 }
 
@@ -393,15 +421,20 @@ G0 None
 g0 None
 ";
 
+/// Adds a line with digits, and what they are decoded as.
+fn put_decoded(text: &mut String, alloc: Global, digits: &str) -> Result<(), Fail> {
+    let octets = decode_hex(alloc, digits.as_bytes())?;
+    writeln!(text, "{digits} {octets:?}")?;
+    Ok(())
+}
+
 #[test]
 fn decodes_hexadecimal_digits(rt: HostRuntime) -> Result<(), Fail> {
     let mut text = String::new(rt.alloc());
     for line in HEXADECIMAL.lines() {
-        let Some((digits, _)) = line.split_once(' ') else {
-            continue;
-        };
-        let octets = decode_hex(rt.alloc(), digits.as_bytes())?;
-        writeln!(text, "{digits} {octets:?}")?;
+        if let Some((digits, _)) = line.split_once(' ') {
+            put_decoded(&mut text, rt.alloc(), digits)?;
+        }
     }
     assert_eq!(rt; text.as_str(), HEXADECIMAL);
     Ok(())
@@ -430,13 +463,19 @@ fn one_bad_digit_is_found_at_each_place(rt: HostRuntime) -> Result<(), Fail> {
     Ok(())
 }
 
+/// Adds a line with whether digits are read, and the octets then.
+fn put_in_place(text: &mut String, octets: &mut Vec<u8>, digits: &str) -> Result<(), Fail> {
+    let are_digits = read_hex(octets, digits.as_bytes())?;
+    writeln!(text, "{are_digits} {octets:?}")?;
+    Ok(())
+}
+
 #[test]
 fn octets_come_in_place_of_those_before(rt: HostRuntime) -> Result<(), Fail> {
     let mut octets = Vec::new(rt.alloc());
     let mut text = String::new(rt.alloc());
     for digits in ["01020304", "fe", "", "0a0B0c0D0e"] {
-        let is = read_hex(&mut octets, digits.as_bytes())?;
-        writeln!(text, "{is} {octets:?}")?;
+        put_in_place(&mut text, &mut octets, digits)?;
     }
     assert_eq!(rt;
         text.as_str(),
@@ -445,25 +484,57 @@ fn octets_come_in_place_of_those_before(rt: HostRuntime) -> Result<(), Fail> {
     Ok(())
 }
 
-#[test]
-fn digits_of_each_octet_are_read_as_it(rt: HostRuntime) -> Result<(), Fail> {
-    let mut octets = Vec::new(rt.alloc());
+/// How many digits the octets 0 to 255 have, the first and the last of them, and whether they are read, and as the octets; then the
+/// digits of no octets.
+const EACH_OCTET: &str = "\
+512 Some(\"000102030405060708090a0b0c0d0e0f10111213\") Some(\"ecedeeeff0f1f2f3f4f5f6f7f8f9fafbfcfdfeff\")
+true true
+0 None None
+";
+
+/// The octets 0 to 255.
+fn each_octet(alloc: Global) -> Result<Vec<u8>, OutOfMemory> {
+    let mut octets = Vec::new(alloc);
     for octet in 0..=255u8 {
         octets.push(octet)?;
     }
-    let digits = encode_hex(rt.alloc(), &octets)?;
-    assert_eq!(rt; digits.len(), 512);
-    assert_eq!(rt;
-        digits.get(..40),
-        Some("000102030405060708090a0b0c0d0e0f10111213")
-    );
-    assert_eq!(rt;
-        digits.get(472..),
-        Some("ecedeeeff0f1f2f3f4f5f6f7f8f9fafbfcfdfeff")
-    );
-    let mut back = Vec::new(rt.alloc());
-    assert_eq!(rt; read_hex(&mut back, digits.as_bytes())?, true);
-    assert_eq!(rt; back.as_slice(), octets.as_slice());
-    assert_eq!(rt; encode_hex(rt.alloc(), &[])?.as_str(), "");
+    Ok(octets)
+}
+
+/// Adds a line with how many digits there are, the first 40 of 512 and the last.
+fn put_digits(text: &mut String, digits: &str) -> Result<(), Fail> {
+    let (count, first, last) = (digits.len(), digits.get(..40), digits.get(472..));
+    writeln!(text, "{count} {first:?} {last:?}")?;
+    Ok(())
+}
+
+/// Adds a line with whether digits are read, and whether as these octets.
+fn put_read_back(
+    text: &mut String,
+    alloc: Global,
+    digits: &str,
+    octets: &[u8],
+) -> Result<(), Fail> {
+    let mut read = Vec::new(alloc);
+    let are_digits = read_hex(&mut read, digits.as_bytes())?;
+    let are_same = read.as_slice() == octets;
+    writeln!(text, "{are_digits} {are_same}")?;
+    Ok(())
+}
+
+/// Adds the digits of each octet, and what they are read as.
+fn put_each_octet(text: &mut String, alloc: Global) -> Result<(), Fail> {
+    let octets = each_octet(alloc)?;
+    let digits = encode_hex(alloc, &octets)?;
+    put_digits(text, &digits)?;
+    put_read_back(text, alloc, &digits, &octets)
+}
+
+#[test]
+fn digits_of_each_octet_are_read_as_it(rt: HostRuntime) -> Result<(), Fail> {
+    let mut text = String::new(rt.alloc());
+    put_each_octet(&mut text, rt.alloc())?;
+    put_digits(&mut text, &encode_hex(rt.alloc(), &[])?)?;
+    assert_eq!(rt; text.as_str(), EACH_OCTET);
     Ok(())
 }

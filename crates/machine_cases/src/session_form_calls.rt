@@ -216,86 +216,110 @@ fn tell_cuts(alloc: Global, text: &mut String, octets: &[u8]) -> Result<(), Fail
     Ok(())
 }
 
-/// The session that the octets are, as the program has it.
-fn fields_of(alloc: Global, octets: &[u8]) -> Result<String, Fail> {
-    let session = read_session(alloc, octets).map_err(|_| "refused")?;
-    Ok(format!(in alloc; "{session:?}")?)
+/// The session with everything set, in form 1.
+fn set_in_form_1(alloc: Global) -> Result<Vec<u8>, Fail> {
+    octets_of(alloc, &format!(in alloc; "01 {SET}")?)
 }
 
-/// What comes of the changes and the beginnings of a form.
-fn tell_form(alloc: Global, form: &[u8], changes: &str) -> Result<String, Fail> {
-    let mut text = String::new(alloc);
-    for line in CHANGES.lines() {
-        tell_change(alloc, &mut text, form, line)?;
-    }
+/// The same with its second connection, in form 2.
+fn set_in_form_2(alloc: Global) -> Result<Vec<u8>, Fail> {
+    octets_of(alloc, &format!(in alloc; "02 {SET} {SECOND}")?)
+}
+
+/// The opening session in form 1.
+fn opening_in_form_1(alloc: Global) -> Result<Vec<u8>, Fail> {
+    octets_of(alloc, &format!(in alloc; "01 {OPENING}")?)
+}
+
+/// The opening session in form 2.
+fn opening_in_form_2(alloc: Global) -> Result<Vec<u8>, Fail> {
+    octets_of(alloc, &format!(in alloc; "02 {OPENING} {NO_SECOND}")?)
+}
+
+/// What comes of changes of a form, line by line.
+fn tell_changes(alloc: Global, text: &mut String, form: &[u8], changes: &str) -> Result<(), Fail> {
     for line in changes.lines() {
-        tell_change(alloc, &mut text, form, line)?;
+        tell_change(alloc, text, form, line)?;
     }
-    tell_cuts(alloc, &mut text, form)?;
-    Ok(text)
+    Ok(())
+}
+
+/// What comes of the changes of either form, of those of this form, and of its beginnings.
+fn tell_form(alloc: Global, text: &mut String, form: &[u8], changes: &str) -> Result<(), Fail> {
+    tell_changes(alloc, text, form, CHANGES)?;
+    tell_changes(alloc, text, form, changes)?;
+    tell_cuts(alloc, text, form)
+}
+
+/// What comes of both forms of the session with everything set.
+fn tell_forms(alloc: Global, text: &mut String) -> Result<(), Fail> {
+    tell_form(alloc, text, &set_in_form_1(alloc)?, CHANGES_OF_1)?;
+    tell_form(alloc, text, &set_in_form_2(alloc)?, CHANGES_OF_2)
 }
 
 #[test]
 fn each_field_has_its_range_and_place(rt: HostRuntime) -> Result<(), Fail> {
-    let alloc = rt.alloc();
-    let form = octets_of(alloc, &format!(in alloc; "01 {SET}")?)?;
-    let wanted = format!(in alloc; "{CHANGES}{CHANGES_OF_1}{CUTS}kept,")?;
-    assert_eq!(rt;
-        tell_form(alloc, &form, CHANGES_OF_1)?.as_str(),
-        wanted.as_str()
-    );
-    let form = octets_of(alloc, &format!(in alloc; "02 {SET} {SECOND}")?)?;
-    let wanted = format!(in alloc; "{CHANGES}{CHANGES_OF_2}{CUTS}{CUTS_OF_2}")?;
-    assert_eq!(rt;
-        tell_form(alloc, &form, CHANGES_OF_2)?.as_str(),
-        wanted.as_str()
-    );
+    let mut text = String::new(rt.alloc());
+    tell_forms(rt.alloc(), &mut text)?;
+    let wanted = format!(in rt.alloc();
+        "{CHANGES}{CHANGES_OF_1}{CUTS}kept,{CHANGES}{CHANGES_OF_2}{CUTS}{CUTS_OF_2}"
+    )?;
+    assert_eq!(rt; text.as_str(), wanted.as_str());
     Ok(())
+}
+
+/// A line with the session that the octets are, as the program has it.
+fn tell_fields(alloc: Global, text: &mut String, octets: &[u8]) -> Result<(), Fail> {
+    let session = read_session(alloc, octets).map_err(|_| "refused")?;
+    writeln!(text, "{session:?}")?;
+    Ok(())
+}
+
+/// The session with everything set, of both its forms.
+fn tell_set(alloc: Global, text: &mut String) -> Result<(), Fail> {
+    tell_fields(alloc, text, &set_in_form_1(alloc)?)?;
+    tell_fields(alloc, text, &set_in_form_2(alloc)?)
 }
 
 #[test]
 fn session_with_everything_set_is_read(rt: HostRuntime) -> Result<(), Fail> {
-    let alloc = rt.alloc();
-    let form = octets_of(alloc, &format!(in alloc; "01 {SET}")?)?;
-    let wanted = format!(in alloc; "{SET_FIELDS}{NO_SECOND_FIELDS}")?;
-    assert_eq!(rt; fields_of(alloc, &form)?.as_str(), wanted.as_str());
-    let form = octets_of(alloc, &format!(in alloc; "02 {SET} {SECOND}")?)?;
-    let wanted = format!(in alloc; "{SET_FIELDS}{SECOND_FIELDS}")?;
-    assert_eq!(rt; fields_of(alloc, &form)?.as_str(), wanted.as_str());
+    let mut text = String::new(rt.alloc());
+    tell_set(rt.alloc(), &mut text)?;
+    let wanted = format!(in rt.alloc();
+        "{SET_FIELDS}{NO_SECOND_FIELDS}\n{SET_FIELDS}{SECOND_FIELDS}\n"
+    )?;
+    assert_eq!(rt; text.as_str(), wanted.as_str());
     Ok(())
 }
 
-/// What comes of the opening session with each of its changes.
-fn tell_opening(alloc: Global, opening: &[u8]) -> Result<String, Fail> {
-    let mut text = String::new(alloc);
-    for line in OPENING_CHANGES.lines() {
-        tell_change(alloc, &mut text, opening, line)?;
-    }
-    Ok(text)
+/// What comes of the opening session in form 1 with each of its changes, and of form 2.
+fn tell_opening(alloc: Global, text: &mut String) -> Result<(), Fail> {
+    tell_changes(alloc, text, &opening_in_form_1(alloc)?, OPENING_CHANGES)?;
+    tell(alloc, text, &opening_in_form_2(alloc)?)?;
+    Ok(())
 }
 
 #[test]
 fn opening_session_is_zeros_behind_its_form(rt: HostRuntime) -> Result<(), Fail> {
-    let alloc = rt.alloc();
-    let old = octets_of(alloc, &format!(in alloc; "01 {OPENING}")?)?;
-    assert_eq!(rt; tell_opening(alloc, &old)?.as_str(), OPENING_CHANGES);
-    let opening = Session::opening(alloc);
-    let wanted = format!(in alloc; "{opening:?}")?;
-    assert_eq!(rt; fields_of(alloc, &old)?.as_str(), wanted.as_str());
+    let mut text = String::new(rt.alloc());
+    tell_opening(rt.alloc(), &mut text)?;
+    let wanted = format!(in rt.alloc(); "{OPENING_CHANGES}kept")?;
+    assert_eq!(rt; text.as_str(), wanted.as_str());
     Ok(())
 }
 
+/// The session that both forms of the opening session are.
+fn tell_both_openings(alloc: Global, text: &mut String) -> Result<(), Fail> {
+    tell_fields(alloc, text, &opening_in_form_1(alloc)?)?;
+    tell_fields(alloc, text, &opening_in_form_2(alloc)?)
+}
+
 #[test]
-fn opening_session_is_written_in_form_2(rt: HostRuntime) -> Result<(), Fail> {
-    let alloc = rt.alloc();
-    let new = octets_of(alloc, &format!(in alloc; "02 {OPENING} {NO_SECOND}")?)?;
-    let old = octets_of(alloc, &format!(in alloc; "01 {OPENING}")?)?;
-    assert_eq!(rt;
-        fields_of(alloc, &new)?.as_str(),
-        fields_of(alloc, &old)?.as_str()
-    );
-    let mut written = String::new(alloc);
-    tell(alloc, &mut written, &new)?;
-    assert_eq!(rt; written.as_str(), "kept");
+fn opening_session_is_read_of_both_forms(rt: HostRuntime) -> Result<(), Fail> {
+    let mut text = String::new(rt.alloc());
+    tell_both_openings(rt.alloc(), &mut text)?;
+    let opening = Session::opening(rt.alloc());
+    let wanted = format!(in rt.alloc(); "{opening:?}\n{opening:?}\n")?;
+    assert_eq!(rt; text.as_str(), wanted.as_str());
     Ok(())
 }
