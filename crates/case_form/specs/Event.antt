@@ -136,17 +136,20 @@ lane_word lane.Gateway = codes "gateway"
 lane_word lane.Subscriber = codes "subscriber"
 
 -- numbers are written in decimal
+abbrev pub lane_words : DeviceId → Lane → ℕ → List (List ℕ)
+lane_words d lane k = decimal d.0 ∷ lane_word lane ∷ decimal k ∷ []
+
 abbrev pub event_words : Event → List (List ℕ)
 event_words (event.Send d n) = codes "send" ∷ decimal d.0 ∷ decimal n ∷ []
 event_words (event.Take r d n) = codes "take" ∷ decimal r ∷ decimal d.0 ∷ decimal n ∷ []
-event_words (event.Answer r d lane k) = codes "answer" ∷ decimal r ∷ decimal d.0 ∷ lane_word lane ∷ decimal k ∷ []
+event_words (event.Answer r d lane k) = codes "answer" ∷ decimal r ∷ lane_words d lane k
 event_words (event.Read r) = codes "read" ∷ decimal r ∷ []
 event_words (event.Write r) = codes "write" ∷ decimal r ∷ []
 event_words (event.Stop r) = codes "stop" ∷ decimal r ∷ []
 event_words (event.Reply d n) = codes "reply" ∷ decimal d.0 ∷ decimal n ∷ []
-event_words (event.Push d lane k) = codes "push" ∷ decimal d.0 ∷ lane_word lane ∷ decimal k ∷ []
-event_words (event.Effect d lane k) = codes "effect" ∷ decimal d.0 ∷ lane_word lane ∷ decimal k ∷ []
-event_words (event.Settle d lane k) = codes "settle" ∷ decimal d.0 ∷ lane_word lane ∷ decimal k ∷ []
+event_words (event.Push d lane k) = codes "push" ∷ lane_words d lane k
+event_words (event.Effect d lane k) = codes "effect" ∷ lane_words d lane k
+event_words (event.Settle d lane k) = codes "settle" ∷ lane_words d lane k
 
 -- as it is printed: its words, with a space between each two
 abbrev pub event_line : Event → List ℕ
