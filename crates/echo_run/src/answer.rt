@@ -17,7 +17,7 @@ use crate::calls::{s6a, s11};
 use crate::ends::finals_of;
 use crate::replay::transcript;
 use crate::summary::scheduled;
-use case_form::{Case, CaseBad, read_case};
+use case_form::{Case, read_case};
 use command_words::{Command, Protocol};
 use crash_run::crash_text;
 use device_types::{Finals, Octets};
@@ -201,11 +201,7 @@ pub fn answer<F: Floor>(
     if is_case_wanted(command) {
         return Ok(octets);
     }
-    let case = match read_case(alloc, octets.octets()) {
-        Ok(case) => case,
-        Err(CaseBad::Refused { reason, line }) => return Err(NoText::refused(reason, line)),
-        Err(CaseBad::OutOfMemory) => return Err(NoText::OutOfMemory),
-    };
+    let case = read_case(alloc, octets.octets())?;
     let text = text_of(alloc, command, case, floor)?;
     Ok(text)
 }

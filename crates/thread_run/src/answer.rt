@@ -11,7 +11,7 @@ ghost use Rattle.top_calls.specs.Case.{IsSmall};
 ghost use Rattle.top_calls.specs.Ends.{IsAdmitted};
 ghost use Rattle.worker_pool.specs.Runs.{charter_of};
 
-use case_form::{Case, CaseBad, read_case};
+use case_form::{Case, read_case};
 use command_words::ThreadsCommand;
 use device_types::{Finals, Octets};
 use echo_base::OutOfMemory;
@@ -128,11 +128,7 @@ pub(crate) fn answer<R: Threads + Wait + Sync, G: Gate + Sync>(
     ensures why_not { IfErr result (λ why. IsRefusal why (answer_of command octets)) }
     ensures of_line { IfErr result IsOfLine }
 {
-    let case = match read_case(alloc, octets.octets()) {
-        Ok(case) => case,
-        Err(CaseBad::Refused { reason, line }) => return Err(NoText::refused(reason, line)),
-        Err(CaseBad::OutOfMemory) => return Err(NoText::OutOfMemory),
-    };
+    let case = read_case(alloc, octets.octets())?;
     let answered = answer_case(rt, alloc, command, &case, gates)?;
     Ok(answered)
 }

@@ -2,6 +2,8 @@
 use Rattle.std.specs.Prelude.{◌≡◌, ◌≤◌, ℕ, List, Option, Some, None, Result, Ok, Err}
 use Rattle.echo_base.specs.Reason.{reason_number}
 use Rattle.echo_base.specs.declared.reason.Reason.{Reason}
+use Rattle.case_form.specs.declared.case.CaseBad.{CaseBad}
+use Rattle.case_form.specs.declared.case.CaseBad.TheVariants as bads
 use Rattle.top_calls.specs.declared.no_text.NoText.{NoText}
 use Rattle.top_calls.specs.declared.no_text.NoText.TheVariants as no
 use Rattle.top_calls.specs.Case.{IsCase, case_by}
@@ -9,6 +11,11 @@ use Rattle.top_calls.specs.Case.{IsCase, case_by}
 abbrev pub unless_bad : Option (ℕ × Reason) → List ℕ → Result (List ℕ) (ℕ × ℕ)
 unless_bad None text = Ok text
 unless_bad (Some bad) text = Err (reason_number bad.1, bad.0)
+
+-- why there is no text where there is no case
+abbrev pub no_text_of : CaseBad → NoText
+no_text_of (bads.Refused reason line) = no.Refused (reason_number reason) line
+no_text_of bads.OutOfMemory = no.OutOfMemory
 
 -- a refusal is of a line, and these are numbered from 1
 abbrev pub IsOfLine : NoText → Type 0

@@ -1,8 +1,7 @@
 //! Why there is no text.
-ghost use Rattle.std.specs.Prelude.{◌≡◌};
-ghost use Rattle.echo_base.specs.Reason.{reason_number};
 
-use echo_base::{OutOfMemory, Reason};
+use case_form::CaseBad;
+use echo_base::OutOfMemory;
 
 /// Why there is no text.
 #[derive(Clone, Copy, Debug, PartialEq, Eq)]
@@ -29,14 +28,19 @@ impl From<OutOfMemory> for NoText {
     }
 }
 
-impl NoText {
-    /// A case that is refused for a line.
-    pub fn refused(reason: Reason, line: u32) -> NoText
-        ensures { result ≡ NoText.Refused (reason_number reason) line }
-    {
-        NoText::Refused {
-            number: reason.number(),
-            line,
+impl From<CaseBad> for NoText {
+    ghost use Rattle.std.specs.Prelude.{◌≡◌};
+    ghost use Rattle.top_calls.specs.Answers.{no_text_of};
+
+    ghost from_gives = { λ bad no. no ≡ no_text_of bad };
+
+    fn from(bad: CaseBad) -> NoText {
+        match bad {
+            CaseBad::Refused { reason, line } => NoText::Refused {
+                number: reason.number(),
+                line,
+            },
+            CaseBad::OutOfMemory => NoText::OutOfMemory,
         }
     }
 }
