@@ -4,6 +4,7 @@ ghost use Rattle.crossbeam_channel.specs.Claims.{IsSeatAt};
 ghost use Rattle.crossbeam_channel.specs.Ends.{sends_on};
 ghost use Rattle.session_store.specs.Rows.{IsDevice};
 
+use crate::queues::Queues;
 use device_types::DeviceId;
 use pool_work::{
     Board, Line, Named, Place, device_behind, marked_device, message_at, messages_of, send,
@@ -12,9 +13,22 @@ use session_store::Charter;
 use std::alloc::{AllocError, Global};
 use std::sync::Wait;
 
+/// What is done about the messages of a device.
+#[derive(Clone, Copy)]
+enum Stage {
+    /// Nothing.
+    Idle,
+    /// The first one that is not acknowledged waits in its queue.
+    Waiting,
+    /// It was sent.
+    UnderWay,
+}
+
 /// What the entry knows of a device.
 #[derive(Clone, Copy)]
 struct Agent {
+    /// What is done about its messages.
+    stage: Stage,
     /// How many messages were sent, again or not.
     out: u64,
     /// The one under way was sent again.
@@ -41,6 +55,7 @@ fn new_agents(alloc: Global, devices: usize) -> Result<Vec<Agent>, AllocError> {
     let mut agents = Vec::new(alloc);
     for _ in 0..devices {
         let Ok(()) = agents.push(Agent {
+            stage: Stage::Idle,
             out: 0,
             again: false,
             over: false,
@@ -76,22 +91,49 @@ impl<'a, R: Wait> EntryThread<'a, R> {
         Some(())
     }
 
-    /// Sends the first message of a device that is not acknowledged, once all that was sent has come out of the channel: a worker goes
-    /// on with those behind it. Some(true) when its last message is acknowledged; None where no one is left to take a packet, or
-    /// there is no memory.
-    fn serve<C: Named>(
+    /// Sends the first message that is not acknowledged of the device of that place, which has waited: a worker goes on with those
+    /// behind it. None where no one is left to take a packet, or there is no memory.
+    fn send_at<C: Named>(
         &self,
         line: &Line<C>,
         place: &mut Place,
-        agent: &mut Agent,
-        d: DeviceId,
-    ) -> Option<bool>
+        agents: &mut Vec<Agent>,
+        queues: &mut Queues,
+        index: usize,
+    ) -> Option<()>
         requires charter { self.now.charter.now ≡ C.charter }
-        requires device { IsDevice (length self.now.charter.now.rows) d.0 }
         requires place { IsSeatAt (sends_on line.now) place.old }
         ensures place { IsSeatAt (sends_on line.now) place.new }
     {
-        let done = self.board.done(d);
+        let Some(d) = device_behind(self.charter, index) else {
+            return Some(());
+        };
+        let Some(agent) = agents.get_mut(index) else {
+            return Some(());
+        };
+        let acked = self.board.rests_at(d).unwrap_or(0);
+        self.send_behind::<C>(line, place, agent, d, acked)?;
+        agent.stage = Stage::UnderWay;
+        agent.again = false;
+        queues.enter(d);
+        Some(())
+    }
+
+    /// Looks at a device of which something was told: once all that was sent has come out of the channel, it waits for its next message
+    /// to be sent. Some(true) when its last message is acknowledged; None where there is no memory.
+    fn serve(
+        &self,
+        agent: &mut Agent,
+        queues: &mut Queues,
+        d: DeviceId,
+        index: usize,
+    ) -> Option<bool>
+        requires { IsDevice (length self.now.charter.now.rows) d.0 }
+    {
+        if matches!(agent.stage, Stage::UnderWay) && self.board.done(d) == agent.out {
+            agent.stage = Stage::Idle;
+            queues.leave(d);
+        }
         let Some(acked) = self.board.rests_at(d) else {
             return Some(false);
         };
@@ -100,19 +142,20 @@ impl<'a, R: Wait> EntryThread<'a, R> {
             agent.over = true;
             return Some(is_news);
         }
-        if done == agent.out {
-            self.send_behind::<C>(line, place, agent, d, acked)?;
-            agent.again = false;
+        if matches!(agent.stage, Stage::Idle) {
+            queues.wait(d, index)?;
+            agent.stage = Stage::Waiting;
         }
         Some(false)
     }
 
-    /// Serves the marked devices of a word. It answers how many have come to their end.
+    /// Serves the marked devices of a word, and sends the next one of the shard of each. It answers how many have come to their end.
     fn serve_word<C: Named>(
         &self,
         line: &Line<C>,
         place: &mut Place,
         agents: &mut Vec<Agent>,
+        queues: &mut Queues,
         word: usize,
         marks: u64,
     ) -> Option<usize>
@@ -125,14 +168,38 @@ impl<'a, R: Wait> EntryThread<'a, R> {
             let Some(d) = marked_device(self.charter, word, marks, bit) else {
                 continue;
             };
-            let Some(agent) = agents.get_mut(d.0 as usize - 1) else {
+            let index = d.0 as usize - 1;
+            let Some(agent) = agents.get_mut(index) else {
                 continue;
             };
-            if self.serve::<C>(line, place, agent, d)? {
+            if self.serve(agent, queues, d, index)? {
                 over = over.saturating_add(1);
+            }
+            if let Some(next) = queues.next(d) {
+                self.send_at::<C>(line, place, agents, queues, next)?;
             }
         }
         Some(over)
+    }
+
+    /// Sends devices that wait, though others of their shards are under way, where there are fewer of these than workers.
+    fn send_to_idle<C: Named>(
+        &self,
+        line: &Line<C>,
+        place: &mut Place,
+        agents: &mut Vec<Agent>,
+        queues: &mut Queues,
+    ) -> Option<()>
+        requires charter { self.now.charter.now ≡ C.charter }
+        requires place { IsSeatAt (sends_on line.now) place.old }
+        ensures place { IsSeatAt (sends_on line.now) place.new }
+    {
+        for _ in 0..self.workers {
+            if let Some(next) = queues.next_of_any(self.workers) {
+                self.send_at::<C>(line, place, agents, queues, next)?;
+            }
+        }
+        Some(())
     }
 
     /// Sends a device's first message that is not acknowledged once more, where one is still under way: a worker may be held up with
@@ -193,6 +260,7 @@ impl<'a, R: Wait> EntryThread<'a, R> {
         line: &Line<C>,
         place: &mut Place,
         agents: &mut Vec<Agent>,
+        queues: &mut Queues,
     ) -> Option<()>
         requires charter { self.now.charter.now ≡ C.charter }
         requires place { IsSeatAt (sends_on line.now) place.old }
@@ -208,11 +276,12 @@ impl<'a, R: Wait> EntryThread<'a, R> {
                 let marks = self.board.entry.take(word);
                 if marks != 0 {
                     any = true;
-                    let over = self.serve_word::<C>(line, place, agents, word, marks)?;
+                    let over = self.serve_word::<C>(line, place, agents, queues, word, marks)?;
                     left = left.saturating_sub(over);
                 }
             }
             if !any {
+                self.send_to_idle::<C>(line, place, agents, queues)?;
                 self.send_all_again::<C>(line, place, agents, left)?;
                 self.board.await_entry(self.rt);
             }
@@ -227,8 +296,8 @@ impl<'a, R: Wait> EntryThread<'a, R> {
     {
         let devices = self.charter.rows().len();
         self.board.mark_all(devices);
-        if let Ok(mut agents) = new_agents(alloc, devices) {
-            let _ = self.rounds::<C>(&line, &mut place, &mut agents);
+        if let (Ok(mut agents), Ok(mut queues)) = (new_agents(alloc, devices), Queues::new(alloc)) {
+            let _ = self.rounds::<C>(&line, &mut place, &mut agents, &mut queues);
         }
         self.board.stop();
     }

@@ -3,6 +3,7 @@
 
 mod entry;
 mod mover;
+mod queues;
 mod run;
 mod start;
 
