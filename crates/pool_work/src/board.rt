@@ -50,6 +50,11 @@ impl Bell {
         }
     }
 
+    /// Does the one that clears sleep?
+    pub(crate) fn is_asleep(&self) -> bool {
+        self.sleeps.load(Ordering::SeqCst) == 1
+    }
+
     /// How many words of marks there are.
     pub fn count(&self) -> usize {
         self.marks.len()
@@ -86,18 +91,18 @@ impl Bell {
 
 /// How many effects of each lane of a device there are.
 #[derive(Clone, Copy)]
-pub struct Made {
+pub(crate) struct Made {
     /// What goes down to the device.
-    pub down: u64,
+    pub(crate) down: u64,
     /// Calls of the gateway.
-    pub gateway: u64,
+    pub(crate) gateway: u64,
     /// Calls of the subscriber server.
-    pub subscriber: u64,
+    pub(crate) subscriber: u64,
 }
 
 impl Made {
     /// None.
-    pub const NONE: Made = Made {
+    pub(crate) const NONE: Made = Made {
         down: 0,
         gateway: 0,
         subscriber: 0,
@@ -110,6 +115,11 @@ impl Made {
             Lane::Gateway => self.gateway,
             Lane::Subscriber => self.subscriber,
         }
+    }
+
+    /// Are there fewer of a lane than these?
+    fn is_short_of(&self, made: Made) -> bool {
+        self.down < made.down || self.gateway < made.gateway || self.subscriber < made.subscriber
     }
 }
 
@@ -126,6 +136,48 @@ pub(crate) struct News {
     pub(crate) made: Made,
 }
 
+/// How many effects of each lane of a device there are by now: what goes down, and calls of the gateway and of the subscriber server.
+#[derive(Drop)]
+struct Counts {
+    down: AtomicU64,
+    gateway: AtomicU64,
+    subscriber: AtomicU64,
+}
+
+impl Counts {
+    /// None.
+    fn new() -> Counts {
+        Counts {
+            down: AtomicU64::new(0),
+            gateway: AtomicU64::new(0),
+            subscriber: AtomicU64::new(0),
+        }
+    }
+
+    /// There are so many more.
+    fn add(&self, made: Made) {
+        self.down.fetch_add(made.down, Ordering::SeqCst);
+        self.gateway.fetch_add(made.gateway, Ordering::SeqCst);
+        self.subscriber.fetch_add(made.subscriber, Ordering::SeqCst);
+    }
+
+    /// There are so many at least.
+    fn raise(&self, made: Made) {
+        self.down.fetch_max(made.down, Ordering::SeqCst);
+        self.gateway.fetch_max(made.gateway, Ordering::SeqCst);
+        self.subscriber.fetch_max(made.subscriber, Ordering::SeqCst);
+    }
+
+    /// How many there are.
+    fn now(&self) -> Made {
+        Made {
+            down: self.down.load(Ordering::SeqCst),
+            gateway: self.gateway.load(Ordering::SeqCst),
+            subscriber: self.subscriber.load(Ordering::SeqCst),
+        }
+    }
+}
+
 /// What is told of a device.
 #[derive(Drop)]
 struct Told {
@@ -135,10 +187,10 @@ struct Told {
     status: AtomicU64,
     /// How many of its messages came out of the channel and were dealt with.
     done: AtomicU64,
-    /// How many effects of each lane were made: what goes down, and calls of the gateway and of the subscriber server.
-    down: AtomicU64,
-    gateway: AtomicU64,
-    subscriber: AtomicU64,
+    /// The effects that were made.
+    made: Counts,
+    /// Those that were brought to where they go.
+    brought: Counts,
 }
 
 impl Told {
@@ -148,25 +200,8 @@ impl Told {
             taken: AtomicU64::new(0),
             status: AtomicU64::new(1),
             done: AtomicU64::new(0),
-            down: AtomicU64::new(0),
-            gateway: AtomicU64::new(0),
-            subscriber: AtomicU64::new(0),
-        }
-    }
-
-    /// So many effects more were made.
-    fn add(&self, made: Made) {
-        self.down.fetch_add(made.down, Ordering::SeqCst);
-        self.gateway.fetch_add(made.gateway, Ordering::SeqCst);
-        self.subscriber.fetch_add(made.subscriber, Ordering::SeqCst);
-    }
-
-    /// How many effects were made.
-    fn made(&self) -> Made {
-        Made {
-            down: self.down.load(Ordering::SeqCst),
-            gateway: self.gateway.load(Ordering::SeqCst),
-            subscriber: self.subscriber.load(Ordering::SeqCst),
+            made: Counts::new(),
+            brought: Counts::new(),
         }
     }
 }
@@ -245,16 +280,19 @@ impl Board {
             let rests = if news.awaits.is_none() { 1 } else { 0 };
             let status = news.version.saturating_mul(2).saturating_add(rests);
             told.status.fetch_max(status, Ordering::SeqCst);
-            told.add(news.made);
+            told.made.add(news.made);
         }
     }
 
-    /// A message of the device that came out of the channel was dealt with, and what came behind it.
+    /// A message of the device that came out of the channel was dealt with, and what came behind it. What was made and not brought is
+    /// left to the mover.
     pub(crate) fn finish(&self, d: DeviceId) {
         if let Some(told) = self.told(d) {
             told.done.fetch_add(1, Ordering::SeqCst);
         }
-        self.mover.mark(d);
+        if self.brought(d).is_short_of(self.made(d)) {
+            self.mover.mark(d);
+        }
         self.entry.mark(d);
     }
 
@@ -267,10 +305,25 @@ impl Board {
     }
 
     /// How many effects of the device were made.
-    pub fn made(&self, d: DeviceId) -> Made {
+    pub(crate) fn made(&self, d: DeviceId) -> Made {
         match self.told(d) {
-            Some(told) => told.made(),
+            Some(told) => told.made.now(),
             None => Made::NONE,
+        }
+    }
+
+    /// How many of them were brought to where they go.
+    pub(crate) fn brought(&self, d: DeviceId) -> Made {
+        match self.told(d) {
+            Some(told) => told.brought.now(),
+            None => Made::NONE,
+        }
+    }
+
+    /// So many were.
+    pub(crate) fn bring(&self, d: DeviceId, made: Made) {
+        if let Some(told) = self.told(d) {
+            told.brought.raise(made);
         }
     }
 

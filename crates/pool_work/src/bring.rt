@@ -1,4 +1,4 @@
-//! Effects are brought out of the rows: calls to their peers.
+//! Effects are brought out of the rows: calls to their peers, and what goes down.
 ghost use Rattle.std.specs.Prelude.{◌≡◌, ◌≤◌, length, IfOk, IfSome};
 ghost use Rattle.device_types.specs.Event.{IsCallLane};
 ghost use Rattle.device_types.specs.Journal.{pushed_count};
@@ -6,6 +6,7 @@ ghost use Rattle.session_store.specs.Rows.{IsDevice};
 ghost use Rattle.pool_work.specs.Packets.{IsSaid};
 ghost use Rattle.pool_work.specs.Stores.{Kept, TakesOver};
 
+use crate::board::{Board, Made};
 use crate::runner::fetch;
 use crate::seat_store::SeatStore;
 use device_types::{DeviceId, Lane, Offer};
@@ -41,7 +42,7 @@ pub(crate) fn bring<T: SharedRows, P: SharedCalls, R: Wait>(
 
 /// Brings call `k` of a lane of a device to its peer, behind those before it that have not come, and settles them all: its answer
 /// is not awaited, or was taken. None where there is no memory.
-pub fn deliver<T: SharedRows, P: SharedCalls, R: Wait>(
+fn deliver<T: SharedRows, P: SharedCalls, R: Wait>(
     rt: &R,
     store: &mut SeatStore<'_, T, R>,
     peers: &P,
@@ -64,7 +65,7 @@ pub fn deliver<T: SharedRows, P: SharedCalls, R: Wait>(
 
 /// Takes what goes down to the device behind so many out of its row, up to the one of that number, and settles it. The base station
 /// is not modelled here: an effect that was taken out of the row is there. None where there is no memory.
-pub fn carry_downs<T: SharedRows, R: Wait>(
+fn carry_downs<T: SharedRows, R: Wait>(
     store: &mut SeatStore<'_, T, R>,
     d: DeviceId,
     brought: u64,
@@ -79,5 +80,58 @@ pub fn carry_downs<T: SharedRows, R: Wait>(
     if store.push(d, Lane::Down, last).ok()?.is_some() {
         store.settle(d, Lane::Down, last).ok()?;
     }
+    Some(())
+}
+
+/// Brings the calls of a device up to those that were made, where more were made than were brought. None where there is no memory.
+fn carry_calls<T: SharedRows, P: SharedCalls, R: Wait>(
+    rt: &R,
+    store: &mut SeatStore<'_, T, R>,
+    peers: &P,
+    seat: &mut P::Seat,
+    d: DeviceId,
+    brought: Made,
+    made: Made,
+) -> Option<()>
+    requires charter { P.charter peers.now ≡ T.charter store.old.rows }
+    requires device { IsDevice (length (P.charter peers.now).rows) d.0 }
+    requires seat { P.is_seat peers.now seat.old }
+    ensures store { Kept T.speaks T.known store.old store.new }
+    ensures seat { TakesOver (P.is_seat peers.now) P.speaks seat.old seat.new }
+{
+    if made.gateway > brought.gateway {
+        deliver(rt, store, peers, seat, d, Lane::Gateway, made.gateway)?;
+    }
+    if made.subscriber > brought.subscriber {
+        deliver(rt, store, peers, seat, d, Lane::Subscriber, made.subscriber)?;
+    }
+    Some(())
+}
+
+/// Brings what was made of a device and not brought to where it goes, where the device awaits no answer. None where there is no memory.
+pub fn carry<T: SharedRows, P: SharedCalls, R: Wait>(
+    rt: &R,
+    board: &Board,
+    store: &mut SeatStore<'_, T, R>,
+    peers: &P,
+    seat: &mut P::Seat,
+    d: DeviceId,
+) -> Option<()>
+    requires charter { P.charter peers.now ≡ T.charter store.old.rows }
+    requires device { IsDevice (length (P.charter peers.now).rows) d.0 }
+    requires seat { P.is_seat peers.now seat.old }
+    ensures store { Kept T.speaks T.known store.old store.new }
+    ensures seat { TakesOver (P.is_seat peers.now) P.speaks seat.old seat.new }
+{
+    let made = board.made(d);
+    let brought = board.brought(d);
+    if board.rests_at(d).is_none() {
+        return Some(());
+    }
+    carry_calls(rt, store, peers, seat, d, brought, made)?;
+    if made.down > brought.down {
+        carry_downs(store, d, brought.down, made.down)?;
+    }
+    board.bring(d, made);
     Some(())
 }

@@ -14,8 +14,8 @@ mod settle;
 mod work;
 mod worker;
 
-pub use board::{Bell, Board, Made};
-pub use bring::{carry_downs, deliver};
+pub use board::{Bell, Board};
+pub use bring::carry;
 pub use desk::{Desk, Seats};
 pub use gate::{Gate, OpenGate, Point};
 pub use line::{Ends, Line, Named, OwnPackets, Packet, Place, another, message_at, send};

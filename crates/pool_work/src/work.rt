@@ -1,12 +1,15 @@
 //! A worker: it takes inputs from the channel, and takes their devices on.
+ghost use Rattle.std.specs.Prelude.{◌≡◌};
 ghost use Rattle.crossbeam_channel.specs.Claims.{IsSeatAt};
 ghost use Rattle.crossbeam_channel.specs.Ends.{receives_on};
 ghost use Rattle.replica_worker.specs.Cache.{AreSessionsOf};
+ghost use Rattle.pool_work.specs.Packets.{IsPacket};
 ghost use Rattle.pool_work.specs.Stores.{AreSeats, AreUnder, BothTakeOver, Kept, TakesOver};
 
+use crate::bring::carry;
 use crate::desk::{Desk, Seats};
 use crate::gate::Gate;
-use crate::line::{Ends, Named, Place, receive};
+use crate::line::{Ends, Named, Packet, Place, receive};
 use crate::runner::Runner;
 use crate::seat_store::SeatStore;
 use crate::worker::Worker;
@@ -16,6 +19,32 @@ use std::alloc::Global;
 use std::sync::Wait;
 
 impl<'a, P: SharedCalls, R: Wait, G: Gate> Runner<'a, P, R, G> {
+    /// Takes the device of an input on, and brings what was made of it then to where it goes, unless the mover is free to do it. None
+    /// where there is no memory.
+    fn take_on<T: SharedRows>(
+        &self,
+        replica: &mut Replica,
+        store: &mut SeatStore<'_, T, R>,
+        seat: &mut P::Seat,
+        packet: Packet,
+    ) -> Option<()>
+        requires charter { self.now.worker.charter.now ≡ T.charter store.old.rows }
+        requires peers { P.charter self.now.peers.now ≡ T.charter store.old.rows }
+        requires packet { IsPacket self.now.worker.charter.now packet }
+        requires seat { P.is_seat self.now.peers.now seat.old }
+        requires remembers { AreSessionsOf (T.charter store.old.rows) replica.old.cache }
+        ensures store { Kept T.speaks T.known store.old store.new }
+        ensures seat { TakesOver (P.is_seat self.now.peers.now) P.speaks seat.old seat.new }
+        ensures remembers { AreSessionsOf (T.charter store.new.rows) replica.new.cache }
+    {
+        let d = packet.d;
+        self.follow(replica, store, seat, packet).ok()?;
+        if self.worker.board.mover.is_asleep() {
+            return Some(());
+        }
+        carry(self.rt, self.worker.board, store, self.peers, seat, d)
+    }
+
     /// Takes the device of an input of the channel on. False where no more can come, the threads are to end, or there is no memory.
     fn serve<C: Named, T: SharedRows>(
         &self,
@@ -42,12 +71,12 @@ impl<'a, P: SharedCalls, R: Wait, G: Gate> Runner<'a, P, R, G> {
             return false;
         };
         let d = packet.d;
-        let followed = self.follow(replica, store, seat, packet).is_ok();
+        let is_brought = self.take_on(replica, store, seat, packet).is_some();
         board.finish(d);
-        if !followed {
+        if !is_brought {
             board.stop();
         }
-        followed
+        is_brought
     }
 }
 

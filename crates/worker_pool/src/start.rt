@@ -113,9 +113,7 @@ where
         row_seat: Snapshot::of(&seats.rows),
         peer_seat: Snapshot::of(&seats.peers),
     };
-    match scope.spawn_with(promise, move || {
-        carry_all::<T, P, R, G>(desk, alloc, seats)
-    }) {
+    match scope.spawn_with(promise, move || { carry_all::<T, P, R, G>(desk, seats) }) {
         Ok(handle) => {
             let entry = EntryThread {
                 rt: desk.rt,
