@@ -67,7 +67,8 @@ fn new_agents(alloc: Global, devices: usize) -> Result<Vec<Agent>, AllocError> {
 }
 
 impl<'a, R: Wait> EntryThread<'a, R> {
-    /// Sends the message of a device behind so many, if there is one. None where no one is left to take it, or there is no memory.
+    /// Sends the message of a device behind so many, and answers whether there is one. None where no one is left to take it, or there is
+    /// no memory.
     fn send_behind<C: Named>(
         &self,
         line: &Line<C>,
@@ -75,24 +76,25 @@ impl<'a, R: Wait> EntryThread<'a, R> {
         agent: &mut Agent,
         d: DeviceId,
         acked: u64,
-    ) -> Option<()>
+    ) -> Option<bool>
         requires charter { self.now.charter.now ≡ C.charter }
         requires device { IsDevice (length self.now.charter.now.rows) d.0 }
         requires place { IsSeatAt (sends_on line.now) place.old }
         ensures place { IsSeatAt (sends_on line.now) place.new }
     {
         let Some(packet) = message_at(self.charter, d, acked).ok()? else {
-            return Some(());
+            return Some(false);
         };
         if !send::<C, R>(self.rt, line, place, packet) {
             return None;
         }
         agent.out = agent.out.saturating_add(1);
-        Some(())
+        Some(true)
     }
 
     /// Sends the first message that is not acknowledged of the device of that place, which has waited: a worker goes on with those
-    /// behind it. None where no one is left to take a packet, or there is no memory.
+    /// behind it. Where an answer is awaited, nothing is sent: what brings it marks the device. None where no one is left to take a
+    /// packet, or there is no memory.
     fn send_at<C: Named>(
         &self,
         line: &Line<C>,
@@ -111,11 +113,15 @@ impl<'a, R: Wait> EntryThread<'a, R> {
         let Some(agent) = agents.get_mut(index) else {
             return Some(());
         };
-        let acked = self.board.rests_at(d).unwrap_or(0);
-        self.send_behind::<C>(line, place, agent, d, acked)?;
-        agent.stage = Stage::UnderWay;
-        agent.again = false;
-        queues.enter(d);
+        agent.stage = Stage::Idle;
+        let Some(acked) = self.board.rests_at(d) else {
+            return Some(());
+        };
+        if self.send_behind::<C>(line, place, agent, d, acked)? {
+            agent.stage = Stage::UnderWay;
+            agent.again = false;
+            queues.enter(d);
+        }
         Some(())
     }
 
@@ -224,7 +230,8 @@ impl<'a, R: Wait> EntryThread<'a, R> {
             return Some(());
         }
         agent.again = true;
-        self.send_behind::<C>(line, place, agent, d, acked)
+        self.send_behind::<C>(line, place, agent, d, acked)?;
+        Some(())
     }
 
     /// Sends so of each device, where there is another worker to take it, and no more devices than workers are left.
