@@ -38,11 +38,19 @@ impl Framing for Ies {
         read_frame(end, left)
     }
 
+    fn wrong(tag: u32) -> Reason {
+        Reason::GtpValue((tag % 256) as u8)
+    }
+
     fn repeated(tag: u32) -> Reason {
         Reason::RepeatedIe((tag % 65536) as u16)
     }
 
     fn missing(tag: u32) -> Reason {
         Reason::MissingIe((tag % 65536) as u16)
+    }
+
+    fn takes_empty() -> bool {
+        false
     }
 }

@@ -4,10 +4,14 @@
 
 mod elements;
 mod frame;
+mod header;
+mod picking;
 mod values;
 
 pub use elements::{
     put_address, put_apn, put_cause, put_fteid, put_head, put_imsi, put_octet, put_qos, put_rates,
 };
 pub use frame::Ies;
+pub use header::put_header;
+pub use picking::{found, rejecting};
 pub use values::{address, apn, cause, ebi, exactly, fteid, imsi, no_address, qos, rates};

@@ -6,11 +6,12 @@ use Rattle.tlv_elements.specs.Grammar.{Framed, first, HoldsAll}
 use Rattle.tlv_elements.proofs.Whole.{IsTable}
 use Rattle.tlv_elements.proofs.Fields.{NeedsAll, find_first}
 use Rattle.gtp2_ies.specs.Frame.{frame_in, gtp}
+use Rattle.gtp2_ies.specs.Picking.{found}
 use Rattle.gtp2_ies.proofs.Frames.{gtp_is}
 use Rattle.gtp2_wire.specs.declared.kind.Kind.{Kind}
 use Rattle.gtp2_wire.specs.declared.kind.Kind.TheVariants as kinds
 use Rattle.gtp2_wire.specs.Tables.{Nothing, CreateFields, CreatedFields, ModifyFields, ModifiedFields, create_bearer, created_bearer, modify_bearer, modified_bearer, create, created, modify, modified, delete, release, cause_alone}
-use Rattle.gtp2_wire.specs.Shapes.{Shape, shape_of, make_create, make_created, make_modify, make_modified, make_delete, found, pick_create, pick_created, pick_modify, pick_modified, pick_delete}
+use Rattle.gtp2_wire.specs.Shapes.{Shape, shape_of, make_create, make_created, make_modify, make_modified, make_delete, pick_create, pick_created, pick_modify, pick_modified, pick_delete}
 use Rattle.gtp2_wire.proofs.ValueLaws.{exactly_is, cause_is, ebi_is, fteid_is, address_is, no_address_is, rates_is, qos_is, apn_is, imsi_is}
 
 pub record IsShape (s : Shape) : Type 0 where

@@ -10,6 +10,7 @@ use Rattle.tlv_elements.specs.Grammar.{Rows, Framed, named, first, HoldsAll, law
 use Rattle.tlv_elements.specs.Piece.{piece_in, given_in}
 use Rattle.tlv_elements.proofs.Writes.{IsWritten, NamedAll, WrittenAll, FitsAll, written_holds, rows_pairs, of_itself}
 use Rattle.gtp2_ies.specs.Frame.{frame_in, frame_run, gtp}
+use Rattle.gtp2_ies.specs.Picking.{found, other_than_16, rejecting}
 use Rattle.gtp2_ies.specs.Values.{cause}
 use Rattle.gtp2_ies.proofs.ImsiLaws.{coded_length, imsi_length}
 use Rattle.gtp2_wire.specs.declared.gtp.Gtp.{Gtp}
@@ -20,8 +21,8 @@ use Rattle.gtp2_wire.specs.declared.kind.Kind.TheVariants as kinds
 use Rattle.gtp2_wire.specs.Header.{Header}
 use Rattle.gtp2_wire.specs.Kinds.{type_of, is_answer}
 use Rattle.gtp2_wire.specs.Tables.{create, created, modify, modified, delete, cause_alone}
-use Rattle.gtp2_wire.specs.Shapes.{Shape, shape_of, found}
-use Rattle.gtp2_wire.specs.Messages.{other_than_16, rejection, Wholes, SpellsBy, SpellsBody, nothing, header_in, gtp_in, GtpSpells}
+use Rattle.gtp2_wire.specs.Shapes.{Shape, shape_of}
+use Rattle.gtp2_wire.specs.Messages.{rejection, Wholes, SpellsBy, SpellsBody, nothing, header_in, gtp_in, GtpSpells}
 use Rattle.gtp2_wire.specs.Written.{type_octet, body_run, gtp_run, IsBody, IsAnswerType, IsGtp, AreWords, HasWords}
 use Rattle.gtp2_wire.proofs.ValueLaws.{exactly_back, cause_back, ebi_back, fteid_back, address_back, no_address_back, rates_back, qos_back, apn_back, imsi_back}
 use Rattle.gtp2_wire.proofs.ShapeLaws.{is_found, shape_is}
@@ -134,7 +135,7 @@ spells kind end a fits accepts =
     subst (λ o. SpellsBy o kind end false run ((shape_of kind).make a)) (sym (accepts x.0 x.1.0.0 x.2)) (x.0, x.1, (a, x.2, refl))
 
 -- an answer whose cause is 16 does not reject
-accepted : (end : ℕ) (octets : List ℕ) (es : List Element) (e : Element) → Framed frame_in end octets es [] → first 2 0 es ≡ Some e → cause.Means e.value 16 → and_then (found 2 end octets) (λ e. other_than_16 e.value) ≡ None
+accepted : (end : ℕ) (octets : List ℕ) (es : List Element) (e : Element) → Framed frame_in end octets es [] → first 2 0 es ≡ Some e → cause.Means e.value 16 → rejecting end octets ≡ None
 unfolding piece_in given_in
 accepted end octets es e framed h m =
     let c : m.1.0 ≡ 16 = sym m.1.3.3.0 in
@@ -159,7 +160,7 @@ not_16 v c e n = by (eqb v 16) refl
     by true h = absurd (n (e ∙ eqb-true v 16 h))
     by false h = rw h (ap (λ x. Some x) (sym e))
 
-rejects : (end : ℕ) (octets : List ℕ) (es : List Element) (e : Element) (c : ℕ) → Framed frame_in end octets es [] → es ≡ e ∷ [] → e.tag ≡ 2 → e.mark ≡ 0 → cause.Means e.value c → (c ≡ 16 → ⊥) → and_then (found 2 end octets) (λ e. other_than_16 e.value) ≡ Some c
+rejects : (end : ℕ) (octets : List ℕ) (es : List Element) (e : Element) (c : ℕ) → Framed frame_in end octets es [] → es ≡ e ∷ [] → e.tag ≡ 2 → e.mark ≡ 0 → cause.Means e.value c → (c ≡ 16 → ⊥) → rejecting end octets ≡ Some c
 unfolding piece_in given_in
 rejects end octets es e c framed one t m means n =
     let f : first 2 0 es ≡ Some e = ap (first 2 0) one ∙ ap (λ b. cond b (Some e) None) (of_itself cause_law.rule e t m) in
@@ -198,7 +199,7 @@ rejected kind is end c few other =
     let octets = rows_run frame_run cause_alone (c, tt) in
     let x = one_cause end c few in
     let es = x.1.0 in
-    let o : rejection kind end octets ≡ Some c = ap (λ b. cond b (and_then (found 2 end octets) (λ e. other_than_16 e.value)) None) is.answers ∙ rejects end octets es x.0 c x.1.1 x.1.2 x.1.3 x.1.4 x.1.5 other in
+    let o : rejection kind end octets ≡ Some c = ap (λ b. cond b (rejecting end octets) None) is.answers ∙ rejects end octets es x.0 c x.1.1 x.1.2 x.1.3 x.1.4 x.1.5 other in
     subst (λ o. SpellsBy o kind end false octets (body.Rejected (type_of kind) c)) (sym o) (cause_enough kind is end octets es x.0 c x.1.1 x.1.2 x.1.3 x.1.4 x.1.5, refl)
 
 -- ---- whole messages

@@ -10,25 +10,21 @@ use Rattle.echo_base.specs.Reading as readings
 use Rattle.echo_base.specs.Reading.{done, known, value_of}
 use Rattle.tlv_elements.specs.Element.{Element, refusal_at, truncated}
 use Rattle.tlv_elements.specs.Reading.{whole_at, table_at}
-use Rattle.tlv_elements.specs.Grammar.{laws, and_then, SpellsTable, SpellsWhole, RefusesWhole}
+use Rattle.tlv_elements.specs.Grammar.{laws, SpellsTable, SpellsWhole, RefusesWhole}
 use Rattle.tlv_elements.specs.Piece.{passing, Passes}
 use Rattle.gtp2_ies.specs.Frame.{frame_in, gtp}
+use Rattle.gtp2_ies.specs.Picking.{rejecting}
 use Rattle.gtp2_wire.specs.declared.gtp.Gtp.{Gtp}
 use Rattle.gtp2_wire.specs.declared.gtp.GtpBody.{GtpBody}
 use Rattle.gtp2_wire.specs.declared.gtp.GtpBody.TheVariants as body
 use Rattle.gtp2_wire.specs.declared.kind.Kind.{Kind}
 use Rattle.gtp2_wire.specs.Header.{Header}
 use Rattle.gtp2_wire.specs.Kinds.{type_of, kind_of, is_answer}
-use Rattle.gtp2_wire.specs.Shapes.{shape_of, kind_rules, found}
+use Rattle.gtp2_wire.specs.Shapes.{shape_of, kind_rules}
 
--- ---- an answer that rejects: the first octet of its first cause is not 16, "request accepted" (8.4)
-
-abbrev pub other_than_16 : List ℕ → Option ℕ
-other_than_16 [] = None
-other_than_16 (c ∷ octets) = if c == 16 then None else Some c
-
+-- the cause of an answer that rejects
 abbrev pub rejection : Kind → ℕ → List ℕ → Option ℕ
-rejection kind end octets = if is_answer kind then and_then (found 2 end octets) (λ e. other_than_16 e.value) else None
+rejection kind end octets = if is_answer kind then rejecting end octets else None
 
 -- ---- what is behind the header, up to the end that its length says; are there octets behind that end?
 

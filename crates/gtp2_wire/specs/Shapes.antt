@@ -1,9 +1,9 @@
 -- Kinds of messages: the table of each, and what its fields say.
 use Rattle.std.specs.Prelude.{ℕ, Bool, List, Option, Some}
-use Rattle.tlv_elements.specs.Element.{Element, Rule}
-use Rattle.tlv_elements.specs.Reading.{find_at}
+use Rattle.tlv_elements.specs.Element.{Rule}
 use Rattle.tlv_elements.specs.Grammar.{Rows, rules, and_then}
 use Rattle.gtp2_ies.specs.Frame.{frame_in, gtp}
+use Rattle.gtp2_ies.specs.Picking.{found}
 use Rattle.gtp2_ies.specs.Values.{ebi, fteid, address, rates, apn, imsi}
 use Rattle.gtp2_wire.specs.declared.gtp.GtpBody.{GtpBody}
 use Rattle.gtp2_wire.specs.declared.gtp.GtpBody.TheVariants as body
@@ -36,10 +36,6 @@ abbrev pub make_delete : ℕ × Nothing → GtpBody
 make_delete f = body.Delete f.0
 
 -- ---- the same as it is picked
-
--- the first element of a type, of instance 0
-abbrev pub found : ℕ → ℕ → List ℕ → Option Element
-found tag end octets = find_at gtp end tag 0 octets
 
 -- the bearer that it says, and the tunnel of an interface
 abbrev pub ebi_at : ℕ → List ℕ → Option ℕ

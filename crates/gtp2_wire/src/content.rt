@@ -1,12 +1,9 @@
 //! What the values of information elements are.
 
-ghost use Rattle.std.specs.Prelude.{◌≡◌, Ok, Err, if◌then◌else◌};
-ghost use Rattle.tlv_elements.specs.Grammar.{wrong_at};
-ghost use Rattle.gtp2_ies.specs.Frame.{gtp};
-
 use crate::tables::check_bearer;
-use echo_base::{Reason, Refusal};
-use tlv_elements::{Content as ElementContent, Found};
+use echo_base::Refusal;
+use gtp2_ies::Ies;
+use tlv_elements::{Content as ElementContent, Found, check_value};
 
 /// What the value of an element outside of groups is (3GPP TS 29.274, 8).
 #[derive(Clone, Copy)]
@@ -59,27 +56,6 @@ pub enum Member {
     Fteid(u8),
 }
 
-/// The refusal of an element of wrong form.
-pub fn wrong(element: &Found) -> Refusal
-    ensures { result ≡ wrong_at gtp element.now }
-{
-    let tag = (element.tag % 256) as u8;
-    Refusal {
-        reason: Reason::GtpValue(tag),
-        place: element.place,
-    }
-}
-
-/// Passes an element of right form.
-fn told(right: bool, element: &Found) -> Result<(), Refusal>
-    ensures { result ≡ (if right then Ok tt else Err (wrong_at gtp element.now)) }
-{
-    if right {
-        return Ok(());
-    }
-    Err(wrong(element))
-}
-
 impl ElementContent for Member {
     ghost use Rattle.gtp2_wire.specs.Checks.{member_check};
 
@@ -88,10 +64,13 @@ impl ElementContent for Member {
     fn check(self, element: &Found) -> Result<(), Refusal> {
         let value = element.value;
         match self {
-            Member::Ebi => told(gtp2_ies::ebi(value).is_some(), element),
-            Member::Qos => told(gtp2_ies::qos(value).is_some(), element),
-            Member::Cause => told(gtp2_ies::cause(value).is_some(), element),
-            Member::Fteid(whose) => told(gtp2_ies::fteid(value, whose).is_some(), element),
+            Member::Ebi => check_value::<Ies>(gtp2_ies::ebi(value).is_some(), element),
+            Member::Qos => check_value::<Ies>(gtp2_ies::qos(value).is_some(), element),
+            Member::Cause => check_value::<Ies>(gtp2_ies::cause(value).is_some(), element),
+            Member::Fteid(whose) => check_value::<Ies>(
+                gtp2_ies::fteid(value, whose).is_some(),
+                element,
+            ),
         }
     }
 }
@@ -104,15 +83,24 @@ impl ElementContent for Content {
     fn check(self, element: &Found) -> Result<(), Refusal> {
         let value = element.value;
         match self {
-            Content::Imsi => told(gtp2_ies::imsi(value).is_some(), element),
-            Content::Exactly(wanted) => told(gtp2_ies::exactly(value, wanted).is_some(), element),
-            Content::Fteid(whose) => told(gtp2_ies::fteid(value, whose).is_some(), element),
-            Content::Apn => told(gtp2_ies::apn(value).is_some(), element),
-            Content::NoAddress => told(gtp2_ies::no_address(value).is_some(), element),
-            Content::Address => told(gtp2_ies::address(value).is_some(), element),
-            Content::Rates => told(gtp2_ies::rates(value).is_some(), element),
-            Content::Cause => told(gtp2_ies::cause(value).is_some(), element),
-            Content::Ebi => told(gtp2_ies::ebi(value).is_some(), element),
+            Content::Imsi => check_value::<Ies>(gtp2_ies::imsi(value).is_some(), element),
+            Content::Exactly(wanted) => check_value::<Ies>(
+                gtp2_ies::exactly(value, wanted).is_some(),
+                element,
+            ),
+            Content::Fteid(whose) => check_value::<Ies>(
+                gtp2_ies::fteid(value, whose).is_some(),
+                element,
+            ),
+            Content::Apn => check_value::<Ies>(gtp2_ies::apn(value).is_some(), element),
+            Content::NoAddress => check_value::<Ies>(
+                gtp2_ies::no_address(value).is_some(),
+                element,
+            ),
+            Content::Address => check_value::<Ies>(gtp2_ies::address(value).is_some(), element),
+            Content::Rates => check_value::<Ies>(gtp2_ies::rates(value).is_some(), element),
+            Content::Cause => check_value::<Ies>(gtp2_ies::cause(value).is_some(), element),
+            Content::Ebi => check_value::<Ies>(gtp2_ies::ebi(value).is_some(), element),
             Content::Bearer(which, all) => check_bearer(which, all, element),
         }
     }

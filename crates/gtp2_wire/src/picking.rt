@@ -1,20 +1,12 @@
 //! What messages say, picked out of octets that are known to be right.
 
 ghost use Rattle.std.specs.Prelude.{◌≡◌, IfSome};
-ghost use Rattle.gtp2_wire.specs.Shapes.{found, ebi_at, fteid_at, pick_create, pick_created, pick_modify, pick_modified, pick_delete};
+ghost use Rattle.gtp2_wire.specs.Shapes.{ebi_at, fteid_at, pick_create, pick_created, pick_modify, pick_modified, pick_delete};
 ghost use Rattle.gtp2_wire.specs.Written.{IsBearer, IsBody};
 
 use crate::gtp::GtpBody;
 use crate::parts::CreateParts;
-use gtp2_ies::Ies;
-use tlv_elements::{Found, find};
-
-/// The first element of that type and instance 0.
-pub fn found<'a>(tag: u32, end: u64, octets: &'a [u8]) -> Option<Found<'a>>
-    ensures { result ≡ found tag end octets.now }
-{
-    find::<Ies>(end, octets, tag, 0)
-}
+use gtp2_ies::found;
 
 /// The bearer.
 fn ebi(end: u64, octets: &[u8]) -> Option<u8>

@@ -10,15 +10,16 @@ ghost use Rattle.gtp2_wire.specs.declared.gtp.Gtp.{Gtp};
 ghost use Rattle.gtp2_wire.specs.declared.gtp.GtpBody.TheVariants.{Rejected};
 ghost use Rattle.gtp2_wire.specs.Kinds.{type_of};
 ghost use Rattle.gtp2_wire.specs.Shapes.{shape_of};
-ghost use Rattle.gtp2_wire.specs.Messages.{other_than_16, rejection, body_at, header_at, gtp_at, gtp_of, GtpSpells, GtpRefuses, IsCreate, TakesMemory, SpellsTaking};
+ghost use Rattle.gtp2_wire.specs.Messages.{rejection, body_at, header_at, gtp_at, gtp_of, GtpSpells, GtpRefuses, IsCreate, TakesMemory, SpellsTaking};
 ghost use Rattle.gtp2_wire.specs.Written.{IsBody, IsGtp};
 
 use crate::gtp::{Gtp, GtpBody};
 use crate::header::Header;
 use crate::kind::{Kind, is_answer, kind_of, type_of};
-use crate::picking::{found, pick_create, pick_created, pick_delete, pick_modified, pick_modify};
+use crate::picking::{pick_create, pick_created, pick_delete, pick_modified, pick_modify};
 use crate::tables::read_elements;
 use echo_base::{Bad, Reason, Refusal};
+use gtp2_ies::rejecting;
 use std::alloc::Global;
 use tlv_elements::{Left, truncated};
 
@@ -28,26 +29,13 @@ const NEVER: Refusal = Refusal {
     place: 0,
 };
 
-/// The first octet, where it is another one than 16.
-fn other_than_16(octets: &[u8]) -> Option<u8>
-    ensures cause { result ≡ other_than_16 octets.now }
-    ensures other { IfSome result (λ cause. cause ≡ 16 → ⊥) }
-{
-    let (cause, _) = octets.split_first()?;
-    if *cause == 16 {
-        return None;
-    }
-    Some(*cause)
-}
-
 /// The cause of an answer that rejects.
 fn rejection(kind: Kind, end: u64, octets: &[u8]) -> Option<u8>
     ensures cause { result ≡ rejection kind end octets.now }
     ensures written { IfSome result (λ cause. IsBody (Rejected (type_of kind) cause)) }
 {
     if is_answer(kind) {
-        let cause = found(2, end, octets)?;
-        return other_than_16(cause.value);
+        return rejecting(end, octets);
     }
     None
 }

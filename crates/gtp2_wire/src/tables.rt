@@ -1,19 +1,16 @@
 //! The messages and bearer contexts as the program keeps them: the tables of `specs/Tables.antt`, and nothing besides.
 
-ghost use Rattle.std.specs.Prelude.{◌≡◌, false};
-ghost use Rattle.tlv_elements.specs.Rules.{rules_of};
-ghost use Rattle.tlv_elements.specs.Grammar.{rules, is_bare};
+ghost use Rattle.std.specs.Prelude.{◌≡◌};
 ghost use Rattle.tlv_elements.specs.Reading.{whole_at};
-ghost use Rattle.gtp2_ies.specs.Frame.{frame_in, gtp};
-ghost use Rattle.gtp2_wire.specs.Tables.{create, created, modify, modified, delete, release, cause_alone, create_bearer, created_bearer, modify_bearer, modified_bearer};
-ghost use Rattle.gtp2_wire.specs.Checks.{bearer_check, bearer_rules};
+ghost use Rattle.gtp2_ies.specs.Frame.{gtp};
+ghost use Rattle.gtp2_wire.specs.Checks.{bearer_check};
 ghost use Rattle.gtp2_wire.specs.Shapes.{kind_rules};
 
-use crate::content::{Bearer, Content, Member, wrong};
+use crate::content::{Bearer, Content, Member};
 use crate::kind::Kind;
 use echo_base::Refusal;
 use gtp2_ies::Ies;
-use tlv_elements::{Found, Row, read_whole};
+use tlv_elements::{Found, Row, check_group, read_whole};
 
 /// A row of a table.
 fn row<T>(tag: u32, needed: bool, content: T) -> Row<T>
@@ -27,42 +24,30 @@ fn row<T>(tag: u32, needed: bool, content: T) -> Row<T>
     }
 }
 
-/// Reads the elements of a bearer context.
-#[rattlefmt::skip]
-fn read_bearer(which: Bearer, all: bool, element: &Found) -> Result<(), Refusal>
-    ensures { result ≡ whole_at gtp (bearer_rules which all) element.now.stop false element.now.value }
-{
-    let end = element.stop;
-    let octets = element.value;
-    match which {
-        Bearer::Create => read_whole::<Ies, Member>(&[
-            row(73, true, Member::Ebi),
-            row(80, true, Member::Qos),
-        ], end, false, octets),
-        Bearer::Created => read_whole::<Ies, Member>(&[
-            row(73, all, Member::Ebi),
-            row(2, all, Member::Cause),
-            row(87, all, Member::Fteid(0x81)),
-        ], end, false, octets),
-        Bearer::Modify => read_whole::<Ies, Member>(&[
-            row(73, true, Member::Ebi),
-            row(87, true, Member::Fteid(0x80)),
-        ], end, false, octets),
-        Bearer::Modified => read_whole::<Ies, Member>(&[
-            row(73, all, Member::Ebi),
-            row(2, all, Member::Cause),
-        ], end, false, octets),
-    }
-}
-
 /// Is a bearer context right?
+#[rattlefmt::skip]
 pub fn check_bearer(which: Bearer, all: bool, element: &Found) -> Result<(), Refusal>
     ensures { result ≡ bearer_check which all element.now }
 {
-    if element.value.is_empty() {
-        return Err(wrong(element));
+    match which {
+        Bearer::Create => check_group::<Ies, Member>(&[
+            row(73, true, Member::Ebi),
+            row(80, true, Member::Qos),
+        ], element),
+        Bearer::Created => check_group::<Ies, Member>(&[
+            row(73, all, Member::Ebi),
+            row(2, all, Member::Cause),
+            row(87, all, Member::Fteid(0x81)),
+        ], element),
+        Bearer::Modify => check_group::<Ies, Member>(&[
+            row(73, true, Member::Ebi),
+            row(87, true, Member::Fteid(0x80)),
+        ], element),
+        Bearer::Modified => check_group::<Ies, Member>(&[
+            row(73, all, Member::Ebi),
+            row(2, all, Member::Cause),
+        ], element),
     }
-    read_bearer(which, all, element)
 }
 
 /// Reads the elements of a message of that kind. all: all of them are needed.

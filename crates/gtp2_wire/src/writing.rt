@@ -1,7 +1,6 @@
 //! Writing messages.
 
 ghost use Rattle.std.specs.Prelude.{◌≡◌, ◌+◌, ◌^◌, ◌<◌, ◌≤◌, [], ◌∷◌, ◌++◌, true, IfOk, OnOk, length};
-ghost use Rattle.echo_base.specs.Field.{number_run};
 ghost use Rattle.tlv_elements.specs.Grammar.{rows_run};
 ghost use Rattle.gtp2_ies.specs.Frame.{frame_run};
 ghost use Rattle.gtp2_ies.specs.Values.{fteid, apn};
@@ -13,10 +12,10 @@ use crate::gtp::{Gtp, GtpBody};
 use device_types::Octets;
 use echo_base::OutOfMemory;
 use gtp2_ies::{
-    put_address, put_apn, put_cause, put_fteid, put_head, put_imsi, put_octet, put_qos, put_rates,
+    put_address, put_apn, put_cause, put_fteid, put_head, put_header, put_imsi, put_octet, put_qos,
+    put_rates,
 };
 use std::alloc::Global;
-use tlv_elements::{put_u16, put_u24, put_u32};
 
 /// The bearer context of a Create Session Request.
 fn put_create_bearer(out: &mut Vec<u8>, ebi: u8) -> Result<(), OutOfMemory>
@@ -171,27 +170,6 @@ fn body_length(body: &GtpBody) -> u16
         GtpBody::Release => 0,
         GtpBody::Deleted | GtpBody::Released | GtpBody::Rejected { .. } => 6,
     }
-}
-
-/// The header of a message whose elements have so many octets.
-fn put_header(
-    out: &mut Vec<u8>,
-    kind: u8,
-    count: u16,
-    teid: u32,
-    seq: u32,
-) -> Result<(), OutOfMemory>
-    requires count { count ≤ 126 }
-    requires seq { seq < 2 ^ 24 }
-    ensures { OnOk result (out.new.items ≡ out.old.items ++ (0x48 ∷ kind ∷ (number_run 2 (8 + count) ++ (number_run 4 teid ++ (number_run 3 seq ++ (0 ∷ [])))))) }
-{
-    out.push(0x48)?;
-    out.push(kind)?;
-    put_u16(out, 8 + count)?;
-    put_u32(out, teid)?;
-    put_u24(out, seq)?;
-    out.push(0)?;
-    Ok(())
 }
 
 /// Writes a message in its one form.
