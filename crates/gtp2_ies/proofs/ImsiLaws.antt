@@ -1,8 +1,10 @@
 -- The digits of an IMSI: the octets that are read are those that are written.
-use Rattle.std.proofs.Common.{◌≡◌, ℕ, zero, suc, ◌+◌, ◌*◌, ◌/◌, ◌%◌, ◌^◌, ◌<◌, ◌≤◌, ◌&&◌, eqb, leb, Bool, true, false, cond, List, [], ◌∷◌, ◌++◌, length, take, drop, get_or, Option, Some, None, refl, sym, ap, ◌∙◌, arith, eq-eqb}
+use Rattle.std.proofs.Common.{◌≡◌, ℕ, zero, suc, ◌+◌, ◌*◌, ◌/◌, ◌%◌, ◌^◌, ◌<◌, ◌≤◌, ◌&&◌, eqb, leb, Bool, true, false, cond, List, [], ◌∷◌, ◌++◌, length, take, drop, get_or, Option, Some, None, refl, sym, ap, ◌∙◌, arith}
 use Rattle.std.proofs.lemmas.Bool.{eqb-true, leb-true, le-leb}
-use Rattle.std.proofs.lemmas.List.{take-append-drop, take_at, length-take, length-drop, length-append, get_or-append_right}
+use Rattle.std.proofs.lemmas.List.{take-append-drop, take_at, length-take, length-drop, drop_more, length-append, get_or-append_right}
+use Rattle.std.proofs.Math.Nat.{pow-le-pow_right}
 use Rattle.std.proofs.Math.Seq.{drop-cons}
+use Rattle.std.proofs.lemmas.Grind.{pow_more}
 use Rattle.echo_base.specs.Format.{Decides}
 use Rattle.tlv_elements.specs.Grammar.{and_then}
 use Rattle.tlv_elements.specs.Piece.{passing}
@@ -91,16 +93,43 @@ imsi_decides octets = record {
         let eight : length (front ++ (v % 10 + 240) ∷ []) ≡ 8 = omega (arith, seven, length-append front ((v % 10 + 240) ∷ [])) in
         rw (eight, take_at front ((v % 10 + 240) ∷ []) 7 seven, get_or-append_right front ((v % 10 + 240) ∷ []) 7 7 0 seven (omega arith)) (imsi_of_back v few)
 
--- what the program makes of eight octets
-pub imsi_is : (octets : List ℕ) (a b c d e f g v : ℕ) → length octets ≡ 8
-    → pair_of (get_or octets 0 0) ≡ Some a → pair_of (get_or octets 1 0) ≡ Some b → pair_of (get_or octets 2 0) ≡ Some c → pair_of (get_or octets 3 0) ≡ Some d
-    → pair_of (get_or octets 4 0) ≡ Some e → pair_of (get_or octets 5 0) ≡ Some f → pair_of (get_or octets 6 0) ≡ Some g
-    → get_or octets 7 0 % 16 ≤ 9 → get_or octets 7 0 / 16 ≡ 15
-    → v ≡ 10 * (100 * (100 * (100 * (100 * (100 * (100 * a + b) + c) + d) + e) + f) + g) + get_or octets 7 0 % 16 → imsi_decode octets ≡ Some v
-unfolding imsi_decode number_from
-imsi_is (o ∷ p ∷ q ∷ r ∷ s ∷ t ∷ u ∷ w ∷ []) a b c d e f g v eight pa pb pc pd pe pf pg low high sum =
-    rw (pa, pb, pc, pd, pe, pf, pg, le-leb (w % 16) 9 low, eq-eqb (w / 16) 15 high) (ap (λ x. Some x) (omega arith))
-imsi_is octets a b c d e f g v eight pa pb pc pd pe pf pg low high sum = absurd (omega arith)
+-- ---- read pair by pair
+
+pub number_few : (octets : List ℕ) (n : ℕ) → length octets ≡ 7 → number_from pair_of 100 0 octets ≡ Some n → n < 10 ^ 14
+number_few octets n seven h =
+    let d = digits_found pair_run pair_of 100 (λ o n h. pair_found o n h) 7 0 n octets seven h in
+    let few : d.0 < 10 ^ 14 = d.1 in
+    omega (arith, few, d.2)
+
+pub number_fits : (i n : ℕ) → i < 7 → n < 100 ^ i → 100 * n + 99 < 2 ^ 64
+number_fits i n few h =
+    let e : i ≤ 6 = omega arith in
+    let most : 100 ^ i ≤ 100 ^ 6 = pow-le-pow_right (omega arith) e in
+    omega arith
+
+pub number_more : (i n d : ℕ) → n < 100 ^ i → d < 100 → 100 * n + d < 100 ^ (i + 1)
+number_more i n d h g =
+    let e : 100 ^ (i + 1) ≡ 100 ^ i * 100 = pow_more 100 i in
+    omega arith
+
+-- one more pair
+step_at : (n octet : ℕ) (octets : List ℕ) → number_from pair_of 100 n (octet ∷ octets) ≡ and_then (pair_of octet) (λ d. number_from pair_of 100 (100 * n + d) octets)
+unfolding number_from
+step_at n octet octets = refl
+
+pub pair_at : (i n d m : ℕ) (octets : List ℕ) → i < length octets → pair_of (get_or octets i 0) ≡ Some d → m ≡ d → number_from pair_of 100 (100 * n + m) (drop (i + 1) octets) ≡ number_from pair_of 100 n (drop i octets)
+pair_at i n d m octets within h e =
+    let rest = drop (i + 1) octets in
+    rw (drop_more octets i 0 within, e) (sym (step_at n (get_or octets i 0) rest ∙ rw h refl))
+
+pub no_pair : (i n : ℕ) (octets : List ℕ) → i < length octets → pair_of (get_or octets i 0) ≡ None → number_from pair_of 100 n (drop i octets) ≡ None
+no_pair i n octets within h =
+    let rest = drop (i + 1) octets in
+    rw (drop_more octets i 0 within) (step_at n (get_or octets i 0) rest ∙ rw h refl)
+
+pub number_end : (i n : ℕ) (octets : List ℕ) → length octets ≤ i → number_from pair_of 100 n (drop i octets) ≡ Some n
+unfolding number_from
+number_end i n octets past = rw (no_octets (drop i octets) (omega (arith, length-drop i octets))) refl
 
 -- the octets of an IMSI as the program makes them
 pub imsi_octets_are : (v a b c d e f g : ℕ)

@@ -2,6 +2,7 @@
 //! an IMSI and an access point name are exact.
 
 ghost use Rattle.std.specs.Prelude.{◌≡◌, ◌^◌, ◌<◌, ◌≤◌, IfSome, option_map, length};
+ghost use Rattle.tlv_elements.specs.Digits.{number_from};
 ghost use Rattle.gtp2_ies.specs.Values.{exactly, cause, ebi, fteid, address, no_address, rates, qos, apn, imsi, pair_of};
 
 use echo_base::{Reason, Refusal};
@@ -133,24 +134,35 @@ fn pair_of(octet: u8) -> Option<u8>
     Some(10 * first + second)
 }
 
+/// The number of seven pairs of digits.
+fn number_of(octets: &[u8]) -> Option<u64>
+    requires { length octets.now ≡ 7 }
+    ensures value { result ≡ number_from pair_of 100 0 octets.now }
+    ensures range { IfSome result (λ n. n < 10 ^ 14) }
+{
+    let mut number: u64 = 0;
+    for octet in octets {
+        let Some(pair) = pair_of(*octet) else {
+            return None;
+        };
+        number = 100 * number + u64::from(pair);
+    }
+    Some(number)
+}
+
 /// The IMSI (8.3).
-#[tactic(auto, unfolding(crate::specs::Values::imsi_decode, tlv_elements::specs::Digits::number_from))]
+#[tactic(auto, unfolding(crate::specs::Values::imsi_decode))]
 pub fn imsi(octets: &[u8]) -> Option<u64>
     ensures value { result ≡ imsi.decode octets.now }
     ensures range { IfSome result (λ n. n < 10 ^ 15) }
 {
-    let [a, b, c, d, e, f, g, last] = octets else {
-        return None;
-    };
-    let n = u64::from(pair_of(*a)?);
-    let n = 100 * n + u64::from(pair_of(*b)?);
-    let n = 100 * n + u64::from(pair_of(*c)?);
-    let n = 100 * n + u64::from(pair_of(*d)?);
-    let n = 100 * n + u64::from(pair_of(*e)?);
-    let n = 100 * n + u64::from(pair_of(*f)?);
-    let n = 100 * n + u64::from(pair_of(*g)?);
-    if *last % 16 > 9 || *last / 16 != 15 {
+    if octets.len() != 8 {
         return None;
     }
-    Some(10 * n + u64::from(*last % 16))
+    let n = number_of(&octets[..7])?;
+    let last = octets[7];
+    if last % 16 > 9 || last / 16 != 15 {
+        return None;
+    }
+    Some(10 * n + u64::from(last % 16))
 }
