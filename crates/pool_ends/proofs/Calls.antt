@@ -19,7 +19,7 @@ use Rattle.pool_rows.specs.Seats.{IsCall, IsOffer}
 use Rattle.pool_ends.specs.Lanes.{HasWhole, told_count}
 use Rattle.session_store.specs.Charter.{CharterState, alone_in}
 use Rattle.session_store.specs.Rows.{Begins, IsDevice}
-use Rattle.store_shared.specs.Legal.{is_call, lane_of}
+use Rattle.shard_parts.specs.BothPeers.{is_call, lane_of}
 
 all_on : (l : Lane) (journal : List Entry) → All (λ x. is_on l x ≡ true) (effects_of l journal)
 all_on l [] = λ k d low. absurd (omega arith)

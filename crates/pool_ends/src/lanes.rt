@@ -5,7 +5,7 @@ ghost use Rattle.device_types.specs.Event.{IsCallLane};
 ghost use Rattle.device_types.specs.Journal.{effects_of, effects_on, is_on, pushed_count};
 ghost use Rattle.session_store.specs.Charter.{alone_in};
 ghost use Rattle.session_store.specs.Rows.{IsDevice};
-ghost use Rattle.store_shared.specs.Legal.{lane_of};
+ghost use Rattle.shard_parts.specs.BothPeers.{lane_of};
 ghost use Rattle.pool_rows.specs.Seats.{GoesOn, IsCall, KnowsCalls};
 ghost use Rattle.pool_ends.specs.Lanes.{HasWhole, told_count};
 

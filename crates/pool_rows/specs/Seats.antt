@@ -13,7 +13,7 @@ use Rattle.replica_worker.specs.Writes.{IsOwnInput}
 use Rattle.session_row.specs.Row.{RowState}
 use Rattle.session_store.specs.Charter.{CharterState, alone_in}
 use Rattle.session_store.specs.Rows.{Begins, IsDevice, with_settled}
-use Rattle.store_shared.specs.Legal.{is_call, lane_of}
+use Rattle.shard_parts.specs.BothPeers.{is_call, lane_of}
 
 -- ---- what a call leaves of a seat
 

@@ -5,7 +5,8 @@ ghost use Rattle.device_types.specs.declared.effect.Effect.{Effect};
 ghost use Rattle.device_types.specs.declared.event.Lane.{Lane};
 ghost use Rattle.session_store.specs.Charter.{CharterState, IsCharter};
 ghost use Rattle.session_store.specs.Rows.{Begins, IsDevice};
-ghost use Rattle.store_shared.specs.Legal.{IsAcceptedOf, lane_of};
+ghost use Rattle.shard_parts.specs.BothPeers.{lane_of};
+ghost use Rattle.store_shared.specs.Legal.{IsAcceptedOf};
 ghost use Rattle.pool_rows.specs.Seats.{GoesOn, IsCall, IsOffer, KnowsCalls};
 
 use device_types::{DeviceId, Effect, Lane, Offer};

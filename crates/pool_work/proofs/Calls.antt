@@ -14,7 +14,7 @@ use Rattle.device_types.specs.Journal.{effects_of, effects_on, is_on}
 use Rattle.pool_rows.specs.Seats.{IsCall, IsOffer, IsOwnOf}
 use Rattle.session_store.specs.Charter.{CharterState, alone_in}
 use Rattle.session_store.specs.Rows.{IsDevice}
-use Rattle.store_shared.specs.Legal.{is_call, lane_of}
+use Rattle.shard_parts.specs.BothPeers.{is_call, lane_of}
 use Rattle.pool_work.specs.Packets.{IsSaid}
 use Rattle.pool_work.specs.Stores.{IsPushed}
 

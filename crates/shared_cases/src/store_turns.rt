@@ -1,7 +1,7 @@
 //! Turns at the shards of a store of 32 devices, in one thread and in two.
 ghost use Rattle.std.specs.Prelude.{◌≡◌, ◌≤◌, ◌<◌, All, IfOk, IfSome};
 ghost use Rattle.session_store.specs.Rows.{IsDevice};
-ghost use Rattle.store_shared.specs.FrontRow.{AreSeatsOf};
+ghost use Rattle.shard_parts.specs.FrontRow.{AreSeatsOf};
 ghost use Rattle.store_shared.specs.StoreBases.{store_basis};
 
 use crate::any_law::{AnyLaw, any_law, first_entry};

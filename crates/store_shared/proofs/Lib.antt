@@ -1,6 +1,4 @@
-pub mod Columns
 pub mod Histories
-pub mod Items
 pub mod Offers
 pub mod PeerTurns
 pub mod StoreCalls

@@ -23,11 +23,12 @@ use Rattle.store_shared.specs.declared.turn.Turn.{Turn}
 use Rattle.store_shared.specs.declared.turn.TurnCall.TheVariants as calls
 use Rattle.store_shared.specs.declared.turn.TurnAnswer.{TurnAnswer}
 use Rattle.store_shared.specs.declared.turn.TurnAnswer.TheVariants as answers
-use Rattle.store_shared.specs.Legal.{is_call, lane_of, accepted_in, peer_says, ArePeers, IsTurn, peers_say, AreAcceptedIn}
+use Rattle.shard_parts.specs.BothPeers.{is_call, lane_of}
+use Rattle.store_shared.specs.Legal.{accepted_in, peer_says, ArePeers, IsTurn, peers_say, AreAcceptedIn}
 use Rattle.store_shared.proofs.Histories.{legal_none, legal_more}
-use Rattle.store_shared.proofs.PeerTurns.{says_so, peers_more, peers_same, on_lane, accepted_more}
-use Rattle.store_shared.specs.declared.peers.Peers.{Peers}
-use Rattle.store_shared.specs.BothPeers.{lists_on, gateway_after, subscriber_after}
+use Rattle.store_shared.proofs.PeerTurns.{peers_more, peers_same, on_lane, accepted_more}
+use Rattle.shard_parts.specs.declared.peers.Peers.{Peers}
+use Rattle.shard_parts.specs.BothPeers.{lists_on, gateway_after, subscriber_after}
 use Rattle.store_shared.specs.PeerShards.{IsPeerShard, IsOffered, offer_by}
 
 -- a shard with a turn more, and that turn
@@ -104,17 +105,6 @@ within_subscriber charter shard d k peers h call kept is = subst (λ (n : ℕ). 
 
 pub got : (rows : List Subscriber) (i : ℕ) (row : Subscriber) → i < length rows → row ≡ get_or rows i row → slice_get rows i ≡ Some row
 got rows i row lt e = slice_get-get_or rows i row lt ∙ ap (λ r. Some r) (sym e)
-
-pub if_ok : {A E : Type 0} (P Q : A → Type 0) (r : Result A E) → ((a : A) → P a → Q a) → IfOk r P → IfOk r Q
-if_ok P Q (Ok a) f h = f a h
-if_ok P Q (Err e) f h = h
-
--- what each peer says is said of its lane
-pub gateway_said : (row : Subscriber) (peers : Peers) (k : ℕ) (c : GwCall) (call : Effect) (offer : Offer) → call ≡ effects.Gateway c → offer ≡ offer_of (gateway_answer_of row) (calls_of peers.gateway row.number) k c → offer ≡ offer_of (answer_of row) (lists_on peers (lane_of call) row.number) k call
-gateway_said row peers k c call offer is said = said ∙ (says_so effects.Gateway (gateway_answer_of row) (answer_of row) (λ cs. refl) (calls_of peers.gateway row.number) k c ∙ ap (λ (e : Effect). offer_of (answer_of row) (lists_on peers (lane_of e) row.number) k e) (sym is))
-
-pub subscriber_said : (row : Subscriber) (peers : Peers) (k : ℕ) (c : SubCall) (call : Effect) (offer : Offer) → call ≡ effects.Subscriber c → offer ≡ offer_of (subscriber_answer_of row) (calls_of peers.subscriber row.number) k c → offer ≡ offer_of (answer_of row) (lists_on peers (lane_of call) row.number) k call
-subscriber_said row peers k c call offer is said = said ∙ (says_so effects.Subscriber (subscriber_answer_of row) (answer_of row) (λ cs. refl) (calls_of peers.subscriber row.number) k c ∙ ap (λ (e : Effect). offer_of (answer_of row) (lists_on peers (lane_of e) row.number) k e) (sym is))
 
 -- by the number of the row
 pub offers_by : (charter : CharterState) (shard : ℕ) (old new : Peers) (h : List Turn) (seat : ℕ) (d : DeviceId) (k : ℕ) (row : Subscriber) (call : Effect) (offer : Offer) → row.number ≡ d.0 → IsPeerShard charter shard old h → IsOffered charter shard d.0 k call → slice_get charter.rows (d.0 - 1) ≡ Some row → offer ≡ offer_of (answer_of row) (lists_on old (lane_of call) row.number) k call → new.gateway ≡ gateway_after old.gateway row.number k call → new.subscriber ≡ subscriber_after old.subscriber row.number k call → HasOffer charter shard new h (offer_by seat d k call (answers.Offer offer))

@@ -19,12 +19,14 @@ use Rattle.peer_calls.specs.Calls.{calls_of, with_call, arrival_of, offer_at, of
 use Rattle.peer_calls.proofs.Lists.{more_devices, more_same, more_other, offer_devices}
 use Rattle.session_store.specs.Charter.{CharterState, alone_in}
 use Rattle.session_store.specs.Rows.{IsDevice}
+use Rattle.shard_parts.proofs.Wraps.{arrival_at}
 use Rattle.store_shared.specs.declared.turn.Turn.{Turn}
 use Rattle.store_shared.specs.declared.turn.TurnCall.{TurnCall}
 use Rattle.store_shared.specs.declared.turn.TurnCall.TheVariants as calls
 use Rattle.store_shared.specs.declared.turn.TurnAnswer.{TurnAnswer}
 use Rattle.store_shared.specs.declared.turn.TurnAnswer.TheVariants as answers
-use Rattle.store_shared.specs.Legal.{lane_of, accepted_after, accepted_from, accepted_in, ArePeers, IsAcceptedOf, AreAcceptedIn}
+use Rattle.shard_parts.specs.BothPeers.{lane_of}
+use Rattle.store_shared.specs.Legal.{accepted_after, accepted_from, accepted_in, ArePeers, IsAcceptedOf, AreAcceptedIn}
 
 pub accepted_from-append : (accepted : List Effect) (d : ℕ) (l : Lane) (h more : List Turn) → accepted_from accepted d l (h ++ more) ≡ accepted_from (accepted_from accepted d l h) d l more
 accepted_from-append accepted d l [] more = refl
@@ -59,18 +61,6 @@ next_else false acc after e = refl
 -- ---- one peer, whose calls are effects
 
 module _ {C : Type 0} (wrap : C → Effect) where
-  arrival_at : (cs : List C) (k : ℕ) → arrival_of (length (map wrap cs)) k ≡ arrival_of (length cs) k
-  arrival_at cs k = ap (λ n. arrival_of n k) (length-map cs wrap)
-
-  -- what it says is said of the effects
-  pub says_so : (said : List C → Answer) (answer : List Effect → Answer) → ((cs : List C) → said cs ≡ answer (map wrap cs)) → (cs : List C) (k : ℕ) (c : C) → offer_of said cs k c ≡ offer_of answer (map wrap cs) k (wrap c)
-  says_so said answer same cs k c = by_arrival (arrival_of (length cs) k) ∙ ap (offer_at answer (map wrap cs) k (wrap c)) (sym (arrival_at cs k))
-    where
-      by_arrival : (arrival : Arrival) → offer_at said cs k c arrival ≡ offer_at answer (map wrap cs) k (wrap c) arrival
-      by_arrival Next = ap (λ a. offer.Accepted a) (same (cs ++ c ∷ []) ∙ ap answer (map-append wrap cs (c ∷ [])))
-      by_arrival Repeat = ap (λ a. offer.Repeat a) (same (take k cs) ∙ ap answer (sym (take-map wrap k cs)))
-      by_arrival (Ahead last) = refl
-
   -- the lists behind an offer, by its arrival
   peers_at : (answer : List Effect → Answer) (a : Arrival) (lists : List (List C)) (l : Lane) (devices : ℕ) (h : List Turn) (x : Turn) (k : ℕ) (c : C) → ArePeers wrap lists l devices h → IsDevice devices x.device.0 → x.call ≡ calls.Offer k (wrap c) → x.answer ≡ answers.Offer (offer_at answer (accepted_in x.device.0 l h) k (wrap c) a) → is_on l (wrap c) ≡ true → (d : ℕ) → IsDevice devices d → map wrap (calls_of (calls_at lists x.device.0 c a) d) ≡ accepted_in d l (h ++ x ∷ [])
   peers_at answer Next lists l devices h x k c are is call said on d within =
@@ -97,7 +87,7 @@ module _ {C : Type 0} (wrap : C → Effect) where
   peers_more answer lists l devices h x k c are is call said on =
       let n = x.device.0 in
       let a = arrival_of (length (calls_of lists n)) k in
-      let same : arrival_of (length (accepted_in n l h)) k ≡ a = ap (λ acc. arrival_of (length acc) k) (sym (are.each n is)) ∙ arrival_at (calls_of lists n) k in
+      let same : arrival_of (length (accepted_in n l h)) k ≡ a = ap (λ acc. arrival_of (length acc) k) (sym (are.each n is)) ∙ arrival_at wrap (calls_of lists n) k in
       record {
         count = offer_devices lists n k c ∙ are.count;
         each = peers_at answer a lists l devices h x k c are is call (said ∙ ap (λ b. answers.Offer (offer_at answer (accepted_in n l h) k (wrap c) b)) same) on;

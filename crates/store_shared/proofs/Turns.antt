@@ -20,9 +20,9 @@ use Rattle.front_lock.specs.View.{view_at}
 use Rattle.front_lock.specs.Numbers.{with_turn}
 use Rattle.front_lock.specs.Turns.{MakesTurn}
 use Rattle.front_lock.specs.Front.{view, basis_of, IsSeatOf}
-use Rattle.store_shared.specs.FrontRow.{AreSeatsOf, Along, TurnsAt, MissesAt, IsValueMore, seen_at}
-use Rattle.store_shared.proofs.Items.{some_one, if_ok}
-use Rattle.store_shared.proofs.Columns.{got_map, placed_from}
+use Rattle.shard_parts.specs.FrontRow.{AreSeatsOf, Along, TurnsAt, MissesAt, IsValueMore, seen_at}
+use Rattle.shard_parts.proofs.Items.{some_one, if_ok}
+use Rattle.shard_parts.proofs.Columns.{got_map, placed_from}
 use Rattle.session_row.specs.declared.commit.Commit.{Commit}
 use Rattle.session_store.specs.Charter.{CharterState}
 use Rattle.session_store.specs.Shards.{shard_count, shard_of}

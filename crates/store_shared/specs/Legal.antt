@@ -1,9 +1,7 @@
 -- Legal histories: each turn on a shard is answered by the turns before it. A history has the oldest turn first.
 use Rattle.std.specs.Prelude.{◌≡◌, ◌≤◌, ◌<◌, ℕ, ◌+◌, ◌-◌, ◌%◌, ◌==◌, Bool, true, false, List, [], ◌∷◌, ◌++◌, length, map, take, Option, Some, None, slice_get, if◌then◌else◌}
 use Rattle.device_types.specs.declared.effect.Effect.{Effect}
-use Rattle.device_types.specs.declared.effect.Effect.TheVariants as effects
 use Rattle.device_types.specs.declared.event.Lane.{Lane}
-use Rattle.device_types.specs.declared.event.Lane.TheVariants as lane
 use Rattle.device_types.specs.declared.input.Offer.TheVariants as offer
 use Rattle.device_types.specs.declared.step.Entry.{Entry}
 use Rattle.device_types.specs.declared.subscriber.Subscriber.{Subscriber}
@@ -19,6 +17,7 @@ use Rattle.session_store.specs.Charter.{CharterState, alone_in}
 use Rattle.session_store.specs.Rows.{IsDevice, opening_row, unsettled_effect, with_settled}
 use Rattle.session_store.specs.Seen.{seen_of, peeked_of}
 use Rattle.session_store.specs.Shards.{shard_of}
+use Rattle.shard_parts.specs.BothPeers.{is_call, lane_of}
 use Rattle.store_shared.specs.declared.turn.Turn.{Turn}
 use Rattle.store_shared.specs.declared.turn.TurnCall.{TurnCall}
 use Rattle.store_shared.specs.declared.turn.TurnCall.TheVariants as calls
@@ -58,17 +57,6 @@ row_says row (calls.Settle l k) = Some (answers.Settle (settled_by (number_on ro
 row_says row (calls.Offer k call) = None
 
 -- ---- the peers
-
--- an effect is a call of a peer
-abbrev pub is_call : Effect → Bool
-is_call (effects.Down down) = false
-is_call (effects.Gateway call) = true
-is_call (effects.Subscriber call) = true
-
-abbrev pub lane_of : Effect → Lane
-lane_of (effects.Down down) = lane.Down
-lane_of (effects.Gateway call) = lane.Gateway
-lane_of (effects.Subscriber call) = lane.Subscriber
 
 -- the calls that a peer has accepted of a device on a lane, behind a turn on it
 abbrev pub accepted_after : List Effect → Lane → TurnCall → TurnAnswer → List Effect

@@ -1,5 +1,3 @@
-pub mod BothPeers
-pub mod FrontRow
 pub mod Legal
 pub mod PeerBases
 pub mod PeerShards

@@ -13,8 +13,9 @@ use Rattle.store_shared.specs.declared.turn.TurnCall.{TurnCall}
 use Rattle.store_shared.specs.declared.turn.TurnCall.TheVariants as calls
 use Rattle.store_shared.specs.declared.turn.TurnAnswer.{TurnAnswer}
 use Rattle.store_shared.specs.declared.turn.TurnAnswer.TheVariants as answers
-use Rattle.store_shared.specs.Legal.{is_call, lane_of, ArePeers, IsTurn, peers_say, IsPeerHistory, AreAcceptedIn}
-use Rattle.store_shared.specs.declared.peers.Peers.{Peers}
+use Rattle.shard_parts.specs.BothPeers.{is_call, lane_of}
+use Rattle.store_shared.specs.Legal.{ArePeers, IsTurn, peers_say, IsPeerHistory, AreAcceptedIn}
+use Rattle.shard_parts.specs.declared.peers.Peers.{Peers}
 
 pub record IsPeerShard (charter : CharterState) (shard : ℕ) (peers : Peers) (turns : List Turn) : Type 0 where
   pub gateway : ArePeers effects.Gateway peers.gateway lane.Gateway (length charter.rows) turns

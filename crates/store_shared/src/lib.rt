@@ -3,13 +3,8 @@
 #![tactic(auto)]
 
 mod basis;
-mod front_row;
-mod fronts;
-mod kept;
 mod offer_job;
 mod peer_shard;
-mod peers;
-mod place;
 mod shared_peers;
 mod shared_store;
 mod store_jobs;
@@ -17,9 +12,7 @@ mod store_shard;
 mod turn;
 
 pub use basis::{PeerBasis, ShardBasis};
-pub use front_row::{Fronts, FrontsSeat};
 pub use peer_shard::PeerShard;
-pub use peers::Peers;
 pub use shared_peers::{PeerSeat, SharedPeers};
 pub use shared_store::{SharedStore, StoreSeat};
 pub use store_shard::StoreShard;

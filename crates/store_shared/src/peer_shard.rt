@@ -10,11 +10,11 @@ ghost use Rattle.store_shared.specs.Legal.{IsTurn, peers_say, IsPeerHistory, Are
 ghost use Rattle.store_shared.specs.PeerShards.{IsPeerShard, IsOffered, offer_by};
 
 use crate::basis::PeerBasis;
-use crate::peers::Peers;
 use crate::turn::{Turn, TurnAnswer, TurnCall};
 use device_types::{DeviceId, Effect, NoRoom, Offer, Subscriber};
 use front_lock::Held;
 use session_store::{EchoLaw, RowLaw};
+use shard_parts::Peers;
 use std::alloc::{AllocError, Global};
 
 /// A shard of the peers: what they have accepted of its devices, and the turns that made it so. It is given out when the peers are

@@ -3,18 +3,17 @@ ghost use Rattle.std.specs.Prelude.{◌≡◌, ◌≢◌, ◌<◌, ℕ, [], leng
 ghost use Rattle.std.specs.Arc.{arc_value};
 ghost use Rattle.front_lock.specs.Front.{basis_of, seats_of};
 ghost use Rattle.session_store.specs.Shards.{shard_of};
-ghost use Rattle.store_shared.specs.FrontRow.{AreClosed, AreFreshSeats, AreJoined, AreSeatsOf, IsValueMore, MissesAt, SpeaksOnAll};
+ghost use Rattle.shard_parts.specs.FrontRow.{AreClosed, AreFreshSeats, AreJoined, AreSeatsOf, IsValueMore, MissesAt, SpeaksOnAll};
 ghost use Rattle.store_shared.specs.PeerBases.{peer_bases, peer_basis, peer_basis_at, peer_turns};
 ghost use Rattle.store_shared.specs.PeerShards.{IsOffered};
 ghost use Rattle.store_shared.specs.SharedOffers.{Offered};
 ghost use Rattle.store_shared.specs.StoreBases.{seat_of};
 
-use crate::front_row::{Fronts, FrontsSeat};
 use crate::offer_job::OfferJob;
 use crate::peer_shard::PeerShard;
-use crate::place::place_of;
 use device_types::{DeviceId, Effect, NoRoom, Offer};
 use session_store::{Charter, EchoLaw, RowLaw, SHARDS};
+use shard_parts::{Fronts, FrontsSeat, place_of};
 use std::alloc::{AllocError, Global};
 use std::sync::Wait;
 use subs_table::SubsTable;

@@ -8,13 +8,11 @@ ghost use Rattle.session_store.specs.Seen.{IsAsked, peeked_of, seen_of};
 ghost use Rattle.session_store.specs.Shards.{shard_of};
 ghost use Rattle.store_shared.specs.declared.turn.TurnAnswer.TheVariants as answers;
 ghost use Rattle.store_shared.specs.declared.turn.TurnCall.TheVariants as calls;
-ghost use Rattle.store_shared.specs.FrontRow.{AreClosed, AreFreshSeats, AreJoined, AreSeatsOf, MissesAt, SpeaksOnAll, TurnsAt, IsValueMore, seen_at};
+ghost use Rattle.shard_parts.specs.FrontRow.{AreClosed, AreFreshSeats, AreJoined, AreSeatsOf, MissesAt, SpeaksOnAll, TurnsAt, IsValueMore, seen_at};
 ghost use Rattle.store_shared.specs.Legal.{IsBehind, TellsCount, commit_of, journal_in, row_in};
 ghost use Rattle.store_shared.specs.SharedCalls.{Called};
 ghost use Rattle.store_shared.specs.StoreBases.{basis_at, seat_of, shard_bases, store_basis, store_turns};
 
-use crate::front_row::{Fronts, FrontsSeat};
-use crate::place::place_of;
 use crate::store_jobs::{CommitJob, PeekJob, PushJob, ReadJob, SettleJob};
 use crate::store_shard::StoreShard;
 use device_types::{DeviceId, Effect, Entry, Lane, NoRoom};
@@ -22,6 +20,7 @@ use effect_outbox::Settled;
 use front_lock::Job;
 use session_row::Commit;
 use session_store::{Asked, Charter, Peeked, RowLaw, SHARDS, Seen};
+use shard_parts::{Fronts, FrontsSeat, place_of};
 use std::alloc::{AllocError, Global};
 use std::sync::Wait;
 

@@ -12,13 +12,13 @@ ghost use Rattle.store_shared.specs.Legal.{row_in, journal_in, commit_of, IsTurn
 ghost use Rattle.store_shared.specs.StoreShards.{IsStoreShard, turn_by};
 
 use crate::basis::ShardBasis;
-use crate::kept::{commit_copied, push_twice, with_copy};
 use crate::turn::{Turn, TurnAnswer, TurnCall};
 use device_types::{DeviceId, Effect, Entry, Lane, NoRoom};
 use effect_outbox::Settled;
 use front_lock::Held;
 use session_row::Commit;
 use session_store::{Asked, Peeked, RowLaw, Seen, Shard};
+use shard_parts::{commit_copied, peek_twice, push_twice, read_twice};
 use std::alloc::{AllocError, Global};
 
 /// A shard of the store: the rows of its devices, and the turns that made them. It is given out when the store is closed.
@@ -106,8 +106,8 @@ impl<L: RowLaw> StoreShard<L> {
         ensures value { IfOk result (λ seen. seen ≡ seen_of (journal_in d.0 self.old.turns.items) asked) }
         ensures err { OnErr result (self.new.turns.items ≡ self.old.turns.items) }
     {
-        let read = self.shard.read(d, asked)?;
-        let (seen, kept) = with_copy(&mut self.turns, read)?;
+        self.turns.reserve(1)?;
+        let (seen, kept) = read_twice(&self.shard, d, asked)?;
         self.turns.push_reserved(Turn {
             seat,
             device: d,
@@ -134,8 +134,8 @@ impl<L: RowLaw> StoreShard<L> {
         ensures value { IfOk result (λ peeked. peeked ≡ peeked_of (journal_in d.0 self.old.turns.items) asked) }
         ensures err { OnErr result (self.new.turns.items ≡ self.old.turns.items) }
     {
-        let peek = self.shard.peek(d, asked)?;
-        let (peeked, kept) = with_copy(&mut self.turns, peek)?;
+        self.turns.reserve(1)?;
+        let (peeked, kept) = peek_twice(&self.shard, d, asked)?;
         self.turns.push_reserved(Turn {
             seat,
             device: d,

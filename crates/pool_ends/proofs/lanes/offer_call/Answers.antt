@@ -1,5 +1,5 @@
 use Rattle.std.proofs.Common.{◌≤◌, ℕ, length, sym, subst}
-use Rattle.store_shared.specs.Legal.{lane_of}
+use Rattle.shard_parts.specs.BothPeers.{lane_of}
 use Rattle.pool_ends.specs.Lanes.{told_count}
 use Rattle.pool_ends.proofs.Calls.{counts, told}
 use Rattle.pool_ends.proofs.lanes.offer_call.Goals as goal

@@ -1,5 +1,5 @@
 use Rattle.std.proofs.Common.{◌≡◌, ◌∙◌, ap, sym}
-use Rattle.store_shared.specs.Legal.{lane_of}
+use Rattle.shard_parts.specs.BothPeers.{lane_of}
 use Rattle.pool_work.proofs.Calls.{call_is, lane_is, pushed_at, said}
 use Rattle.pool_work.proofs.bring.bring.Goals as goal
 

@@ -1,4 +1,4 @@
-use Rattle.store_shared.proofs.Items.{if_ok}
+use Rattle.shard_parts.proofs.Items.{if_ok}
 use Rattle.pool_rows.proofs.Offers.{fresh_calls}
 use Rattle.pool_rows.proofs.Closed.{fresh_speaks, if_both}
 use Rattle.pool_rows.proofs.shared_peers.SharedPeersSharedCalls.open.Goals as goal

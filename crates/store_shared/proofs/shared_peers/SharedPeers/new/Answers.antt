@@ -1,8 +1,8 @@
 use Rattle.std.proofs.Common.{◌≡◌, List, subst}
 use Rattle.store_shared.specs.declared.basis.PeerBasis.{PeerBasis}
-use Rattle.store_shared.specs.FrontRow.{AreFreshSeats}
+use Rattle.shard_parts.specs.FrontRow.{AreFreshSeats}
 use Rattle.store_shared.specs.PeerBases.{peer_basis}
-use Rattle.store_shared.proofs.Columns.{all_fresh}
+use Rattle.shard_parts.proofs.Columns.{all_fresh}
 use Rattle.store_shared.proofs.shared_peers.SharedPeers.new.Goals as goal
 
 pub returns-clause-seats : goal.returns-clause-seats

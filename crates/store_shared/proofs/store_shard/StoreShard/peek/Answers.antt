@@ -9,5 +9,5 @@ pub invariant_of-self-2 : goal.invariant_of-self-2
 invariant_of-self-2 g c =
     let s = c.args.self.now in
     let x = turn_by c.args.seat c.args.d (calls.Peek c.args.asked) (answers.Peek c.in_ok-peeked.peeked) in
-    let t = peeks s.shard s.turns.items c.args.seat c.args.d c.args.asked c.in_ok-peeked.peeked s.kept c.requires.here (c.in_ok-peeked.ensures.value ∙ c.in_ok-peek.ensures.ok) in
-    record { kept = kept_with s.shard s.shard s.turns.items _ _ x _ t c.push_reserved.ensures.items c.with_copy.ensures.items (ap (λ a. turn_by c.args.seat c.args.d (calls.Peek c.args.asked) (answers.Peek a)) c.in_ok-peeked.ensures.copy) }
+    let t = peeks s.shard s.turns.items c.args.seat c.args.d c.args.asked c.in_ok-peeked.peeked s.kept c.requires.here c.in_ok-peeked.ensures.value in
+    record { kept = kept_with s.shard s.shard s.turns.items _ _ x _ t c.push_reserved.ensures.items c.reserve.ensures.items (ap (λ a. turn_by c.args.seat c.args.d (calls.Peek c.args.asked) (answers.Peek a)) c.in_ok-peeked.ensures.copy) }

@@ -9,5 +9,5 @@ pub invariant_of-self-2 : goal.invariant_of-self-2
 invariant_of-self-2 g c =
     let s = c.args.self.now in
     let x = turn_by c.args.seat c.args.d (calls.Read c.args.asked) (answers.Read c.in_ok-seen.seen) in
-    let t = reads s.shard s.turns.items c.args.seat c.args.d c.args.asked c.in_ok-seen.seen s.kept c.requires.here (c.in_ok-seen.ensures.value ∙ c.in_ok-read.ensures.ok) in
-    record { kept = kept_with s.shard s.shard s.turns.items _ _ x _ t c.push_reserved.ensures.items c.with_copy.ensures.items (ap (λ a. turn_by c.args.seat c.args.d (calls.Read c.args.asked) (answers.Read a)) c.in_ok-seen.ensures.copy) }
+    let t = reads s.shard s.turns.items c.args.seat c.args.d c.args.asked c.in_ok-seen.seen s.kept c.requires.here c.in_ok-seen.ensures.value in
+    record { kept = kept_with s.shard s.shard s.turns.items _ _ x _ t c.push_reserved.ensures.items c.reserve.ensures.items (ap (λ a. turn_by c.args.seat c.args.d (calls.Read c.args.asked) (answers.Read a)) c.in_ok-seen.ensures.copy) }

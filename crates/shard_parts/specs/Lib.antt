@@ -1,0 +1,2 @@
+pub mod BothPeers
+pub mod FrontRow
