@@ -1,4 +1,5 @@
-//! Offers of two seats at the peers of one device, whose messages are those of an attach up to the session.
+//! Offers of two seats at the peers of one device, whose messages are those of an attach up to the session. What finds no memory is
+//! not told, and the text is another one.
 ghost use Rattle.std.specs.Prelude.{◌≡◌, ◌≤◌, ◌-◌, ◌∷◌, [], true, All, IfOk, IfSome, Some, length, slice_get};
 ghost use Rattle.std.specs.Arc.{arc_value};
 ghost use Rattle.device_machine.specs.Ends.{end_of};
@@ -22,7 +23,7 @@ use session_store::EchoLaw;
 use std::alloc::{AllocError, Global};
 use std::sync::Wait;
 use std::test::Fail;
-use store_shared::{PeerSeat, PeerShard, SharedPeers, TurnAnswer};
+use store_shared::{PeerSeat, PeerShard, SharedPeers, Turn, TurnAnswer, TurnCall};
 use subs_table::{SubsTable, read_row};
 
 const ROW: &str =
@@ -36,11 +37,11 @@ seat 1 1: accepted vectors
 seat 0 1: repeat vectors
 seat 0 2: accepted Located(1000000000, 2000000000)
 seat 1 1: accepted Created(3232235521, 1, 170721281)
-shard 1: seat 0 ahead of 0
-shard 1: seat 1 accepted vectors
-shard 1: seat 0 repeat vectors
-shard 1: seat 0 accepted Located(1000000000, 2000000000)
-shard 1: seat 1 accepted Created(3232235521, 1, 170721281)
+shard 1: seat 0 2: ahead of 0
+shard 1: seat 1 1: accepted vectors
+shard 1: seat 0 1: repeat vectors
+shard 1: seat 0 2: accepted Located(1000000000, 2000000000)
+shard 1: seat 1 1: accepted Created(3232235521, 1, 170721281)
 ";
 
 /// A message that comes from a base station.
@@ -139,32 +140,29 @@ fn opened(
     Ok(SharedPeers::new(alloc, law, &table, 2)?)
 }
 
-fn tell_answer(answer: &Answer, told: &mut String) -> Result<(), AllocError> {
-    match answer {
+fn tell_answer(answer: &Answer, told: &mut String) {
+    let _ = match answer {
         Answer::Vectors(_, _, _, _) => writeln!(told, "vectors"),
         other => writeln!(told, "{other:?}"),
-    }
+    };
 }
 
-/// Tells what was said to an offer.
-fn tell_offer(offer: &Offer, told: &mut String) -> Result<(), AllocError> {
+/// Tells who made a call, and what was said to it.
+fn tell_offer(seat: u32, k: u64, offer: &Offer, told: &mut String) {
+    let _ = write!(told, "seat {seat} {k}: ");
     match offer {
         Offer::Accepted(answer) => {
-            write!(told, "accepted ")?;
-            tell_answer(answer, told)
+            let _ = write!(told, "accepted ");
+            tell_answer(answer, told);
         }
         Offer::Repeat(answer) => {
-            write!(told, "repeat ")?;
-            tell_answer(answer, told)
+            let _ = write!(told, "repeat ");
+            tell_answer(answer, told);
         }
-        Offer::Ahead(last) => writeln!(told, "ahead of {last}"),
+        Offer::Ahead(last) => {
+            let _ = writeln!(told, "ahead of {last}");
+        }
     }
-}
-
-/// The same, behind who made which call.
-fn tell_call(seat: u32, k: u64, offer: &Offer, told: &mut String) -> Result<(), AllocError> {
-    write!(told, "seat {seat} {k}: ")?;
-    tell_offer(offer, told)
 }
 
 /// Call `k` of the device on a lane of a peer, if it has one.
@@ -197,16 +195,17 @@ fn offer<R: Wait>(
     k: u64,
     call: Option<Effect>,
     told: &mut String,
-) -> Result<(), AllocError>
+)
     requires seat { AreSeatsOf peer_basis peers.now.fronts.fronts.items seat.old.seats.items }
     requires called { IfSome call (λ call. IsOffered (arc_value peers.now.law.charter) 1 1 k call) }
     ensures { AreSeatsOf peer_basis peers.now.fronts.fronts.items seat.new.seats.items }
 {
     let Some(call) = call else {
-        return Ok(());
+        return;
     };
-    let offer = peers.offer(rt, seat, DeviceId(1), k, call)?;
-    tell_call(seat.number(), k, &offer, told)
+    if let Ok(offer) = peers.offer(rt, seat, DeviceId(1), k, call) {
+        tell_offer(seat.number(), k, &offer, told);
+    }
 }
 
 /// The calls of the two seats, of what the machine alone makes.
@@ -219,7 +218,7 @@ fn offer_all<R: Wait>(
     line: &Messages,
     end: &DeviceEnd,
     told: &mut String,
-) -> Result<(), AllocError>
+)
     requires first { AreSeatsOf peer_basis peers.now.fronts.fronts.items first.old.seats.items }
     requires second { AreSeatsOf peer_basis peers.now.fronts.fronts.items second.old.seats.items }
     requires charter { arc_value peers.now.law.charter ≡ record { rows = row.now ∷ []; lines = line.now ∷ [] } }
@@ -230,15 +229,15 @@ fn offer_all<R: Wait>(
     ensures second { AreSeatsOf peer_basis peers.now.fronts.fronts.items second.new.seats.items }
 {
     let located = call_of(row, line, end, Lane::Subscriber, 2);
-    offer(rt, peers, first, 2, located, told)?;
+    offer(rt, peers, first, 2, located, told);
     let vectors = call_of(row, line, end, Lane::Subscriber, 1);
-    offer(rt, peers, second, 1, vectors, told)?;
+    offer(rt, peers, second, 1, vectors, told);
     let vectors = call_of(row, line, end, Lane::Subscriber, 1);
-    offer(rt, peers, first, 1, vectors, told)?;
+    offer(rt, peers, first, 1, vectors, told);
     let located = call_of(row, line, end, Lane::Subscriber, 2);
-    offer(rt, peers, first, 2, located, told)?;
+    offer(rt, peers, first, 2, located, told);
     let created = call_of(row, line, end, Lane::Gateway, 1);
-    offer(rt, peers, second, 1, created, told)
+    offer(rt, peers, second, 1, created, told);
 }
 
 /// The two seats of the peers, in the order of their numbers. `None` where there are fewer.
@@ -283,23 +282,25 @@ fn shards_offered<R: Wait>(
     requires end { end.now ≡ end_of row.now line.now }
 {
     let (mut first, mut second) = both(&peers, seats)?;
-    let offered = offer_all(rt, &peers, &mut first, &mut second, row, line, end, told);
-    let shards = closed(peers, first, second)?;
-    offered.ok()?;
-    Some(shards)
+    offer_all(rt, &peers, &mut first, &mut second, row, line, end, told);
+    closed(peers, first, second)
 }
 
 /// All turns of all shards.
-fn tell_turns(shards: &[PeerShard], told: &mut String) -> Result<(), AllocError> {
+fn tell_turns(shards: &[PeerShard], told: &mut String) {
     for (number, shard) in shards.iter().enumerate() {
         for turn in shard.turns() {
-            if let TurnAnswer::Offer(offer) = &turn.answer {
-                write!(told, "shard {number}: seat {} ", turn.seat)?;
-                tell_offer(offer, told)?;
+            if let Turn {
+                call: TurnCall::Offer { k, .. },
+                answer: TurnAnswer::Offer(offer),
+                ..
+            } = turn
+            {
+                let _ = write!(told, "shard {number}: ");
+                tell_offer(turn.seat, *k, offer, told);
             }
         }
     }
-    Ok(())
 }
 
 /// Tells the offers of two seats, and the turns of the shards that are closed.
@@ -318,8 +319,10 @@ fn tell_seats<R: Wait>(
     requires end { end.now ≡ end_of row.now line.now }
 {
     let (peers, seats) = opened(alloc, row, line)?;
-    let shards = shards_offered(rt, peers, seats, row, line, end, told).ok_or("not closed")?;
-    Ok(tell_turns(&shards, told)?)
+    if let Some(shards) = shards_offered(rt, peers, seats, row, line, end, told) {
+        tell_turns(&shards, told);
+    }
+    Ok(())
 }
 
 /// The same of the device that attaches.
