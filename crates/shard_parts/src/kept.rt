@@ -11,6 +11,29 @@ use session_row::Commit;
 use session_store::{Asked, Peeked, RowLaw, Seen, Shard};
 use std::alloc::AllocError;
 
+// A value, and a copy of it.
+fn with_copy<A: TryCopy + Drop>(value: A) -> Result<(A, A), AllocError>
+    ensures value { IfOk result (λ both. both.0 ≡ value) }
+    ensures copy { IfOk result (λ both. both.1 ≡ both.0) }
+{
+    let kept = value.copy()?;
+    Ok((value, kept))
+}
+
+// The same of what may be there.
+fn with_copy_if_some<A: TryCopy + Drop>(
+    value: Option<A>,
+) -> Result<(Option<A>, Option<A>), AllocError>
+    ensures value { IfOk result (λ both. both.0 ≡ value) }
+    ensures copy { IfOk result (λ both. both.1 ≡ both.0) }
+{
+    let Some(value) = value else {
+        return Ok((None, None));
+    };
+    let (value, kept) = with_copy(value)?;
+    Ok((Some(value), Some(kept)))
+}
+
 /// What is seen of the row of a device, about an input, and the same once more.
 pub fn read_twice<L: RowLaw>(
     shard: &Shard<L>,
@@ -23,8 +46,7 @@ pub fn read_twice<L: RowLaw>(
     ensures copy { IfOk result (λ both. both.1 ≡ both.0) }
 {
     let seen = shard.read(d, asked)?;
-    let kept = seen.copy()?;
-    Ok((seen, kept))
+    with_copy(seen)
 }
 
 /// The same without the session.
@@ -39,8 +61,7 @@ pub fn peek_twice<L: RowLaw>(
     ensures copy { IfOk result (λ both. both.1 ≡ both.0) }
 {
     let peeked = shard.peek(d, asked)?;
-    let kept = peeked.copy()?;
-    Ok((peeked, kept))
+    with_copy(peeked)
 }
 
 /// Effect `k` of a lane of the device, as the row has it, and the same once more.
@@ -55,8 +76,7 @@ pub fn push_twice<L: RowLaw>(
     ensures copy { IfOk result (λ both. both.1 ≡ both.0) }
 {
     let effect = shard.push(d, lane, k)?;
-    let kept = shard.push(d, lane, k)?;
-    Ok((effect, kept))
+    with_copy_if_some(effect)
 }
 
 /// Writes an entry, where the row still has the version that was read, and gives a copy of it.
