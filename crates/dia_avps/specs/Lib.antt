@@ -1,2 +1,5 @@
 pub mod Frame
 pub mod Values
+pub mod Groups
+pub mod Finding
+pub mod Header

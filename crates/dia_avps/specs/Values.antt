@@ -1,5 +1,5 @@
 -- The values of AVPs (RFC 6733, 4.2, 4.3 and 8; 3GPP TS 29.272, 7.3): what octets mean, how they are read and how they are written. Each is exact.
-use Rattle.std.specs.Prelude.{◌≡◌, ℕ, ◌+◌, ◌-◌, ◌^◌, ◌<◌, ◌≤◌, ◌==◌, ◌&&◌, nat_le, List, length, Option, None, if◌then◌else◌}
+use Rattle.std.specs.Prelude.{◌≡◌, ℕ, ◌+◌, ◌-◌, ◌*◌, ◌/◌, ◌%◌, ◌^◌, ◌<◌, ◌≤◌, ◌==◌, ◌&&◌, nat_le, List, length, Option, None, if◌then◌else◌}
 use Rattle.tlv_elements.specs.Grammar.{Form}
 use Rattle.tlv_elements.specs.Piece.{number, alone, passing}
 use Rattle.tlv_elements.specs.Digits.{coded, number_from}
@@ -24,6 +24,15 @@ session = sized 1 1000
 -- Visited-PLMN-Id (TS 29.272, 7.3.9): three octets
 abbrev pub plmn : Form ℕ
 plmn = alone (number 3)
+
+-- the digit of an IMSI that counts 10^place
+abbrev pub digit_at : ℕ → ℕ → ℕ
+digit_at place imsi = imsi / 10 ^ place % 10
+
+-- the network of an IMSI whose network code has two digits (TS 29.272, 7.3.9; TS 23.003, 2.2): its first five digits, two an octet, the first in
+-- the low half, with 15 in place of a third digit of the network code
+abbrev pub plmn_of : ℕ → ℕ
+plmn_of imsi = 65536 * (16 * digit_at 13 imsi + digit_at 14 imsi) + 256 * (240 + digit_at 12 imsi) + (16 * digit_at 10 imsi + digit_at 11 imsi)
 
 -- ---- User-Name (8.14) of S6a, an IMSI: 15 decimal digits in ASCII, the highest first
 

@@ -1,8 +1,8 @@
 //! The values of AVPs (RFC 6733, 4.2, 4.3 and 8; 3GPP TS 29.272, 7.3). Each is exact: a value that is longer or shorter is none.
 
-ghost use Rattle.std.specs.Prelude.{◌≡◌, ◌^◌, ◌<◌, ◌≤◌, IfSome, option_map, length};
+ghost use Rattle.std.specs.Prelude.{◌≡◌, ◌/◌, ◌%◌, ◌^◌, ◌<◌, ◌≤◌, IfSome, option_map, length};
 ghost use Rattle.tlv_elements.specs.Digits.{number_from};
-ghost use Rattle.dia_avps.specs.Values.{sized, session, unsigned, plmn, digit_of, imsi};
+ghost use Rattle.dia_avps.specs.Values.{sized, session, unsigned, plmn, plmn_of, digit_of, imsi};
 
 use echo_base::{Reason, Refusal};
 use tlv_elements::Left;
@@ -57,6 +57,26 @@ pub fn plmn(octets: &[u8]) -> Option<u32>
     let n = left.u24(DUE).ok()?;
     left.end(DUE).ok()?;
     Some(n)
+}
+
+/// The digit of an IMSI that counts so much.
+fn digit_at(imsi: u64, unit: u64) -> u32
+    requires { 1 ≤ unit }
+    ensures value { result ≡ imsi / unit % 10 }
+    ensures range { result < 10 }
+{
+    (imsi / unit % 10) as u32
+}
+
+/// The network of an IMSI whose network code has two digits, of its first five digits (TS 29.272, 7.3.9).
+pub fn plmn_of(imsi: u64) -> u32
+    ensures value { result ≡ plmn_of imsi }
+    ensures range { result < 2 ^ 24 }
+{
+    let first = 16 * digit_at(imsi, 10_000_000_000_000) + digit_at(imsi, 100_000_000_000_000);
+    let second = 240 + digit_at(imsi, 1_000_000_000_000);
+    let third = 16 * digit_at(imsi, 10_000_000_000) + digit_at(imsi, 100_000_000_000);
+    65536 * first + 256 * second + third
 }
 
 /// A digit.

@@ -2,9 +2,9 @@
 use Rattle.std.proofs.Common.{◌≡◌, ◌⊎◌, ℕ, ◌^◌, ◌<◌, false, Option, Some, None, inl, inr, arith}
 use Rattle.std.specs.Prelude.{IfSome}
 use Rattle.std.proofs.lemmas.Bool.{eqb-false}
+use Rattle.dia_avps.specs.Finding.{is_2001}
 use Rattle.dia_wire.specs.declared.dia.DiaBody.{DiaBody}
 use Rattle.dia_wire.specs.declared.dia.DiaBody.TheVariants as body
-use Rattle.dia_wire.specs.Messages.{is_2001}
 use Rattle.dia_wire.specs.Written.{command_code, IsBody}
 
 pub not_2001 : (o : Option ℕ) → is_2001 o ≡ false → IfSome o (λ r. r ≡ 2001 → ⊥)

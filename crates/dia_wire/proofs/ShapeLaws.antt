@@ -6,13 +6,15 @@ use Rattle.tlv_elements.specs.Grammar.{Framed, first, HoldsAll}
 use Rattle.tlv_elements.proofs.Whole.{IsTable}
 use Rattle.tlv_elements.proofs.Fields.{NeedsAll, find_first}
 use Rattle.dia_avps.specs.Frame.{frame_in, dia, tgpp}
+use Rattle.dia_avps.specs.Groups.{vector, authentication_info, ambr, subscription_data}
+use Rattle.dia_avps.specs.Finding.{found}
 use Rattle.dia_avps.proofs.Frames.{dia_is}
 use Rattle.dia_avps.proofs.ValueLaws.{sized_is, session_is, unsigned_is, plmn_is, imsi_is}
 use Rattle.dia_wire.specs.declared.kind.Kind.{Kind}
 use Rattle.dia_wire.specs.declared.kind.Kind.TheVariants as kinds
 use Rattle.dia_wire.specs.Commands.{code_of}
-use Rattle.dia_wire.specs.Tables.{AskFields, PlainFields, VectorsFields, LocatedFields, vector, authentication_info, ambr, subscription_data, ask_vectors, ask_location, ask_purge, vectors, located, result_alone}
-use Rattle.dia_wire.specs.Shapes.{Shape, shape_of, make_ask_vectors, make_ask_location, make_ask_purge, make_vectors, make_located, make_purged, make_rejected, found, pick_ask_vectors, pick_ask_location, pick_ask_purge, pick_vectors, pick_located, pick_purged, pick_rejected}
+use Rattle.dia_wire.specs.Tables.{AskFields, PlainFields, VectorsFields, LocatedFields, ask_vectors, ask_location, ask_purge, vectors, located, result_alone}
+use Rattle.dia_wire.specs.Shapes.{Shape, shape_of, make_ask_vectors, make_ask_location, make_ask_purge, make_vectors, make_located, make_purged, make_rejected, pick_ask_vectors, pick_ask_location, pick_ask_purge, pick_vectors, pick_located, pick_purged, pick_rejected}
 
 pub record IsShape (s : Shape) : Type 0 where
   pub table : IsTable frame_in dia s.rows

@@ -12,6 +12,8 @@ use Rattle.tlv_elements.proofs.Whole.{IsTable}
 use Rattle.tlv_elements.proofs.Writes.{NamedAll, WrittenAll, FitsAll, written_holds, written_spells}
 use Rattle.dia_avps.specs.Frame.{tgpp, nothing, frame_in, frame_run, dia}
 use Rattle.dia_avps.specs.Values.{unsigned, plmn, imsi_run}
+use Rattle.dia_avps.specs.Groups.{Nothing, VectorFields, vector, authentication_info, ambr, subscription_data}
+use Rattle.dia_avps.specs.Finding.{is_2001, succeeded, result_at}
 use Rattle.dia_avps.proofs.Frames.{Fits, plain_length, tgpp_length, dia_written}
 use Rattle.dia_avps.proofs.ImsiLaws.{imsi_length}
 use Rattle.dia_avps.proofs.ValueLaws.{unsigned_is, sized_back, session_back, unsigned_back, plmn_back, imsi_back}
@@ -25,9 +27,9 @@ use Rattle.dia_wire.specs.declared.kind.Kind.TheVariants as kinds
 use Rattle.dia_wire.specs.declared.said.Said.{Said}
 use Rattle.dia_wire.specs.Commands.{code_of, answering}
 use Rattle.dia_wire.specs.Header.{Header}
-use Rattle.dia_wire.specs.Tables.{Nothing, VectorFields, realm, requested, update_flags, vector, authentication_info, ambr, subscription_data, request, answer, ask_vectors, ask_location, vectors, located, result_alone}
-use Rattle.dia_wire.specs.Shapes.{Shape, shape_of, saying, result_at}
-use Rattle.dia_wire.specs.Messages.{is_2001, succeeded, kind_by, SpellsSaid, header_in, dia_in, DiaSpells}
+use Rattle.dia_wire.specs.Tables.{realm, requested, update_flags, request, answer, ask_vectors, ask_location, vectors, located, result_alone}
+use Rattle.dia_wire.specs.Shapes.{Shape, shape_of, saying}
+use Rattle.dia_wire.specs.Messages.{kind_by, SpellsSaid, header_in, dia_in, DiaSpells}
 use Rattle.dia_wire.specs.Written.{command_code, flags_of, body_run, dia_run, IsSession, IsVector, IsBody, IsDia, HasWords}
 use Rattle.dia_wire.proofs.ShapeLaws.{is_found, shape_is}
 

@@ -1,11 +1,12 @@
 -- The calls of a row and their answers as messages (3GPP TS 29.272, 7.2).
-use Rattle.std.specs.Prelude.{ℕ, ◌+◌, ◌*◌, ◌/◌, ◌%◌, ◌^◌, List, ◌++◌, min, codes}
+use Rattle.std.specs.Prelude.{ℕ, List, ◌++◌, min, codes}
 use Rattle.std.specs.Fmt.{decimal}
 use Rattle.device_types.specs.declared.effect.SubCall.{SubCall}
 use Rattle.device_types.specs.declared.effect.SubCall.TheVariants as calls
 use Rattle.device_types.specs.declared.input.Answer.{Answer}
 use Rattle.device_types.specs.declared.input.Answer.TheVariants as answers
 use Rattle.device_types.specs.declared.subscriber.Subscriber.{Subscriber}
+use Rattle.dia_avps.specs.Values.{plmn_of}
 use Rattle.dia_wire.specs.declared.dia.Dia.{Dia}
 use Rattle.dia_wire.specs.declared.dia.DiaBody.{DiaBody}
 use Rattle.dia_wire.specs.declared.dia.DiaBody.TheVariants as body
@@ -20,15 +21,6 @@ abbrev pub numbered : Subscriber → ℕ → DiaBody → Dia
 numbered row k b = record { hop = k; end = k; session = session_text row.number k; body = b }
 
 -- ---- calls
-
--- the digit of an IMSI that counts 10^place
-abbrev pub digit_at : ℕ → ℕ → ℕ
-digit_at place imsi = imsi / 10 ^ place % 10
-
--- the network of an IMSI whose network code has two digits (TS 29.272, 7.3.9; TS 23.003, 2.2): its first five digits, two an octet, the first in
--- the low half, with 15 in place of a third digit of the network code
-abbrev pub plmn_of : ℕ → ℕ
-plmn_of imsi = 65536 * (16 * digit_at 13 imsi + digit_at 14 imsi) + 256 * (240 + digit_at 12 imsi) + (16 * digit_at 10 imsi + digit_at 11 imsi)
 
 abbrev pub ask_body : Subscriber → SubCall → DiaBody
 ask_body row calls.Vectors = body.AskVectors row.imsi (plmn_of row.imsi)

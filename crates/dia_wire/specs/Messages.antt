@@ -1,5 +1,5 @@
 -- Messages (RFC 6733, 3; 3GPP TS 29.272, 7.2): which octets spell them, and how they are read.
-use Rattle.std.specs.Prelude.{◌≡◌, ℕ, ◌-◌, ◌≤◌, ◌==◌, nat_le, Bool, true, false, List, [], ◌∷◌, Option, Some, None, Result, Ok}
+use Rattle.std.specs.Prelude.{◌≡◌, ℕ, ◌-◌, ◌≤◌, ◌==◌, nat_le, Bool, true, false, List, [], ◌∷◌, Result, Ok}
 use Rattle.echo_base.specs.declared.reason.Reason.TheVariants as reasons
 use Rattle.echo_base.specs.declared.refusal.Refusal.{Refusal}
 use Rattle.echo_base.specs.Answer.{◌>>=◌}
@@ -13,6 +13,7 @@ use Rattle.tlv_elements.specs.Reading.{table_at}
 use Rattle.tlv_elements.specs.Grammar.{laws, SpellsTable, RefusesWhole}
 use Rattle.tlv_elements.specs.Piece.{passing, Passes}
 use Rattle.dia_avps.specs.Frame.{frame_in, dia, nothing}
+use Rattle.dia_avps.specs.Finding.{succeeded}
 use Rattle.dia_wire.specs.declared.dia.Dia.{Dia}
 use Rattle.dia_wire.specs.declared.kind.Command.{Command}
 use Rattle.dia_wire.specs.declared.kind.Kind.{Kind}
@@ -20,16 +21,9 @@ use Rattle.dia_wire.specs.declared.kind.Kind.TheVariants as kinds
 use Rattle.dia_wire.specs.declared.said.Said.{Said}
 use Rattle.dia_wire.specs.Commands.{code_of, command_of, asking, answering}
 use Rattle.dia_wire.specs.Header.{Header}
-use Rattle.dia_wire.specs.Shapes.{shape_of, kind_rules, result_at}
+use Rattle.dia_wire.specs.Shapes.{shape_of, kind_rules}
 
--- ---- the kind of a message: an answer succeeds where its first result is 2001, DIAMETER_SUCCESS (RFC 6733, 7.1.2)
-
-abbrev pub is_2001 : Option ℕ → Bool
-is_2001 None = false
-is_2001 (Some r) = r == 2001
-
-abbrev pub succeeded : ℕ → List ℕ → Bool
-succeeded end octets = is_2001 (result_at end octets)
+-- ---- the kind of a message
 
 abbrev pub kind_by : Bool → Command → ℕ → List ℕ → Kind
 kind_by true command end octets = asking command

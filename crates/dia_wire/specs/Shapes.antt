@@ -1,10 +1,10 @@
 -- Kinds of messages: the table of each, and what its fields say.
 use Rattle.std.specs.Prelude.{ℕ, List, Option, Some}
-use Rattle.tlv_elements.specs.Element.{Element, Rule}
-use Rattle.tlv_elements.specs.Reading.{find_at}
+use Rattle.tlv_elements.specs.Element.{Rule}
 use Rattle.tlv_elements.specs.Grammar.{Rows, rules, and_then}
 use Rattle.dia_avps.specs.Frame.{frame_in, dia, tgpp}
-use Rattle.dia_avps.specs.Values.{sized, session, unsigned, plmn, imsi}
+use Rattle.dia_avps.specs.Values.{sized, session, plmn, imsi}
+use Rattle.dia_avps.specs.Finding.{found, unsigned_at, result_at}
 use Rattle.dia_wire.specs.declared.dia.DiaBody.{DiaBody}
 use Rattle.dia_wire.specs.declared.dia.DiaBody.TheVariants as body
 use Rattle.dia_wire.specs.declared.kind.Kind.{Kind}
@@ -48,10 +48,6 @@ make_rejected code f = saying f.0 (body.Rejected code f.1.0)
 
 -- ---- the same as it is picked
 
--- the first AVP of a code and a vendor
-abbrev pub found : ℕ → ℕ → ℕ → List ℕ → Option Element
-found code mark end octets = find_at dia end code mark octets
-
 abbrev pub session_at : ℕ → List ℕ → Option (List ℕ)
 session_at end octets = and_then (found 263 0 end octets) (λ e. session.decode e.value)
 
@@ -60,13 +56,6 @@ imsi_at end octets = and_then (found 1 0 end octets) (λ e. imsi.decode e.value)
 
 abbrev pub plmn_at : ℕ → List ℕ → Option ℕ
 plmn_at end octets = and_then (found 1407 tgpp end octets) (λ e. plmn.decode e.value)
-
-abbrev pub unsigned_at : ℕ → ℕ → ℕ → List ℕ → Option ℕ
-unsigned_at code mark end octets = and_then (found code mark end octets) (λ e. unsigned.decode e.value)
-
--- the first Result-Code
-abbrev pub result_at : ℕ → List ℕ → Option ℕ
-result_at end octets = unsigned_at 268 0 end octets
 
 abbrev pub sized_at : ℕ → ℕ → ℕ → ℕ → List ℕ → Option (List ℕ)
 sized_at code least most end octets = and_then (found code tgpp end octets) (λ e. (sized least most).decode e.value)

@@ -1,13 +1,11 @@
--- The messages and their groups: AVPs in their order (RFC 6733, 6.1 and 6.2; 3GPP TS 29.272, 7.2 and 7.3), as they are read and written. What stands
+-- The messages: AVPs in their order (RFC 6733, 6.1 and 6.2; 3GPP TS 29.272, 7.2), as they are read and written. What stands
 -- aside of the rows (▹) is written, and passed over when it is read.
 use Rattle.std.specs.Prelude.{ℕ, true, List, codes}
 use Rattle.echo_base.specs.Field.{number_run}
 use Rattle.tlv_elements.specs.Grammar.{value, group, Aside, Rows, last, ◌▸◌, ◌▹◌}
 use Rattle.dia_avps.specs.Frame.{tgpp, frame_run}
-use Rattle.dia_avps.specs.Values.{sized, session, unsigned, plmn, imsi}
-
-abbrev pub Nothing : Type 0
-Nothing = Unit {0}
+use Rattle.dia_avps.specs.Values.{session, unsigned, plmn, imsi}
+use Rattle.dia_avps.specs.Groups.{Nothing, VectorFields, authentication_info, subscription_data}
 
 -- ---- what stands aside
 
@@ -38,39 +36,6 @@ requested = record { tag = 1408; mark = tgpp; octets = frame_run 1410 tgpp (numb
 -- ULR-Flags (7.3.7): S6a/S6d-Indicator, and Initial-Attach-Indicator
 abbrev pub update_flags : Aside
 update_flags = record { tag = 1405; mark = tgpp; octets = number_run 4 34 }
-
--- ---- groups
-
-abbrev pub VectorFields : Type 0
-VectorFields = List ℕ × (List ℕ × (List ℕ × (List ℕ × Nothing)))
-
--- E-UTRAN-Vector (7.3.18): RAND, XRES, AUTN, KASME
-abbrev pub vector : Rows VectorFields
-vector =
-    value true 1447 tgpp (sized 16 16) ▸
-    value true 1448 tgpp (sized 4 16) ▸
-    value true 1449 tgpp (sized 16 16) ▸
-    value true 1450 tgpp (sized 32 32) ▸
-    last
-
--- Authentication-Info (7.3.17)
-abbrev pub authentication_info : Rows (VectorFields × Nothing)
-authentication_info =
-    group true 1414 tgpp vector ▸
-    last
-
--- AMBR (7.3.41): Max-Requested-Bandwidth-UL, and -DL
-abbrev pub ambr : Rows (ℕ × (ℕ × Nothing))
-ambr =
-    value true 516 tgpp unsigned ▸
-    value true 515 tgpp unsigned ▸
-    last
-
--- Subscription-Data (7.3.2)
-abbrev pub subscription_data : Rows ((ℕ × (ℕ × Nothing)) × Nothing)
-subscription_data =
-    group true 1435 tgpp ambr ▸
-    last
 
 -- ---- messages
 

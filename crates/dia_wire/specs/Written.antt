@@ -1,8 +1,8 @@
 -- Messages as they are written (RFC 6733, 3; 3GPP TS 29.272, 7.2), by the same tables.
-use Rattle.std.specs.Prelude.{◌≡◌, ◌⊎◌, ℕ, ◌+◌, ◌^◌, ◌<◌, ◌≤◌, List, ◌∷◌, ◌++◌, length}
-use Rattle.echo_base.specs.Field.{number_run}
+use Rattle.std.specs.Prelude.{◌≡◌, ◌⊎◌, ℕ, ◌^◌, ◌<◌, ◌≤◌, List, ◌++◌, length}
 use Rattle.tlv_elements.specs.Grammar.{rows_run}
 use Rattle.dia_avps.specs.Frame.{frame_run}
+use Rattle.dia_avps.specs.Header.{header_run}
 use Rattle.dia_wire.specs.declared.dia.Dia.{Dia}
 use Rattle.dia_wire.specs.declared.dia.DiaBody.{DiaBody}
 use Rattle.dia_wire.specs.declared.dia.DiaBody.TheVariants.{AskVectors, AskLocation, AskPurge, Vectors, Located, Purged, Rejected}
@@ -40,12 +40,9 @@ body_run s (Located dl ul) = rows_run frame_run located (s, (2001, (((ul, (dl, t
 body_run s Purged = rows_run frame_run result_alone (s, (2001, tt))
 body_run s (Rejected code result) = rows_run frame_run result_alone (s, (result, tt))
 
--- version 1, the length of all, the flags, the command; the application S6a, the identifiers, and the AVPs
-abbrev pub head_run : Dia → ℕ → List ℕ
-head_run d count = 1 ∷ (number_run 3 (20 + count) ++ (flags_of d.body ∷ (number_run 3 (command_code d.body) ++ (number_run 4 0x01000023 ++ (number_run 4 d.hop ++ number_run 4 d.end)))))
-
+-- the header, and the AVPs
 abbrev pub dia_run : Dia → List ℕ
-dia_run d = head_run d (length (body_run d.session d.body)) ++ body_run d.session d.body
+dia_run d = header_run (flags_of d.body) (command_code d.body) d.hop d.end (length (body_run d.session d.body)) ++ body_run d.session d.body
 
 -- ---- what can be written
 

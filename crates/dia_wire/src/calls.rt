@@ -1,13 +1,14 @@
 //! The calls of a row and their answers as messages.
 
-ghost use Rattle.std.specs.Prelude.{◌≡◌, ◌/◌, ◌%◌, ◌^◌, ◌<◌, ◌≤◌, ◌++◌, IfOk, OnOk, string_bytes};
+ghost use Rattle.std.specs.Prelude.{◌≡◌, ◌^◌, ◌<◌, ◌++◌, IfOk, OnOk, string_bytes};
 ghost use Rattle.device_types.specs.Subscriber.{IsSubscriber};
 ghost use Rattle.dia_wire.specs.declared.dia.DiaBody.TheVariants as bodies;
-ghost use Rattle.dia_wire.specs.Calls.{session_text, numbered, plmn_of, ask_body, ask_message, IsServerAnswer, rate_of, reply_body, reply_message};
+ghost use Rattle.dia_wire.specs.Calls.{session_text, numbered, ask_body, ask_message, IsServerAnswer, rate_of, reply_body, reply_message};
 ghost use Rattle.dia_wire.specs.Written.{IsSession, IsVector, IsBody, IsDia};
 
 use crate::dia::{Dia, DiaBody};
 use device_types::{Answer, Octets, SubCall, Subscriber, TryCopy};
+use dia_avps::plmn_of;
 use echo_base::OutOfMemory;
 use std::alloc::Global;
 
@@ -42,26 +43,6 @@ fn numbered(alloc: Global, row: &Subscriber, k: u64, body: DiaBody) -> Result<Di
         session: session_of(alloc, row, k)?,
         body,
     })
-}
-
-/// The digit of an IMSI that counts so much.
-fn digit(imsi: u64, unit: u64) -> u32
-    requires { 1 ≤ unit }
-    ensures value { result ≡ imsi / unit % 10 }
-    ensures range { result < 10 }
-{
-    (imsi / unit % 10) as u32
-}
-
-/// The network of an IMSI, of its first five digits (3GPP TS 29.272, 7.3.9).
-fn plmn_of(imsi: u64) -> u32
-    ensures value { result ≡ plmn_of imsi }
-    ensures range { result < 2 ^ 24 }
-{
-    let first = 16 * digit(imsi, 10_000_000_000_000) + digit(imsi, 100_000_000_000_000);
-    let second = 240 + digit(imsi, 1_000_000_000_000);
-    let third = 16 * digit(imsi, 10_000_000_000) + digit(imsi, 100_000_000_000);
-    65536 * first + 256 * second + third
 }
 
 /// What a call says.

@@ -1,23 +1,15 @@
 //! What messages say, picked out of octets that are known to be right.
 
 ghost use Rattle.std.specs.Prelude.{◌≡◌, ◌^◌, ◌<◌, ◌≤◌, false, IfSome, option_map, length};
-ghost use Rattle.dia_wire.specs.Shapes.{found, session_at, imsi_at, plmn_at, unsigned_at, result_at, sized_at, pick_ask_vectors, pick_ask_location, pick_ask_purge, pick_vectors, pick_located, pick_purged, pick_rejected};
+ghost use Rattle.dia_avps.specs.Finding.{result_at, succeeded};
+ghost use Rattle.dia_wire.specs.Shapes.{session_at, imsi_at, plmn_at, sized_at, pick_ask_vectors, pick_ask_location, pick_ask_purge, pick_vectors, pick_located, pick_purged, pick_rejected};
 ghost use Rattle.dia_wire.specs.Commands.{code_of};
-ghost use Rattle.dia_wire.specs.Messages.{succeeded};
 ghost use Rattle.dia_wire.specs.Written.{IsSession, IsSaid};
 
 use crate::dia::DiaBody;
 use crate::kind::{Command, code_of};
 use crate::said::{PlainParts, VectorsParts};
-use dia_avps::{Avps, TGPP};
-use tlv_elements::{Found, find};
-
-/// The first AVP of that code and vendor.
-fn found<'a>(code: u32, mark: u64, end: u64, octets: &'a [u8]) -> Option<Found<'a>>
-    ensures { result ≡ found code mark end octets.now }
-{
-    find::<Avps>(end, octets, code, mark)
-}
+use dia_avps::{TGPP, first_result, found, found_unsigned};
 
 /// The session.
 fn session<'a>(end: u64, octets: &'a [u8]) -> Option<&'a [u8]>
@@ -44,21 +36,6 @@ fn plmn(end: u64, octets: &[u8]) -> Option<u32>
 {
     let avp = found(1407, TGPP, end, octets)?;
     dia_avps::plmn(avp.value)
-}
-
-/// The number of that code and vendor.
-fn unsigned(code: u32, mark: u64, end: u64, octets: &[u8]) -> Option<u32>
-    ensures { result ≡ unsigned_at code mark end octets.now }
-{
-    let avp = found(code, mark, end, octets)?;
-    dia_avps::unsigned(avp.value)
-}
-
-/// The first result.
-pub fn first_result(end: u64, octets: &[u8]) -> Option<u32>
-    ensures { result ≡ result_at end octets.now }
-{
-    unsigned(268, 0, end, octets)
 }
 
 /// The first result, of an answer that does not succeed.
@@ -150,8 +127,8 @@ pub fn pick_located<'a>(end: u64, octets: &'a [u8]) -> Option<PlainParts<'a>>
     let session = session(end, octets)?;
     let subscription = found(1400, TGPP, end, octets)?;
     let ambr = found(1435, TGPP, subscription.stop, subscription.value)?;
-    let ul = unsigned(516, TGPP, ambr.stop, ambr.value)?;
-    let dl = unsigned(515, TGPP, ambr.stop, ambr.value)?;
+    let ul = found_unsigned(516, TGPP, ambr.stop, ambr.value)?;
+    let dl = found_unsigned(515, TGPP, ambr.stop, ambr.value)?;
     Some(PlainParts {
         session,
         body: DiaBody::Located { dl, ul },

@@ -8,18 +8,19 @@ ghost use Rattle.echo_base.specs.Reading.{GivesOrEnds, GivesTaking};
 ghost use Rattle.tlv_elements.specs.Reading.{or_wrong};
 ghost use Rattle.dia_wire.specs.declared.dia.Dia.{Dia};
 ghost use Rattle.dia_wire.specs.Shapes.{shape_of};
-ghost use Rattle.dia_wire.specs.Messages.{succeeded, kind_of, RejectsBy, said_at, header_at, dia_at, dia_of, DiaSpells, DiaRefuses, KeepsSession, TakesMemory, SpellsTaking};
+ghost use Rattle.dia_wire.specs.Messages.{kind_of, RejectsBy, said_at, header_at, dia_at, dia_of, DiaSpells, DiaRefuses, KeepsSession, TakesMemory, SpellsTaking};
 ghost use Rattle.dia_wire.specs.Written.{IsSaid, IsDia};
 
 use crate::dia::Dia;
 use crate::header::Header;
 use crate::kind::{Kind, asking, command_of, granting};
 use crate::picking::{
-    first_result, pick_ask_location, pick_ask_purge, pick_ask_vectors, pick_located, pick_purged,
-    pick_rejected, pick_vectors,
+    pick_ask_location, pick_ask_purge, pick_ask_vectors, pick_located, pick_purged, pick_rejected,
+    pick_vectors,
 };
 use crate::said::{PlainParts, Said, VectorsParts};
 use crate::tables::read_avps;
+use dia_avps::succeeded;
 use echo_base::{Bad, Reason, Refusal};
 use std::alloc::Global;
 use tlv_elements::{Left, truncated};
@@ -29,16 +30,6 @@ const NEVER: Refusal = Refusal {
     reason: Reason::Truncated,
     place: 0,
 };
-
-/// Is the first result 2001?
-fn succeeded(end: u64, octets: &[u8]) -> bool
-    ensures { result ≡ succeeded end octets.now }
-{
-    match first_result(end, octets) {
-        Some(result) => result == 2001,
-        None => false,
-    }
-}
 
 /// The kind of a message with that header.
 fn kind_of(header: &Header) -> Kind

@@ -1,75 +1,15 @@
-//! The messages and groups as the program keeps them: the rows of the tables of `specs/Tables.antt`, and nothing besides.
+//! The messages as the program keeps them: the rows of the tables of `specs/Tables.antt`, and nothing besides.
 
-ghost use Rattle.std.specs.Prelude.{◌≡◌, true};
-ghost use Rattle.tlv_elements.specs.Grammar.{check_group, rules};
+ghost use Rattle.std.specs.Prelude.{◌≡◌};
 ghost use Rattle.tlv_elements.specs.Reading.{whole_at};
-ghost use Rattle.dia_avps.specs.Frame.{frame_in, dia};
-ghost use Rattle.dia_wire.specs.Tables.{authentication_info, subscription_data};
-ghost use Rattle.dia_wire.specs.Checks.{part_check};
+ghost use Rattle.dia_avps.specs.Frame.{dia};
 ghost use Rattle.dia_wire.specs.Shapes.{kind_rules};
 
-use crate::content::{Content, Member, Part};
+use crate::content::Content;
 use crate::kind::Kind;
-use dia_avps::{Avps, TGPP};
+use dia_avps::{Avps, TGPP, row};
 use echo_base::Refusal;
-use tlv_elements::{Found, Row, read_whole};
-
-/// A row of a table; each is needed.
-fn row<T>(tag: u32, mark: u64, content: T) -> Row<T>
-    ensures { result ≡ record { tag = tag; mark = mark; needed = true; content = content } }
-{
-    Row {
-        tag,
-        mark,
-        needed: true,
-        content,
-    }
-}
-
-/// Is a group in a group right?
-#[rattlefmt::skip]
-pub fn check_part(which: Part, element: &Found) -> Result<(), Refusal>
-    ensures { result ≡ part_check which element.now }
-{
-    let end = element.stop;
-    let octets = element.value;
-    match which {
-        Part::Vector => read_whole::<Avps, Member>(&[
-            row(1447, TGPP, Member::Sized(16, 16)),
-            row(1448, TGPP, Member::Sized(4, 16)),
-            row(1449, TGPP, Member::Sized(16, 16)),
-            row(1450, TGPP, Member::Sized(32, 32)),
-        ], end, false, octets),
-        Part::Ambr => read_whole::<Avps, Member>(&[
-            row(516, TGPP, Member::Unsigned),
-            row(515, TGPP, Member::Unsigned),
-        ], end, false, octets),
-    }
-}
-
-/// Is Authentication-Info right?
-pub fn check_authentication_info(element: &Found) -> Result<(), Refusal>
-    ensures { result ≡ check_group dia (rules frame_in dia authentication_info) element.now }
-{
-    read_whole::<Avps, Part>(
-        &[row(1414, TGPP, Part::Vector)],
-        element.stop,
-        false,
-        element.value,
-    )
-}
-
-/// Is Subscription-Data right?
-pub fn check_subscription_data(element: &Found) -> Result<(), Refusal>
-    ensures { result ≡ check_group dia (rules frame_in dia subscription_data) element.now }
-{
-    read_whole::<Avps, Part>(
-        &[row(1435, TGPP, Part::Ambr)],
-        element.stop,
-        false,
-        element.value,
-    )
-}
+use tlv_elements::read_whole;
 
 /// Reads the AVPs of a message of that kind.
 #[rattlefmt::skip]

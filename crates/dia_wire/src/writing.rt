@@ -5,15 +5,15 @@ ghost use Rattle.echo_base.specs.Field.{number_run};
 ghost use Rattle.tlv_elements.specs.Grammar.{rows_run};
 ghost use Rattle.dia_avps.specs.Frame.{tgpp, frame_run};
 ghost use Rattle.dia_wire.specs.declared.dia.DiaBody.TheVariants.{AskVectors, AskLocation, AskPurge, Vectors, Located};
-ghost use Rattle.dia_wire.specs.Tables.{realm, vector, authentication_info, subscription_data, result_alone};
-ghost use Rattle.dia_wire.specs.Written.{flags_of, body_run, head_run, dia_run, IsSession, IsVector, IsBody, IsDia};
+ghost use Rattle.dia_avps.specs.Groups.{vector, authentication_info, subscription_data};
+ghost use Rattle.dia_wire.specs.Tables.{realm, result_alone};
+ghost use Rattle.dia_wire.specs.Written.{flags_of, body_run, dia_run, IsSession, IsVector, IsBody, IsDia};
 
 use crate::dia::{Dia, DiaBody};
 use device_types::Octets;
-use dia_avps::{TGPP, put, put_head, put_imsi, put_plmn, put_unsigned};
+use dia_avps::{TGPP, put, put_head, put_header, put_imsi, put_plmn, put_unsigned};
 use echo_base::OutOfMemory;
 use std::alloc::Global;
-use tlv_elements::{put_u24, put_u32};
 
 /// The AVPs that stand aside between Session-Id and User-Name of a request.
 fn put_asker(out: &mut Vec<u8>) -> Result<(), OutOfMemory>
@@ -221,24 +221,8 @@ fn flags_of(body: &DiaBody) -> u8
     }
 }
 
-/// The header of a message whose AVPs have so many octets.
-#[tactic(auto, using(crate::proofs::KindLaws::command_small))]
-fn put_header(out: &mut Vec<u8>, d: &Dia, count: u32) -> Result<(), OutOfMemory>
-    requires body { IsBody d.now.body }
-    requires count { count < 65536 }
-    ensures { OnOk result (out.new.items ≡ out.old.items ++ head_run d.now count) }
-{
-    out.push(1)?;
-    put_u24(out, 20 + count)?;
-    out.push(flags_of(&d.body))?;
-    put_u24(out, d.body.command())?;
-    put_u32(out, 0x0100_0023)?;
-    put_u32(out, d.hop)?;
-    put_u32(out, d.end)
-}
-
 /// Writes a message in its one form.
-#[tactic(auto, using(crate::proofs::WrittenLaws::body_small))]
+#[tactic(auto, using(crate::proofs::WrittenLaws::body_small, crate::proofs::KindLaws::command_small))]
 pub fn write_dia(alloc: Global, d: &Dia) -> Result<Octets, OutOfMemory>
     requires { IsDia d.now }
     ensures written { IfOk result (λ octets. octets ≡ dia_run d.now) }
@@ -246,7 +230,15 @@ pub fn write_dia(alloc: Global, d: &Dia) -> Result<Octets, OutOfMemory>
     let mut avps = Vec::with_capacity(alloc, 256)?;
     put_body(&mut avps, alloc, d.session.items(), &d.body)?;
     let mut out = Vec::with_capacity(alloc, 20 + avps.len())?;
-    put_header(&mut out, d, avps.len() as u32)?;
+    let count = avps.len() as u32;
+    put_header(
+        &mut out,
+        flags_of(&d.body),
+        d.body.command(),
+        d.hop,
+        d.end,
+        count,
+    )?;
     out.extend_from_slice(avps.as_slice())?;
     Ok(Octets::from(out))
 }

@@ -1,0 +1,129 @@
+//! AVPs whose values are groups (3GPP TS 29.272, 7.3), as the program keeps them: the rows of the tables of `specs/Groups.antt`, and
+//! nothing besides.
+
+ghost use Rattle.std.specs.Prelude.{◌≡◌, Ok, Err, true, if◌then◌else◌};
+ghost use Rattle.tlv_elements.specs.Grammar.{wrong_at, check_group, rules};
+ghost use Rattle.dia_avps.specs.Frame.{frame_in, dia};
+ghost use Rattle.dia_avps.specs.Groups.{vector, authentication_info, ambr, subscription_data};
+
+use crate::frame::{Avps, TGPP};
+use crate::values::{sized, unsigned};
+use echo_base::{Reason, Refusal};
+use tlv_elements::{Content, Found, Row, read_whole};
+
+/// What the value of an AVP in one of these groups is: a group.
+#[derive(Clone, Copy)]
+pub enum Part {
+    /// E-UTRAN-Vector.
+    Vector,
+    /// AMBR.
+    Ambr,
+}
+
+/// What the value of an AVP in a group of a group is.
+#[derive(Clone, Copy)]
+pub enum Member {
+    /// From so many octets to so many.
+    Sized(u8, u8),
+    /// A number of four octets.
+    Unsigned,
+}
+
+/// A row of a table; each is needed.
+pub fn row<T>(tag: u32, mark: u64, content: T) -> Row<T>
+    ensures { result ≡ record { tag = tag; mark = mark; needed = true; content = content } }
+{
+    Row {
+        tag,
+        mark,
+        needed: true,
+        content,
+    }
+}
+
+/// Passes an AVP of right form.
+pub fn told(right: bool, element: &Found) -> Result<(), Refusal>
+    ensures { result ≡ (if right then Ok tt else Err (wrong_at dia element.now)) }
+{
+    if right {
+        return Ok(());
+    }
+    Err(Refusal {
+        reason: Reason::DiaAvp(element.tag),
+        place: element.place,
+    })
+}
+
+impl Content for Member {
+    ghost use Rattle.dia_avps.specs.Groups.{member_check};
+
+    ghost check_of = { member_check };
+
+    fn check(self, element: &Found) -> Result<(), Refusal> {
+        let value = element.value;
+        match self {
+            Member::Sized(least, most) => told(
+                sized(value, usize::from(least), usize::from(most)).is_some(),
+                element,
+            ),
+            Member::Unsigned => told(unsigned(value).is_some(), element),
+        }
+    }
+}
+
+/// Is an E-UTRAN-Vector (7.3.18) right?
+#[rattlefmt::skip]
+fn check_vector(element: &Found) -> Result<(), Refusal>
+    ensures { result ≡ check_group dia (rules frame_in dia vector) element.now }
+{
+    read_whole::<Avps, Member>(&[
+        row(1447, TGPP, Member::Sized(16, 16)),
+        row(1448, TGPP, Member::Sized(4, 16)),
+        row(1449, TGPP, Member::Sized(16, 16)),
+        row(1450, TGPP, Member::Sized(32, 32)),
+    ], element.stop, false, element.value)
+}
+
+/// Is an AMBR (7.3.41) right?
+#[rattlefmt::skip]
+fn check_ambr(element: &Found) -> Result<(), Refusal>
+    ensures { result ≡ check_group dia (rules frame_in dia ambr) element.now }
+{
+    read_whole::<Avps, Member>(&[
+        row(516, TGPP, Member::Unsigned),
+        row(515, TGPP, Member::Unsigned),
+    ], element.stop, false, element.value)
+}
+
+impl Content for Part {
+    ghost use Rattle.dia_avps.specs.Groups.{part_check};
+
+    ghost check_of = { part_check };
+
+    fn check(self, element: &Found) -> Result<(), Refusal> {
+        match self {
+            Part::Vector => check_vector(element),
+            Part::Ambr => check_ambr(element),
+        }
+    }
+}
+
+/// Is an Authentication-Info (7.3.17) right?
+#[rattlefmt::skip]
+pub fn check_authentication_info(element: &Found) -> Result<(), Refusal>
+    ensures { result ≡ check_group dia (rules frame_in dia authentication_info) element.now }
+{
+    read_whole::<Avps, Part>(&[
+        row(1414, TGPP, Part::Vector),
+    ], element.stop, false, element.value)
+}
+
+/// Is a Subscription-Data (7.3.2) right?
+#[rattlefmt::skip]
+pub fn check_subscription_data(element: &Found) -> Result<(), Refusal>
+    ensures { result ≡ check_group dia (rules frame_in dia subscription_data) element.now }
+{
+    read_whole::<Avps, Part>(&[
+        row(1435, TGPP, Part::Ambr),
+    ], element.stop, false, element.value)
+}
