@@ -14,7 +14,7 @@ use Rattle.tlv_elements.proofs.Frames.{here_exactly, room_exactly}
 use Rattle.tlv_elements.proofs.Pieces.{passing_decides}
 use Rattle.tlv_elements.proofs.Exact.{IsFrame}
 use Rattle.tlv_elements.proofs.Writes.{IsWritten}
-use Rattle.dia_avps.specs.Frame.{tgpp, nothing, padding, head_size, mark_by_in, mark_by_at, mark_in, mark_at, frame_in, frame_at, padding_run, frame_run, dia}
+use Rattle.dia_avps.specs.Frame.{tgpp, nothing, padding, head_size, mark_by_in, mark_by_at, mark_in, mark_at, body_in, body_at, frame_in, frame_at, padding_run, frame_run, dia}
 
 -- ---- what is read
 
@@ -27,7 +27,7 @@ unfolding mark_in mark_at
 mark_exactly flags short = mark_by_exactly (leb 128 flags) short
 
 pub frame_exactly : (end : ℕ) → IsExactly (frame_in end) (frame_at end)
-unfolding frame_in frame_at
+unfolding frame_in frame_at body_in body_at
 frame_exactly end =
     behind _ _ _ _ (here_exactly end) (λ place.
     behind _ _ _ _ (number_exactly (truncated place) 4) (λ code.
@@ -51,7 +51,7 @@ unfolding mark_in
 mark_less flags short s v t h = mark_by_less (leb 128 flags) short s v t h
 
 frame_shorter : (end : ℕ) (s : List ℕ) (e : Element) (t : List ℕ) → (frame_in end).Stands s e t → length t < length s
-unfolding frame_in number_in
+unfolding frame_in body_in number_in
 frame_shorter end s e t f =
     let code = f.3 in
     let flags = code.3 in
@@ -97,7 +97,7 @@ filled_length : (v t : List ℕ) → length (filled v t) ≡ length v + padding 
 filled_length v t = omega (arith, length-append (v ++ padding_run (length v)) t, length-append v (padding_run (length v)), length-replicate {A = ℕ} (padding (length v)) 0)
 
 plain_framed : (end code : ℕ) (v t : List ℕ) → code < 2 ^ 32 → length v < 65536 → (e : Element) × (frame_in end).Stands (number_run 4 code ++ (0x40 ∷ (number_run 3 (8 + length v) ++ filled v t))) e t × (e.tag ≡ code) × (e.mark ≡ 0) × (e.value ≡ v)
-unfolding frame_in mark_in
+unfolding frame_in body_in mark_in
 plain_framed end code v t few short =
     let size = 8 + length v in
     let back = filled v t in
@@ -116,7 +116,7 @@ plain_framed end code v t few short =
     )
 
 vendor_framed : (end code vendor : ℕ) (v t : List ℕ) → code < 2 ^ 32 → vendor < 2 ^ 32 → length v < 65536 → (e : Element) × (frame_in end).Stands (number_run 4 code ++ (0xc0 ∷ (number_run 3 (12 + length v) ++ (number_run 4 vendor ++ filled v t)))) e t × (e.tag ≡ code) × (e.mark ≡ vendor + 1) × (e.value ≡ v)
-unfolding frame_in mark_in
+unfolding frame_in body_in mark_in
 vendor_framed end code vendor v t few known short =
     let size = 12 + length v in
     let back = filled v t in

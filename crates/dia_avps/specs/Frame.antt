@@ -44,8 +44,25 @@ mark_in flags short = mark_by_in (has_vendor flags) short
 unfoldable pub mark_at : ℕ → Refusal → FieldReader Refusal ℕ
 mark_at flags short = mark_by_at (has_vendor flags) short
 
--- code, flags, a length that counts the head and the value, a vendor where the flags say so, the value, and padding of any octets. One that is not
--- whole, padding too, is so before its length is looked at
+-- behind the length: a vendor where the flags say so, the value, and padding of any octets
+unfoldable pub body_in : (end place code flags size : ℕ) → Field Refusal Element
+body_in end place code flags size =
+    formats.◌>>=◌ (mark_in flags (truncated place)) (λ mark.
+    formats.◌>>=◌ (octets_in (truncated place) (size - head_size flags)) (λ value.
+    formats.◌>>=◌ (here_in end) (λ stop.
+    formats.◌>>=◌ (octets_in (truncated place) (padding size)) (λ pad.
+    just (record { tag = code; mark = mark; place = place; stop = stop; value = value })))))
+
+unfoldable pub body_at : (end place code flags size : ℕ) → FieldReader Refusal Element
+body_at end place code flags size =
+    readings.◌>>=◌ (mark_at flags (truncated place)) (λ mark.
+    readings.◌>>=◌ (octets_at (truncated place) (size - head_size flags)) (λ value.
+    readings.◌>>=◌ (here_at end) (λ stop.
+    readings.◌>>=◌ (octets_at (truncated place) (padding size)) (λ pad.
+    done (record { tag = code; mark = mark; place = place; stop = stop; value = value })))))
+
+-- code, flags, a length that counts the head and the value, and what is behind it. An AVP that is not whole, padding too, is so before its length is
+-- looked at
 unfoldable pub frame_in : ℕ → Field Refusal Element
 frame_in end =
     formats.◌>>=◌ (here_in end) (λ place.
@@ -54,11 +71,7 @@ frame_in end =
     formats.◌>>=◌ (number_in (truncated place) 3) (λ size.
     formats.◌>>=◌ (room_in (truncated place) (size + padding size - 8)) (λ room.
     formats.◌>>=◌ (meant (Passes (head_size flags ≤ size) nothing) (refusal_at (reasons.DiaAvp code) place)) (λ enough.
-    formats.◌>>=◌ (mark_in flags (truncated place)) (λ mark.
-    formats.◌>>=◌ (octets_in (truncated place) (size - head_size flags)) (λ value.
-    formats.◌>>=◌ (here_in end) (λ stop.
-    formats.◌>>=◌ (octets_in (truncated place) (padding size)) (λ pad.
-    just (record { tag = code; mark = mark; place = place; stop = stop; value = value })))))))))))
+    body_in end place code flags size))))))
 
 unfoldable pub frame_at : ℕ → FieldReader Refusal Element
 frame_at end =
@@ -68,11 +81,7 @@ frame_at end =
     readings.◌>>=◌ (number_at (truncated place) 3) (λ size.
     readings.◌>>=◌ (room_at (truncated place) (size + padding size - 8)) (λ room.
     readings.◌>>=◌ (known (passing (nat_le (head_size flags) size) nothing) (refusal_at (reasons.DiaAvp code) place)) (λ enough.
-    readings.◌>>=◌ (mark_at flags (truncated place)) (λ mark.
-    readings.◌>>=◌ (octets_at (truncated place) (size - head_size flags)) (λ value.
-    readings.◌>>=◌ (here_at end) (λ stop.
-    readings.◌>>=◌ (octets_at (truncated place) (padding size)) (λ pad.
-    done (record { tag = code; mark = mark; place = place; stop = stop; value = value })))))))))))
+    body_at end place code flags size))))))
 
 -- ---- how they are written: with bit 40 of the flags, M, and zeros as padding
 

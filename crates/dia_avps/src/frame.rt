@@ -1,8 +1,8 @@
 //! The frame of an AVP.
 
-ghost use Rattle.std.specs.Prelude.{◌≡◌, ◌<◌};
+ghost use Rattle.std.specs.Prelude.{◌≡◌, ◌<◌, ◌≤◌};
 ghost use Rattle.echo_base.specs.Reading.{GivesOrEnds};
-ghost use Rattle.dia_avps.specs.Frame.{padding, head_size, mark_at, frame_at, dia};
+ghost use Rattle.dia_avps.specs.Frame.{padding, head_size, mark_at, body_at, frame_at, dia};
 
 use echo_base::{Reason, Refusal};
 use tlv_elements::{Found, Framing, Left, truncated};
@@ -40,6 +40,33 @@ pub(crate) fn padding(size: u32) -> u32
     (4 - size % 4) % 4
 }
 
+/// Reads what is behind the length of an AVP at that place: a vendor where the flags say so, the value, and the padding.
+#[tactic(auto, unfolding(crate::specs::Frame::body_at))]
+fn read_body<'a>(
+    end: u64,
+    place: u64,
+    tag: u32,
+    flags: u8,
+    size: u32,
+    left: &mut Left<'a>,
+) -> Result<Found<'a>, Refusal>
+    requires { head_size flags ≤ size }
+    ensures { GivesOrEnds result left.new (body_at end place tag flags size left.old) }
+{
+    let short = truncated(place);
+    let mark = read_mark(left, flags, short)?;
+    let value = left.octets(short, (size - head_size(flags)) as usize)?;
+    let stop = left.here(end);
+    left.octets(short, padding(size) as usize)?;
+    Ok(Found {
+        tag,
+        mark,
+        place,
+        stop,
+        value,
+    })
+}
+
 /// Reads the frame of an AVP (RFC 6733, 4.1) in front of octets that end at that place: its code, flags, a length that counts all but
 /// the padding, and a vendor where the flags say so. One that is not whole, padding too, is Truncated at its first octet, and one whose
 /// length is below its head is a DiaAvp with its code there.
@@ -52,26 +79,17 @@ fn read_frame<'a>(end: u64, left: &mut Left<'a>) -> Result<Found<'a>, Refusal>
     let tag = left.u32(short)?;
     let flags = left.octet(short)?;
     let size = left.u24(short)?;
-    let pad = padding(size);
-    left.room(short, (size as usize + pad as usize).saturating_sub(8))?;
-    let head = head_size(flags);
-    if size < head {
+    left.room(
+        short,
+        (size as usize + padding(size) as usize).saturating_sub(8),
+    )?;
+    if size < head_size(flags) {
         return Err(Refusal {
             reason: Reason::DiaAvp(tag),
             place,
         });
     }
-    let mark = read_mark(left, flags, short)?;
-    let value = left.octets(short, (size - head) as usize)?;
-    let stop = left.here(end);
-    left.octets(short, pad as usize)?;
-    Ok(Found {
-        tag,
-        mark,
-        place,
-        stop,
-        value,
-    })
+    read_body(end, place, tag, flags, size, left)
 }
 
 /// The AVPs of Diameter: how they are framed, and why they are refused.

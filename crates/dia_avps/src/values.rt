@@ -43,7 +43,9 @@ pub fn unsigned(octets: &[u8]) -> Option<u32>
 {
     let mut left = Left::new(octets);
     let n = left.u32(DUE).ok()?;
-    left.end(DUE).ok()?;
+    if !left.is_empty() {
+        return None;
+    }
     Some(n)
 }
 
@@ -55,7 +57,9 @@ pub fn plmn(octets: &[u8]) -> Option<u32>
 {
     let mut left = Left::new(octets);
     let n = left.u24(DUE).ok()?;
-    left.end(DUE).ok()?;
+    if !left.is_empty() {
+        return None;
+    }
     Some(n)
 }
 

@@ -27,7 +27,7 @@ use Rattle.dia_wire.specs.declared.said.Said.{Said}
 use Rattle.dia_wire.specs.Commands.{code_of, command_of}
 use Rattle.dia_wire.specs.Header.{Header}
 use Rattle.dia_wire.specs.Shapes.{shape_of}
-use Rattle.dia_wire.specs.Messages.{kind_of, SpellsSaid, RefusesSaid, said_at, header_in, header_at, with_head, is_behind, behind_in, behind_at, dia_in, dia_at, DiaSpells, DiaRefuses, dia_of, TakesMemory}
+use Rattle.dia_wire.specs.Messages.{kind_of, SpellsSaid, RefusesSaid, said_at, rest_in, rest_at, header_in, header_at, with_head, is_behind, behind_in, behind_at, dia_in, dia_at, DiaSpells, DiaRefuses, dia_of, TakesMemory}
 use Rattle.dia_wire.proofs.ShapeLaws.{shape_is}
 
 -- ---- what stands behind a header
@@ -68,7 +68,7 @@ command_decides : (code : ℕ) → Decides (command_of code) (λ command. code �
 command_decides code = record { found = command_found code; only = λ command e. rw e (command_back command) }
 
 header_exactly : IsExactly header_in header_at
-unfolding header_in header_at
+unfolding header_in header_at rest_in rest_at
 header_exactly =
     behind _ _ _ _ (octet_exactly (truncated 0)) (λ version.
     behind _ _ _ _ (known_exactly (passing (eqb version 1) nothing) (Passes (version ≡ 1) nothing) _ (passing_decides (eqb version 1) nothing (version ≡ 1) (λ h. eqb-true version 1 h) (λ e. eq-eqb version 1 e))) (λ first.

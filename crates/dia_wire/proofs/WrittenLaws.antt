@@ -29,7 +29,7 @@ use Rattle.dia_wire.specs.Commands.{code_of, answering}
 use Rattle.dia_wire.specs.Header.{Header}
 use Rattle.dia_wire.specs.Tables.{realm, requested, update_flags, request, answer, ask_vectors, ask_location, vectors, located, result_alone}
 use Rattle.dia_wire.specs.Shapes.{Shape, shape_of, saying}
-use Rattle.dia_wire.specs.Messages.{kind_by, SpellsSaid, header_in, dia_in, DiaSpells}
+use Rattle.dia_wire.specs.Messages.{kind_by, SpellsSaid, rest_in, header_in, dia_in, DiaSpells}
 use Rattle.dia_wire.specs.Written.{command_code, flags_of, body_run, dia_run, IsSession, IsVector, IsBody, IsDia, HasWords}
 use Rattle.dia_wire.proofs.ShapeLaws.{is_found, shape_is}
 
@@ -228,7 +228,7 @@ code_small commands.Location = omega arith
 code_small commands.Purge = omega arith
 
 header_written : (command : Command) (flags hop end : ℕ) (b : List ℕ) → hop < 2 ^ 32 → end < 2 ^ 32 → length b < 65536 → header_in.Stands (1 ∷ (number_run 3 (20 + length b) ++ (flags ∷ (number_run 3 (code_of command) ++ (number_run 4 0x01000023 ++ (number_run 4 hop ++ (number_run 4 end ++ b))))))) (record { command = command; request = leb 128 flags; hop = hop; end_to_end = end; end = 20 + length b; octets = b }) []
-unfolding header_in
+unfolding header_in rest_in
 header_written command flags hop end b h e few =
     let s7 = number_run 4 end ++ b in
     let s6 = number_run 4 hop ++ s7 in

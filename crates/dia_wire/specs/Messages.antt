@@ -51,15 +51,10 @@ said_at kind end behind octets = table_at dia (kind_rules kind) (shape_of kind).
 
 -- ---- the header (RFC 6733, 3)
 
--- version 1; a length that counts all of the message, which is there; flags, of which bit 80, R, is set in a request; the command; the application, which
--- is that of S6a (TS 29.272, 7.1.8); Hop-by-Hop and End-to-End Identifier; the AVPs
-unfoldable pub header_in : Field Refusal Header
-header_in =
-    formats.◌>>=◌ (octet_in (truncated 0)) (λ version.
-    formats.◌>>=◌ (meant (Passes (version ≡ 1) nothing) (refusal_at reasons.DiaHeader 0)) (λ first.
-    formats.◌>>=◌ (number_in (truncated 1) 3) (λ size.
-    formats.◌>>=◌ (meant (Passes (20 ≤ size) nothing) (truncated 1)) (λ enough.
-    formats.◌>>=◌ (room_in (truncated 1) (size - 4)) (λ room.
+-- behind the length: flags, of which bit 80, R, is set in a request; the command; the application, which is that of S6a (TS 29.272, 7.1.8); Hop-by-Hop
+-- and End-to-End Identifier; the AVPs
+unfoldable pub rest_in : ℕ → Field Refusal Header
+rest_in size =
     formats.◌>>=◌ (octet_in (truncated 1)) (λ flags.
     formats.◌>>=◌ (number_in (truncated 1) 3) (λ code.
     formats.◌>>=◌ (meant (λ command. code ≡ code_of command) (refusal_at (reasons.DiaCommand code) 5)) (λ command.
@@ -68,15 +63,10 @@ header_in =
     formats.◌>>=◌ (number_in (truncated 1) 4) (λ hop.
     formats.◌>>=◌ (number_in (truncated 1) 4) (λ end_to_end.
     formats.◌>>=◌ (octets_in (truncated 1) (size - 20)) (λ octets.
-    just (record { command = command; request = nat_le 128 flags; hop = hop; end_to_end = end_to_end; end = size; octets = octets }))))))))))))))
+    just (record { command = command; request = nat_le 128 flags; hop = hop; end_to_end = end_to_end; end = size; octets = octets })))))))))
 
-unfoldable pub header_at : FieldReader Refusal Header
-header_at =
-    readings.◌>>=◌ (octet_at (truncated 0)) (λ version.
-    readings.◌>>=◌ (known (passing (version == 1) nothing) (refusal_at reasons.DiaHeader 0)) (λ first.
-    readings.◌>>=◌ (number_at (truncated 1) 3) (λ size.
-    readings.◌>>=◌ (known (passing (nat_le 20 size) nothing) (truncated 1)) (λ enough.
-    readings.◌>>=◌ (room_at (truncated 1) (size - 4)) (λ room.
+unfoldable pub rest_at : ℕ → FieldReader Refusal Header
+rest_at size =
     readings.◌>>=◌ (octet_at (truncated 1)) (λ flags.
     readings.◌>>=◌ (number_at (truncated 1) 3) (λ code.
     readings.◌>>=◌ (known (command_of code) (refusal_at (reasons.DiaCommand code) 5)) (λ command.
@@ -85,7 +75,26 @@ header_at =
     readings.◌>>=◌ (number_at (truncated 1) 4) (λ hop.
     readings.◌>>=◌ (number_at (truncated 1) 4) (λ end_to_end.
     readings.◌>>=◌ (octets_at (truncated 1) (size - 20)) (λ octets.
-    done (record { command = command; request = nat_le 128 flags; hop = hop; end_to_end = end_to_end; end = size; octets = octets }))))))))))))))
+    done (record { command = command; request = nat_le 128 flags; hop = hop; end_to_end = end_to_end; end = size; octets = octets })))))))))
+
+-- version 1; a length that counts all of the message, which is there; and what is behind it
+unfoldable pub header_in : Field Refusal Header
+header_in =
+    formats.◌>>=◌ (octet_in (truncated 0)) (λ version.
+    formats.◌>>=◌ (meant (Passes (version ≡ 1) nothing) (refusal_at reasons.DiaHeader 0)) (λ first.
+    formats.◌>>=◌ (number_in (truncated 1) 3) (λ size.
+    formats.◌>>=◌ (meant (Passes (20 ≤ size) nothing) (truncated 1)) (λ enough.
+    formats.◌>>=◌ (room_in (truncated 1) (size - 4)) (λ room.
+    rest_in size)))))
+
+unfoldable pub header_at : FieldReader Refusal Header
+header_at =
+    readings.◌>>=◌ (octet_at (truncated 0)) (λ version.
+    readings.◌>>=◌ (known (passing (version == 1) nothing) (refusal_at reasons.DiaHeader 0)) (λ first.
+    readings.◌>>=◌ (number_at (truncated 1) 3) (λ size.
+    readings.◌>>=◌ (known (passing (nat_le 20 size) nothing) (truncated 1)) (λ enough.
+    readings.◌>>=◌ (room_at (truncated 1) (size - 4)) (λ room.
+    rest_at size)))))
 
 -- ---- whole messages
 

@@ -2,12 +2,12 @@
 
 ghost use Rattle.std.specs.Prelude.{◌≡◌, ◌^◌, ◌<◌, ◌++◌, IfOk, OnOk, string_bytes};
 ghost use Rattle.device_types.specs.Subscriber.{IsSubscriber};
-ghost use Rattle.dia_wire.specs.declared.dia.DiaBody.TheVariants as bodies;
 ghost use Rattle.dia_wire.specs.Calls.{session_text, numbered, ask_body, ask_message, IsServerAnswer, rate_of, reply_body, reply_message};
-ghost use Rattle.dia_wire.specs.Written.{IsSession, IsVector, IsBody, IsDia};
+ghost use Rattle.dia_wire.specs.Written.{IsSession, IsBody, IsDia};
 
 use crate::dia::{Dia, DiaBody};
-use device_types::{Answer, Octets, SubCall, Subscriber, TryCopy};
+use crate::said::vectors;
+use device_types::{Answer, Octets, SubCall, Subscriber};
 use dia_avps::plmn_of;
 use echo_base::OutOfMemory;
 use std::alloc::Global;
@@ -82,33 +82,20 @@ fn rate_of(rate: u64) -> u32
     rate.min(4_294_967_295) as u32
 }
 
-/// Vectors.
-fn vectors_body(
-    rand: &Octets,
-    autn: &Octets,
-    res: &Octets,
-    key: &Octets,
-) -> Result<DiaBody, OutOfMemory>
-    requires { IsVector rand.now res.now autn.now key.now }
-    ensures body { IfOk result (λ body. body ≡ bodies.Vectors rand.now res.now autn.now key.now) }
-    ensures written { IfOk result IsBody }
-{
-    Ok(DiaBody::Vectors {
-        rand: rand.copy()?,
-        xres: res.copy()?,
-        autn: autn.copy()?,
-        key: key.copy()?,
-    })
-}
-
 /// What an answer says.
-fn reply_body(answer: &Answer) -> Result<DiaBody, OutOfMemory>
+fn reply_body(alloc: Global, answer: &Answer) -> Result<DiaBody, OutOfMemory>
     requires { IsServerAnswer answer.now }
     ensures body { IfOk result (λ body. body ≡ reply_body answer.now) }
     ensures written { IfOk result IsBody }
 {
     match answer {
-        Answer::Vectors(rand, autn, res, key) => vectors_body(rand, autn, res, key),
+        Answer::Vectors(rand, autn, res, key) => vectors(
+            alloc,
+            rand.items(),
+            res.items(),
+            autn.items(),
+            key.items(),
+        ),
         Answer::Located(dl, ul) => Ok(DiaBody::Located {
             dl: rate_of(*dl),
             ul: rate_of(*ul),
@@ -135,6 +122,6 @@ pub fn reply_of(
     ensures message { IfOk result (λ d. d ≡ reply_message row.now k answer.now) }
     ensures written { IfOk result IsDia }
 {
-    let body = reply_body(answer)?;
+    let body = reply_body(alloc, answer)?;
     numbered(alloc, row, k, body)
 }

@@ -1,6 +1,6 @@
 //! Reading messages.
 
-ghost use Rattle.std.specs.Prelude.{◌≡◌, Err, IfOk, IfSome, ⊤};
+ghost use Rattle.std.specs.Prelude.{◌≡◌, ◌≤◌, Err, IfOk, IfSome, ⊤};
 ghost use Rattle.echo_base.specs.declared.refusal.Refusal.{Refusal};
 ghost use Rattle.echo_base.specs.declared.refusal.Bad.TheVariants.{Refused};
 ghost use Rattle.echo_base.specs.Answer.{Answers, IsAnswerTaking};
@@ -8,7 +8,7 @@ ghost use Rattle.echo_base.specs.Reading.{GivesOrEnds, GivesTaking};
 ghost use Rattle.tlv_elements.specs.Reading.{or_wrong};
 ghost use Rattle.dia_wire.specs.declared.dia.Dia.{Dia};
 ghost use Rattle.dia_wire.specs.Shapes.{shape_of};
-ghost use Rattle.dia_wire.specs.Messages.{kind_of, RejectsBy, said_at, header_at, dia_at, dia_of, DiaSpells, DiaRefuses, KeepsSession, TakesMemory, SpellsTaking};
+ghost use Rattle.dia_wire.specs.Messages.{kind_of, RejectsBy, said_at, rest_at, header_at, dia_at, dia_of, DiaSpells, DiaRefuses, KeepsSession, TakesMemory, SpellsTaking};
 ghost use Rattle.dia_wire.specs.Written.{IsSaid, IsDia};
 
 use crate::dia::Dia;
@@ -96,24 +96,13 @@ fn read_said(alloc: Global, kind: Kind, end: u64, behind: bool, octets: &[u8]) -
     pick(alloc, kind, end, octets)
 }
 
-/// The header (RFC 6733, 3), and the octets that its length counts behind it.
-#[tactic(auto, unfolding(crate::specs::Messages::header_at))]
-fn read_header<'a>(left: &mut Left<'a>) -> Result<Header<'a>, Refusal>
-    ensures { GivesOrEnds result left.new (header_at left.old) }
+/// What is behind the length of a header, and the octets that this counts.
+#[tactic(auto, unfolding(crate::specs::Messages::rest_at))]
+fn read_rest<'a>(left: &mut Left<'a>, size: u32) -> Result<Header<'a>, Refusal>
+    requires { 20 ≤ size }
+    ensures { GivesOrEnds result left.new (rest_at size left.old) }
 {
-    let version = left.octet(truncated(0))?;
-    if version != 1 {
-        return Err(Refusal {
-            reason: Reason::DiaHeader,
-            place: 0,
-        });
-    }
     let short = truncated(1);
-    let size = left.u24(short)?;
-    if size < 20 {
-        return Err(short);
-    }
-    left.room(short, (size - 4) as usize)?;
     let flags = left.octet(short)?;
     let code = left.u24(short)?;
     let Some(command) = command_of(code) else {
@@ -140,6 +129,27 @@ fn read_header<'a>(left: &mut Left<'a>) -> Result<Header<'a>, Refusal>
         end: u64::from(size),
         octets,
     })
+}
+
+/// The header (RFC 6733, 3), and the octets that its length counts behind it.
+#[tactic(auto, unfolding(crate::specs::Messages::header_at))]
+fn read_header<'a>(left: &mut Left<'a>) -> Result<Header<'a>, Refusal>
+    ensures { GivesOrEnds result left.new (header_at left.old) }
+{
+    let version = left.octet(truncated(0))?;
+    if version != 1 {
+        return Err(Refusal {
+            reason: Reason::DiaHeader,
+            place: 0,
+        });
+    }
+    let short = truncated(1);
+    let size = left.u24(short)?;
+    if size < 20 {
+        return Err(short);
+    }
+    left.room(short, (size - 4) as usize)?;
+    read_rest(left, size)
 }
 
 /// Reads a message, and stands behind it.

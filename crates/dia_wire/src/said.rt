@@ -1,6 +1,8 @@
 //! What a message says, before and after it has memory of its own.
 
 ghost use Rattle.std.specs.Prelude.{◌≡◌, IfOk};
+ghost use Rattle.dia_wire.specs.declared.dia.DiaBody.TheVariants.{Vectors};
+ghost use Rattle.dia_wire.specs.Written.{IsVector, IsBody};
 
 use crate::dia::DiaBody;
 use device_types::Octets;
@@ -65,6 +67,25 @@ fn own(alloc: Global, octets: &[u8]) -> Result<Octets, OutOfMemory>
     Ok(Octets::from(Vec::from_slice(alloc, octets)?))
 }
 
+/// Vectors in memory of their own.
+pub fn vectors(
+    alloc: Global,
+    rand: &[u8],
+    xres: &[u8],
+    autn: &[u8],
+    key: &[u8],
+) -> Result<DiaBody, OutOfMemory>
+    ensures body { IfOk result (λ body. body ≡ Vectors rand.now xres.now autn.now key.now) }
+    ensures written { IsVector rand.now xres.now autn.now key.now → IfOk result IsBody }
+{
+    Ok(DiaBody::Vectors {
+        rand: own(alloc, rand)?,
+        xres: own(alloc, xres)?,
+        autn: own(alloc, autn)?,
+        key: own(alloc, key)?,
+    })
+}
+
 impl<'a> PlainParts<'a> {
     /// The same with memory of its own.
     pub fn own(self, alloc: Global) -> Result<Said, OutOfMemory>
@@ -82,18 +103,7 @@ impl<'a> VectorsParts<'a> {
         ensures { IfOk result (λ said. said ≡ self.entry) }
     {
         let session = own(alloc, self.session)?;
-        let rand = own(alloc, self.rand)?;
-        let xres = own(alloc, self.xres)?;
-        let autn = own(alloc, self.autn)?;
-        let key = own(alloc, self.key)?;
-        Ok(Said {
-            session,
-            body: DiaBody::Vectors {
-                rand,
-                xres,
-                autn,
-                key,
-            },
-        })
+        let body = vectors(alloc, self.rand, self.xres, self.autn, self.key)?;
+        Ok(Said { session, body })
     }
 }
