@@ -102,11 +102,19 @@ impl Framing for Avps {
         read_frame(end, left)
     }
 
+    fn wrong(tag: u32) -> Reason {
+        Reason::DiaAvp(tag)
+    }
+
     fn repeated(tag: u32) -> Reason {
         Reason::RepeatedAvp(tag)
     }
 
     fn missing(tag: u32) -> Reason {
         Reason::MissingAvp(tag)
+    }
+
+    fn takes_empty() -> bool {
+        true
     }
 }

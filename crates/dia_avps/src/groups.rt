@@ -1,15 +1,15 @@
 //! AVPs whose values are groups (3GPP TS 29.272, 7.3), as the program keeps them: the rows of the tables of `specs/Groups.antt`, and
 //! nothing besides.
 
-ghost use Rattle.std.specs.Prelude.{◌≡◌, Ok, Err, true, if◌then◌else◌};
-ghost use Rattle.tlv_elements.specs.Grammar.{wrong_at, check_group, rules};
+ghost use Rattle.std.specs.Prelude.{◌≡◌, true};
+ghost use Rattle.tlv_elements.specs.Grammar.{check_group, rules};
 ghost use Rattle.dia_avps.specs.Frame.{frame_in, dia};
 ghost use Rattle.dia_avps.specs.Groups.{vector, authentication_info, ambr, subscription_data};
 
 use crate::frame::{Avps, TGPP};
 use crate::values::{sized, unsigned};
-use echo_base::{Reason, Refusal};
-use tlv_elements::{Content, Found, Row, read_whole};
+use echo_base::Refusal;
+use tlv_elements::{Content, Found, Row, check_group, check_value};
 
 /// What the value of an AVP in one of these groups is: a group.
 #[derive(Clone, Copy)]
@@ -41,19 +41,6 @@ pub fn row<T>(tag: u32, mark: u64, content: T) -> Row<T>
     }
 }
 
-/// Passes an AVP of right form.
-pub fn told(right: bool, element: &Found) -> Result<(), Refusal>
-    ensures { result ≡ (if right then Ok tt else Err (wrong_at dia element.now)) }
-{
-    if right {
-        return Ok(());
-    }
-    Err(Refusal {
-        reason: Reason::DiaAvp(element.tag),
-        place: element.place,
-    })
-}
-
 impl Content for Member {
     ghost use Rattle.dia_avps.specs.Groups.{member_check};
 
@@ -62,11 +49,11 @@ impl Content for Member {
     fn check(self, element: &Found) -> Result<(), Refusal> {
         let value = element.value;
         match self {
-            Member::Sized(least, most) => told(
+            Member::Sized(least, most) => check_value::<Avps>(
                 sized(value, usize::from(least), usize::from(most)).is_some(),
                 element,
             ),
-            Member::Unsigned => told(unsigned(value).is_some(), element),
+            Member::Unsigned => check_value::<Avps>(unsigned(value).is_some(), element),
         }
     }
 }
@@ -76,12 +63,12 @@ impl Content for Member {
 fn check_vector(element: &Found) -> Result<(), Refusal>
     ensures { result ≡ check_group dia (rules frame_in dia vector) element.now }
 {
-    read_whole::<Avps, Member>(&[
+    check_group::<Avps, Member>(&[
         row(1447, TGPP, Member::Sized(16, 16)),
         row(1448, TGPP, Member::Sized(4, 16)),
         row(1449, TGPP, Member::Sized(16, 16)),
         row(1450, TGPP, Member::Sized(32, 32)),
-    ], element.stop, false, element.value)
+    ], element)
 }
 
 /// Is an AMBR (7.3.41) right?
@@ -89,10 +76,10 @@ fn check_vector(element: &Found) -> Result<(), Refusal>
 fn check_ambr(element: &Found) -> Result<(), Refusal>
     ensures { result ≡ check_group dia (rules frame_in dia ambr) element.now }
 {
-    read_whole::<Avps, Member>(&[
+    check_group::<Avps, Member>(&[
         row(516, TGPP, Member::Unsigned),
         row(515, TGPP, Member::Unsigned),
-    ], element.stop, false, element.value)
+    ], element)
 }
 
 impl Content for Part {
@@ -113,9 +100,9 @@ impl Content for Part {
 pub fn check_authentication_info(element: &Found) -> Result<(), Refusal>
     ensures { result ≡ check_group dia (rules frame_in dia authentication_info) element.now }
 {
-    read_whole::<Avps, Part>(&[
+    check_group::<Avps, Part>(&[
         row(1414, TGPP, Part::Vector),
-    ], element.stop, false, element.value)
+    ], element)
 }
 
 /// Is a Subscription-Data (7.3.2) right?
@@ -123,7 +110,7 @@ pub fn check_authentication_info(element: &Found) -> Result<(), Refusal>
 pub fn check_subscription_data(element: &Found) -> Result<(), Refusal>
     ensures { result ≡ check_group dia (rules frame_in dia subscription_data) element.now }
 {
-    read_whole::<Avps, Part>(&[
+    check_group::<Avps, Part>(&[
         row(1435, TGPP, Part::Ambr),
-    ], element.stop, false, element.value)
+    ], element)
 }

@@ -12,6 +12,6 @@ mod values;
 pub use avps::{put, put_head, put_imsi, put_plmn, put_unsigned};
 pub use finding::{first_result, found, found_unsigned, succeeded};
 pub use frame::{Avps, TGPP};
-pub use groups::{check_authentication_info, check_subscription_data, row, told};
+pub use groups::{check_authentication_info, check_subscription_data, row};
 pub use header::put_header;
 pub use values::{imsi, plmn, plmn_of, session, sized, unsigned};
