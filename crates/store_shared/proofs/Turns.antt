@@ -4,7 +4,7 @@ use Rattle.std.specs.Prelude.{slice_get, All, Result, IfOk}
 use Rattle.std.specs.List.{range_with_len}
 use Rattle.std.specs.Option.{option_map_or}
 use Rattle.std.proofs.lemmas.List.{map-append}
-use Rattle.std.proofs.lemmas.List.Elements.{All-push}
+use Rattle.std.proofs.lemmas.List.Elements.{All-nil, All-push}
 use Rattle.std.proofs.lemmas.List.FromFn.{map-range_with_len_more}
 use mathlib.Core.List.{IsPrefix}
 use Rattle.device_types.specs.declared.effect.Effect.{Effect}
@@ -163,6 +163,14 @@ shards_on turns basis at made made' n more are = bases_more basis at made made' 
 
 pub empty_on : {T X B : Type 0} (turns : T → List X) (basis : T → B) (b : B) (made made' : List T) → IsValueMore turns basis b made made' → All (λ t. turns t ≡ []) made → All (λ t. turns t ≡ []) made'
 empty_on turns basis b made made' more are = subst (All (λ t. turns t ≡ [])) (sym more.items) (All-push (λ t. turns t ≡ []) made more.value are more.empty)
+
+-- as many as there are
+pub all_made : {S B : Type 0} (basis : S → B) (at : ℕ → B) (made : List S) (n count : ℕ) → n ≤ count → count ≤ n → map basis made ≡ map at (range_with_len 0 n) → map basis made ≡ map at (range_with_len 0 count)
+all_made basis at made n count most least are = let e : n ≡ count = omega (arith, most, least) in subst (λ (m : ℕ). map basis made ≡ map at (range_with_len 0 m)) e are
+
+-- where there is none yet
+pub none_held : {T X : Type 0} (turns : T → List X) (made : List T) → made ≡ [] → All (λ t. turns t ≡ []) made
+none_held turns made none = subst (All (λ t. turns t ≡ [])) (sym none) (All-nil (λ t. turns t ≡ []))
 
 -- the closed values have the bases of their fronts
 pub closed_bases : {F S Y B : Type 0} (P : F → S → Y → Type 0) (of : F → B) (basis : Y → B) → ((f : F) (s : S) (y : Y) → P f s y → basis y ≡ of f) → (fs : List F) (ss : List S) (ys : List Y) → Along P fs ss ys → map basis ys ≡ map of fs

@@ -33,7 +33,7 @@ pub struct SharedPeers {
 pub type PeerSeat = FrontsSeat<PeerShard>;
 
 /// The job is let go.
-fn no_memory(_room: NoRoom<OfferJob>) -> AllocError {
+fn no_memory<J: Drop>(_room: NoRoom<J>) -> AllocError {
     AllocError
 }
 
