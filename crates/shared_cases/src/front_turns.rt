@@ -1,5 +1,5 @@
 //! Turns of seats at one front, in one thread and in several. What finds no memory is not told, and the text is another one.
-ghost use Rattle.std.specs.Prelude.{◌≡◌, ◌<◌, ◌≤◌, All, IfOk, IsTrue, length};
+ghost use Rattle.std.specs.Prelude.{◌≡◌, ◌<◌, ◌≤◌, All, IfOk, IfSome, IsTrue, length};
 ghost use Rattle.front_lock.specs.Front.{IsSeatOf, basis_of, seats_of, view};
 
 use device_types::NoRoom;
@@ -117,35 +117,38 @@ fn tell_turns<R: Wait>(
     tell_added(rt, front, first, Add { amount: 9, room: 1 }, told);
 }
 
-/// Lets the two seats of a front take their turns.
-fn take_turns<R: Wait>(
+/// Lets the two seats of a front take their turns, and gives them back. `None` where memory ran out.
+fn seats_after<R: Wait>(
     rt: &R,
+    alloc: Global,
     front: &Front<Tally>,
-    seats: &mut [FrontSeat<Tally>],
+    mut seats: Vec<FrontSeat<Tally>>,
     told: &mut String,
-)
+) -> Option<Vec<FrontSeat<Tally>>>
     requires most { basis_of (λ t. t.most) front.now ≡ 9 }
-    requires seats { All (λ s. IsSeatOf (λ t. t.most) front.now s) seats.old }
-    ensures { All (λ s. IsSeatOf (λ t. t.most) front.now s) seats.new }
+    requires seats { All (λ s. IsSeatOf (λ t. t.most) front.now s) seats.items }
+    ensures { IfSome result (λ left. All (λ s. IsSeatOf (λ t. t.most) front.now s) left.items) }
 {
-    if let [first, second] = seats {
-        tell_turns(rt, front, first, second, told);
-    }
+    let mut second = seats.pop()?;
+    let mut first = seats.pop()?;
+    tell_turns(rt, front, &mut first, &mut second, told);
+    Vec::from_array(alloc, [first, second]).ok()
 }
 
-/// The value of a front of two seats behind their turns. `None` where a seat is missing.
+/// The value of a front of two seats behind their turns. `None` where memory ran out.
 fn tally_behind<R: Wait>(
     rt: &R,
+    alloc: Global,
     front: Front<Tally>,
-    mut seats: Vec<FrontSeat<Tally>>,
+    seats: Vec<FrontSeat<Tally>>,
     told: &mut String,
 ) -> Option<Tally>
     requires most { basis_of (λ t. t.most) front ≡ 9 }
     requires count { seats_of front ≡ 2 }
     requires seats { All (λ s. IsSeatOf (λ t. t.most) front s) seats.items }
 {
-    take_turns(rt, &front, &mut seats, told);
-    close_all(front, seats, 2)
+    let left = seats_after(rt, alloc, &front, seats, told)?;
+    close_all(front, left, 2)
 }
 
 /// Tells the numbers that were added, and by whom.
@@ -158,7 +161,7 @@ fn tell_additions(additions: &[Addition], told: &mut String) {
 /// Lets two seats take their turns, and tells them and the history that is closed.
 fn tell_history<R: Wait>(rt: &R, alloc: Global, told: &mut String) -> Result<(), AllocError> {
     let (front, seats) = Front::new(alloc, Tally::new(alloc, 9), 2)?;
-    if let Some(tally) = tally_behind(rt, front, seats, told) {
+    if let Some(tally) = tally_behind(rt, alloc, front, seats, told) {
         tell_additions(&tally.additions, told);
     }
     Ok(())
