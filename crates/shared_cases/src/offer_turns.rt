@@ -246,8 +246,12 @@ fn both(peers: &SharedPeers, mut seats: Vec<PeerSeat>) -> Option<(PeerSeat, Peer
     ensures first { IfSome result (λ both. AreSeatsOf peer_basis peers.now.fronts.fronts.items both.0.seats.items) }
     ensures second { IfSome result (λ both. AreSeatsOf peer_basis peers.now.fronts.fronts.items both.1.seats.items) }
 {
-    let second = seats.pop()?;
-    let first = seats.pop()?;
+    let Some(second) = seats.pop() else {
+        return None;
+    };
+    let Some(first) = seats.pop() else {
+        return None;
+    };
     Some((first, second))
 }
 

@@ -1,0 +1,14 @@
+use Rattle.std.proofs.Common.{Some}
+use Rattle.std.proofs.lemmas.List.Elements.{All-pop}
+use Rattle.shard_parts.specs.declared.front_row.FrontsSeat.{FrontsSeat}
+use Rattle.shard_parts.specs.FrontRow.{AreSeatsOf}
+use Rattle.store_shared.specs.StoreBases.{store_basis}
+use Rattle.shared_cases.proofs.store_turns.both.Goals as goal
+
+pub returns-clause-second : goal.returns-clause-second
+returns-clause-second c = (All-pop (λ (s : FrontsSeat _ _ _ _). AreSeatsOf store_basis c.args.store.now.fronts.fronts.items s.seats.items) c.args.seats.items c.pop.new.self.items (Some c.in-Some.second) c.in-Some.ensures.items c.requires).1
+
+pub returns-clause-first : goal.returns-clause-first
+returns-clause-first c =
+    let others = (All-pop (λ (s : FrontsSeat _ _ _ _). AreSeatsOf store_basis c.args.store.now.fronts.fronts.items s.seats.items) c.args.seats.items c.pop.new.self.items (Some c.in-Some.second) c.in-Some.ensures.items c.requires).0 in
+    (All-pop (λ (s : FrontsSeat _ _ _ _). AreSeatsOf store_basis c.args.store.now.fronts.fronts.items s.seats.items) c.pop.new.self.items c.pop-2.new.self.items (Some c.in-Some-pop.first) c.in-Some-pop.ensures.items others).1
