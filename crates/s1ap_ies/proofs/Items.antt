@@ -1,14 +1,12 @@
 -- The items of lists in their ranges, as their types and as their callers say it.
-use Rattle.std.proofs.Common.{ℕ, ◌*◌, ◌≤◌, List, [], ◌∷◌, length, Option, Some, None, IfSome, arith}
+use Rattle.std.proofs.Common.{ℕ, ◌≤◌, List, [], ◌∷◌, length, Option, Some, None, IfSome, arith}
 use Rattle.s1ap_ies.specs.declared.erab_to_setup.ErabToSetup.{ErabToSetup}
 use Rattle.s1ap_ies.specs.declared.erab_done.ErabDone.{ErabDone}
 use Rattle.std.specs.List.{AllByRecursion}
-use Rattle.aper_fields.specs.Asn1.{AsnType, Fits, CanBeWritten, run}
-use Rattle.s1ap_ies.specs.Types.{IsItemSound}
+use Rattle.aper_fields.specs.Asn1.{Fits}
 use Rattle.s1ap_ies.specs.Values.{erab_done, erab_to_setup, erabs_done, erabs_to_setup}
 use Rattle.s1ap_ies.specs.Run.{IsNas, IsErabDone, IsErabToSetup}
 use Rattle.aper_fields.proofs.Types.{each_of}
-use Rattle.aper_fields.proofs.Sizes.{takes}
 
 -- ---- one item
 
@@ -61,9 +59,3 @@ setups_fit S xs right strings = (right.0, right.1, each_setup_fits S xs right.2 
 
 pub setups_right : (S : List ℕ → Type 0) (xs : List ErabToSetup) → Fits S erabs_to_setup xs → AreMany IsErabToSetup xs
 setups_right S xs fits = (fits.0, fits.1, each_of (λ a. Fits S erab_to_setup a) IsErabToSetup (setup_right S) xs fits.2)
-
--- ---- items that are written
-
--- an item that can be written fits into an open type of its own
-pub item_short : {A : Type 0} (s : AsnType A) → IsItemSound s → (v : A) → CanBeWritten s v → length (run s v 0) ≤ 8 * 16383
-item_short s sound v right = omega (arith, takes (λ octets. Unit {0}) s sound.2 v right 0, sound.1)

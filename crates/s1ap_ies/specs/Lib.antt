@@ -1,4 +1,3 @@
-pub mod Criticalities
 pub mod Types
 pub mod Values
 pub mod Run

@@ -1,6 +1,6 @@
 -- What is asked of a type of ASN.1, beside what aper_fields says of it.
-use Rattle.std.specs.Prelude.{◌≡◌, ◌*◌, ◌≤◌, Bool, true, false}
-use Rattle.aper_fields.specs.Asn1.{AsnType, octet_string, fixed_octets, sequence_of, variant, named, most_bits, takes_some, IsSound}
+use Rattle.std.specs.Prelude.{Bool, true, false}
+use Rattle.aper_fields.specs.Asn1.{AsnType, octet_string, fixed_octets, sequence_of, variant, named}
 
 -- whether its values take memory where they are read: strings and lists
 abbrev pub takes_memory : {A : Type 0} → AsnType A → Bool
@@ -10,7 +10,3 @@ takes_memory (sequence_of low high sizes p) = true
 takes_memory (variant kind p) = takes_memory p
 takes_memory (named same p) = takes_memory p
 takes_memory p = false
-
--- An open type of its own has room for any value, and contains at least a bit.
-abbrev pub IsItemSound : {A : Type 0} → AsnType A → Type 0
-IsItemSound p = (takes_some p ≡ true) × (most_bits p ≤ 8 * 16383) × IsSound p

@@ -4,13 +4,13 @@ use Rattle.std.proofs.lemmas.Bool.{leb-true}
 use Rattle.echo_base.specs.declared.reason.Reason.TheVariants as reasons
 use Rattle.device_types.specs.Cause.{cause_roots}
 use Rattle.aper_fields.specs.declared.enumerated.EnumValue.{EnumValue}
-use Rattle.aper_fields.specs.Asn1.{Same, AsnType, Fields, bit_string, integer, only, octet_string, enumerated, choice_index, one_bit, extensible, on, choice, sequence, needed, optional, absent, also, named, container, sequence_of, is_head, IsSound}
+use Rattle.aper_fields.specs.Asn1.{Same, AsnType, Fields, bit_string, integer, only, octet_string, enumerated, choice_index, one_bit, extensible, on, choice, sequence, needed, optional, absent, also, named, IsSound}
 use Rattle.aper_types.specs.declared.choice.Either.{Either}
 use Rattle.aper_types.specs.declared.choice.Either.TheVariants.{First, Second}
 use Rattle.aper_types.specs.Choices.{either_same}
 use Rattle.aper_types.specs.Made.{IsMadeOf, made_of}
-use Rattle.s1ap_ies.specs.Types.{IsItemSound}
-use Rattle.s1ap_ies.specs.Criticalities.{reject, ignore}
+use Rattle.protocol_ies.specs.Criticalities.{reject, ignore}
+use Rattle.protocol_ies.specs.Lists.{list_of, IsItemSound}
 use Rattle.s1ap_ies.specs.declared.names.TheConstants as names
 use Rattle.s1ap_ies.specs.declared.tai.Tai.{Tai}
 use Rattle.s1ap_ies.specs.declared.cgi.Cgi.{Cgi}
@@ -116,10 +116,6 @@ ue_ids_same = record { make = ids_of; parts = parts_of; back = ids_back; again =
 abbrev pub ue_ids : AsnType UeIds
 ue_ids = named ue_ids_same (named either_same
     (choice (sequence (also (needed (integer 0 names.MOST_MME_UE_S1AP_ID refl)) (needed (integer 0 names.MOST_ENB_UE_S1AP_ID refl)))) (integer 0 names.MOST_MME_UE_S1AP_ID refl)))
-
--- ---- lists (9.1): of 1 to 256 items, each in an open type of its own with an id and a criticality
-abbrev pub list_of : {A : Type 0} (id criticality : ℕ) → is_head id criticality ≡ true → AsnType A → AsnType (List A)
-list_of id criticality head item = sequence_of 1 256 refl (container id criticality head item)
 
 -- E-RAB ID (9.2.1.2): INTEGER (0..15, ...)
 abbrev pub erab_id : AsnType ℕ

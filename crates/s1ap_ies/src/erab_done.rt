@@ -3,10 +3,10 @@
 ghost use Rattle.std.specs.Prelude.{◌≡◌, ◌≤◌, ◌<◌, OnOk};
 
 use crate::bearer::{Address, ErabId};
-use crate::list::Item;
 use aper_fields::{BitReader, BitWriter};
 use aper_types::{BitString, Named, Needed, PlainValue, Sequence};
 use echo_base::{Bad, OutOfMemory, Refusal};
+use protocol_ies::Item;
 use std::alloc::Global;
 
 /// An E-RAB that was set up: the E-RAB Setup Item of a response (TS 36.413, 9.1.4.3).

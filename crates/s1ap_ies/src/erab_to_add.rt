@@ -7,7 +7,6 @@ ghost use Rattle.s1ap_ies.specs.Values.{erab_to_add};
 ghost use Rattle.s1ap_ies.specs.Lent.{added_of};
 
 use crate::bearer::{Bearer, Qos};
-use crate::list::Item;
 use crate::names::MOST_OCTETS_OF_NAS;
 use aper_fields::{
     BitReader, BitWriter, read_octet_string, read_present, read_zero_bit, skip_extensions,
@@ -16,6 +15,7 @@ use aper_fields::{
 use aper_types::OwnedValue;
 use device_types::Octets;
 use echo_base::{Bad, OutOfMemory, Reason, Refusal};
+use protocol_ies::Item;
 use std::alloc::Global;
 
 /// An E-RAB that is added to a context: the item of a request (TS 36.413, 9.1.3.1).

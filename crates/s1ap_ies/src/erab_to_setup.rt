@@ -9,7 +9,6 @@ ghost use Rattle.s1ap_ies.specs.Values.{erab_to_setup, nas_pdu};
 ghost use Rattle.s1ap_ies.specs.Lent.{item_of};
 
 use crate::bearer::{Bearer, Qos};
-use crate::list::Item;
 use crate::names::MOST_OCTETS_OF_NAS;
 use aper_fields::{
     BitReader, BitWriter, read_octet_string, read_present, read_zero_bit, skip_extensions,
@@ -18,6 +17,7 @@ use aper_fields::{
 use aper_types::OwnedValue;
 use device_types::Octets;
 use echo_base::{Bad, OutOfMemory, Reason, Refusal};
+use protocol_ies::Item;
 use std::alloc::{AllocError, Global};
 
 /// An E-RAB that is to be set up: the item of a request (TS 36.413, 9.1.4.1).

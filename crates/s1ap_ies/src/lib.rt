@@ -5,12 +5,9 @@ mod bearer;
 mod bit_rates;
 mod cause;
 mod cgi;
-mod criticality;
 mod erab_done;
 mod erab_to_add;
 mod erab_to_setup;
-mod item;
-mod list;
 pub mod names;
 mod paging;
 mod sec_caps;
@@ -22,13 +19,13 @@ pub use aper_types::{OwnedValue, PlainValue, spelled_is_right, written_is_spelle
 pub use bit_rates::BitRates;
 pub use cause::{Cause, cause_roots};
 pub use cgi::Cgi;
-pub use criticality::Criticality;
 pub use erab_done::ErabDone;
 pub use erab_to_add::ErabToAdd;
 pub use erab_to_setup::ErabToSetup;
-pub use item::{begin_item, read_item};
-pub use list::{FoundList, Item, find_list, write_list};
 pub use paging::{read_paging_id, write_paging_id};
+pub use protocol_ies::{
+    Criticality, FoundList, Item, begin_item, find_list, read_item, write_list,
+};
 pub use sec_caps::SecCaps;
 pub use stmsi::Stmsi;
 pub use tai::Tai;

@@ -114,9 +114,6 @@ pub const MOST_ENB_UE_S1AP_ID: u64 = 16_777_215;
 /// The greatest bit rate (9.2.1.19), in bit/s.
 pub const MOST_BIT_RATE: u64 = 10_000_000_000;
 
-/// How many items a list has at most: maxnoofE-RABs.
-pub const MOST_ITEMS: u64 = 256;
-
 /// The E-RAB ID (9.2.1.2) of a device's default bearer: the least EPS bearer identity that a network gives (3GPP TS 24.007,
 /// 11.2.3.1.5).
 pub const DEFAULT_ERAB: u8 = 5;

@@ -6,12 +6,12 @@ ghost use Rattle.aper_fields.specs.Run.{then_written};
 ghost use Rattle.aper_fields.specs.Asn1.{AsnType, reading, run, CanBeWritten};
 ghost use Rattle.s1ap_ies.specs.Values.{paging_id};
 
-use crate::list::Item;
 use crate::stmsi::Stmsi;
 use crate::tai::Tai;
 use aper_fields::{BitReader, BitWriter, Ranged, read_zero_bit, write_bits_fixed};
 use aper_types::{Coding, Made, Needed, Sequence};
 use echo_base::{Bad, OutOfMemory, Reason, Refusal};
+use protocol_ies::Item;
 use std::alloc::Global;
 
 /// Reads a UE Paging Identity (TS 36.413, 9.2.3.13), which has to be an S-TMSI.

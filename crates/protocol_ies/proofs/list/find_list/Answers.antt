@@ -2,7 +2,7 @@
 use Rattle.std.proofs.Common.{rules}
 use Rattle.aper_fields.specs.Asn1.{reading}
 use Rattle.aper_fields.proofs.Skipped.{passed_over, refused_gives}
-use Rattle.s1ap_ies.proofs.list.find_list.Goals as goal
+use Rattle.protocol_ies.proofs.list.find_list.Goals as goal
 
 pub returns-in_err-skip_list : goal.returns-in_err-skip_list
 returns-in_err-skip_list g c = refused_gives 1 256 c.args.id (reading g.T.Item.asn1) c.args.r.now c.skip_list.new.r c.from_residual.result (search rules)

@@ -2,9 +2,9 @@
 use Rattle.std.proofs.Common.{◌≡◌, length}
 use Rattle.std.specs.List.{AllByRecursion}
 use Rattle.aper_fields.specs.Run.{then_written}
-use Rattle.s1ap_ies.specs.Criticalities.{criticality_number}
+use Rattle.protocol_ies.specs.Criticalities.{criticality_number}
 use Rattle.aper_fields.specs.Asn1.{run, each_run, item_run, CanBeWritten}
-use Rattle.s1ap_ies.proofs.list.write_items.Given as goal
+use Rattle.protocol_ies.proofs.list.write_items.Given as goal
 
 abbrev pub invariant-loop-left : goal.invariant-loop-left
 invariant-loop-left g l = record {

@@ -1,11 +1,11 @@
 -- An item that is written behind the start of its item, and counted then, gives that item whole; it is short enough to be counted.
 use Rattle.std.proofs.lemmas.Result.{on_ok_weaker}
-use Rattle.s1ap_ies.specs.Criticalities.{criticality_number}
+use Rattle.protocol_ies.specs.Criticalities.{criticality_number}
 use Rattle.aper_fields.specs.Asn1.{run}
 use Rattle.aper_fields.proofs.Types.{periodic}
-use Rattle.s1ap_ies.proofs.Items.{item_short}
+use Rattle.protocol_ies.proofs.Items.{item_short}
 use Rattle.aper_fields.proofs.InPlace.{content_short, item_in_place}
-use Rattle.s1ap_ies.proofs.list.write_one.Goals as goal
+use Rattle.protocol_ies.proofs.list.write_one.Goals as goal
 
 pub end_open-requires-clause-few : goal.end_open-requires-clause-few
 end_open-requires-clause-few g c =

@@ -4,21 +4,22 @@ ghost use Rattle.std.specs.Prelude.{◌≡◌, ◌≤◌, [], true, IfOk, OnOk, 
 ghost use Rattle.std.specs.List.{AllByRecursion};
 ghost use Rattle.echo_base.specs.Reading.{Gives, GivesIn};
 ghost use Rattle.aper_fields.specs.Run.{then_written};
-ghost use Rattle.s1ap_ies.specs.Criticalities.{criticality_number};
-ghost use Rattle.s1ap_ies.specs.Types.{IsItemSound};
-ghost use Rattle.s1ap_ies.specs.Values.{list_of};
+ghost use Rattle.protocol_ies.specs.Criticalities.{criticality_number};
+ghost use Rattle.protocol_ies.specs.Lists.{list_of, IsItemSound};
 ghost use Rattle.aper_fields.specs.Asn1.{AsnType, reading, run, contained_item_at, list_at, list_skipped_at, each_run, item_run, is_head, CanBeWritten};
 ghost use Rattle.aper_fields.specs.Many.{many_at};
 ghost use Rattle.aper_fields.specs.SequenceReading.{skipping, skipped_at};
 
 use crate::criticality::Criticality;
 use crate::item::{begin_item, read_item};
-use crate::names::MOST_ITEMS;
 use aper_fields::{BitReader, BitWriter, Ranged, close, end_open};
 use device_types::ListOf;
 use echo_base::{Bad, OutOfMemory, Refusal};
 use std::alloc::Global;
 use std::marker::{Model, PhantomData};
+
+/// How many items a list has at most: maxnoofE-RABs and maxnoofTAIs (TS 36.413, 9.3.6).
+pub const MOST_ITEMS: u64 = 256;
 
 /// What stands in a list, each in an open type of its own (TS 36.413, 9.1): a value, in a trait of which items alone are.
 pub trait Item: Drop {

@@ -1,7 +1,7 @@
 //! Criticalities (3GPP TS 36.413, 9.3.5).
 
 ghost use Rattle.std.specs.Prelude.{◌≡◌, ◌≤◌};
-ghost use Rattle.s1ap_ies.specs.Criticalities.{criticality_number};
+ghost use Rattle.protocol_ies.specs.Criticalities.{criticality_number};
 
 /// What a receiver is to do with what it does not understand (3GPP TS 36.413, 10.3).
 #[derive(Clone, Copy)]

@@ -8,7 +8,7 @@ ghost use Rattle.aper_fields.specs.SequenceReading.{item_at};
 ghost use Rattle.aper_fields.specs.Sequence.{item_in};
 ghost use Rattle.aper_fields.specs.Kept.{Keeps};
 ghost use Rattle.aper_fields.specs.Asn1.{item_start};
-ghost use Rattle.s1ap_ies.specs.Criticalities.{criticality_number};
+ghost use Rattle.protocol_ies.specs.Criticalities.{criticality_number};
 
 use crate::criticality::Criticality;
 use aper_fields::{

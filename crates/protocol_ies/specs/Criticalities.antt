@@ -1,7 +1,7 @@
 -- Criticalities by number (TS 36.413, 9.3.5).
 use Rattle.std.specs.Prelude.{ℕ}
-use Rattle.s1ap_ies.specs.declared.criticality.Criticality.{Criticality}
-use Rattle.s1ap_ies.specs.declared.criticality.Criticality.TheVariants.{Reject, Ignore, Notify}
+use Rattle.protocol_ies.specs.declared.criticality.Criticality.{Criticality}
+use Rattle.protocol_ies.specs.declared.criticality.Criticality.TheVariants.{Reject, Ignore, Notify}
 
 abbrev pub reject : ℕ
 reject = 0

@@ -1,0 +1,2 @@
+pub mod Criticalities
+pub mod Lists
