@@ -3,5 +3,4 @@ pub mod UsualNumbers
 pub mod UsualValues
 pub mod UsualErabs
 pub mod UsualForm
-pub mod UsualRead
 pub mod UsualWrite

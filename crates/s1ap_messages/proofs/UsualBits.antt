@@ -8,7 +8,7 @@ use Rattle.aper_fields.specs.Run.{Run, ◌▸◌, length_run, length_octets, ope
 use Rattle.aper_fields.proofs.BitLaws.{bits-add, bits-low, bits-zero, length-bits_of, bits_of-append}
 use Rattle.aper_fields.proofs.Periodic.{IsPeriodic}
 use Rattle.aper_fields.specs.Asn1.{item_run}
-use Rattle.s1ap_messages.specs.Usual.{count_octets, counted, four_octets, ie_octets}
+use Rattle.aper_octets.specs.Octets.{count_octets, counted, four_octets, ie_octets}
 use Rattle.aper_fields.proofs.Types.{item_periodic}
 
 -- ---- octets

@@ -12,7 +12,8 @@ use Rattle.s1ap_ies.specs.declared.erab_to_setup.ErabToSetup.{ErabToSetup}
 use Rattle.s1ap_ies.specs.Run.{IsErabDone, IsErabToSetup, IsNas}
 use Rattle.aper_fields.specs.Asn1.{run, flags_run, fields_run, part_run, present_run, each_run, list_run, item_run}
 use Rattle.s1ap_ies.specs.Values as types
-use Rattle.s1ap_messages.specs.Usual.{count_octets, counted, four_octets, done_octets, nas_octets, setup_octets, ie_octets, items_octets, erabs_octets}
+use Rattle.aper_octets.specs.Octets.{count_octets, counted, four_octets, ie_octets}
+use Rattle.s1ap_messages.specs.Usual.{done_octets, nas_octets, setup_octets, items_octets, erabs_octets}
 use Rattle.s1ap_messages.proofs.UsualBits.{AreOctets, octets_then, octets_at_start, four_is, join, framed, Contains, contains_octets, item_is}
 use Rattle.s1ap_messages.proofs.UsualValues.{count_few, text_is}
 

@@ -24,7 +24,8 @@ use Rattle.s1ap_pdu.specs.Messages.{outcome_index, header_of, kinds, kind_of, va
 use Rattle.s1ap_pdu.specs.Grammar.{Spells, kind_among, kind_with}
 use Rattle.s1ap_pdu.specs.Built.{message_at}
 use Rattle.s1ap_pdu.specs.Run.{value_run, ie_run, fields_run, ies_run, header_run, pdu_run, written, count_of, IsShort, IsRightValue, IsRightField, IsRight, HasOctetsIn, HasOctets}
-use Rattle.s1ap_messages.specs.Usual.{counted, ie_octets, octets_of, value_octets, Given, HasForm, IsUsualValue, fields_octets, body_octets, message_octets, usual_octets, unfinished_octets, HasForms, IsPut, HasUsualValues, IsUsual, AreFieldsOf, AreSmallIds, BeginsAs}
+use Rattle.aper_octets.specs.Octets.{counted, ie_octets}
+use Rattle.s1ap_messages.specs.Usual.{octets_of, value_octets, Given, HasForm, IsUsualValue, fields_octets, body_octets, message_octets, usual_octets, unfinished_octets, HasForms, IsPut, HasUsualValues, IsUsual, AreFieldsOf, AreSmallIds, BeginsAs}
 use Rattle.s1ap_pdu.specs.Values.{FieldValue}
 use Rattle.s1ap_pdu.proofs.Distinct.{few_rows}
 use Rattle.s1ap_pdu.proofs.Writes.{values-length}

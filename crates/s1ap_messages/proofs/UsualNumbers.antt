@@ -14,7 +14,8 @@ use Rattle.s1ap_ies.specs.declared.ue_ids.UeIds.TheVariants.{Pair, Mme}
 use Rattle.s1ap_ies.specs.Run.{IsBitRates, IsUeIds}
 use Rattle.aper_fields.specs.Asn1.{index_run, run, flags_run, fields_run}
 use Rattle.s1ap_ies.specs.Values as types
-use Rattle.s1ap_messages.specs.Usual.{least_octets, number_octets, rates_octets, ids_octets}
+use Rattle.aper_octets.specs.Octets.{least_octets, number_octets}
+use Rattle.s1ap_messages.specs.Usual.{rates_octets, ids_octets}
 use Rattle.s1ap_messages.proofs.UsualBits.{octets_then, octets_at_start, octet, two, three, four, five, framed, Contains, contains_octets}
 
 -- ---- the least octets of a number

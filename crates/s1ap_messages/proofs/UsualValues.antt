@@ -15,7 +15,9 @@ use Rattle.s1ap_ies.specs.declared.cause.Cause.{Cause}
 use Rattle.s1ap_ies.specs.Run.{IsStmsi, IsSecCaps, IsCause}
 use Rattle.aper_fields.specs.Asn1.{run, flags_run, fields_run}
 use Rattle.s1ap_ies.specs.Values as types
-use Rattle.s1ap_messages.specs.Usual.{count_octets, counted, tai_octets, cgi_octets, stmsi_octets, caps_octets, rrc_octets, cause_octets}
+use Rattle.aper_octets.specs.Octets.{count_octets, counted}
+use Rattle.aper_octets.specs.Values.{tai_octets, cgi_octets, stmsi_octets, caps_octets, cause_octets}
+use Rattle.s1ap_messages.specs.Usual.{rrc_octets}
 use Rattle.s1ap_messages.proofs.UsualBits.{octet, two, three, four, five, four_is, join, shifted, framed, counted_is, Contains, contains_octets}
 
 -- ---- strings

@@ -1,41 +1,16 @@
 -- Octets that are put one behind another, as those of a message.
-use Rattle.std.proofs.Common.{◌≡◌, ℕ, ◌+◌, ◌-◌, ◌*◌, ◌/◌, ◌%◌, ◌<◌, ◌≤◌, List, [], ◌∷◌, ◌++◌, length, take, drop, slice_set, insert, refl, sym, ap, ◌∙◌, append_assoc, arith}
-use Rattle.std.proofs.lemmas.Bool.{lt-ltb, le-ltb}
+use Rattle.std.proofs.Common.{◌≡◌, ℕ, ◌+◌, ◌*◌, List, [], ◌∷◌, ◌++◌, length, sym, ap, ◌∙◌, append_assoc, arith}
 use Rattle.std.proofs.lemmas.List.{append-nil, length-append}
 use Rattle.s1ap_ies.specs.declared.erab_to_setup.ErabToSetup.{ErabToSetup}
-use Rattle.s1ap_messages.specs.Usual.{count_octets, counted, four_octets, least_octets, number_octets, nas_octets, setup_octets, ie_octets, items_octets, erabs_octets}
-
-pub counted_length : (octets : List ℕ) → length (counted octets) ≡ length (count_octets (length octets)) + length octets
-unfolding counted
-counted_length octets = length-append (count_octets (length octets)) octets
+use Rattle.aper_octets.specs.Octets.{count_octets, counted, four_octets, least_octets, number_octets, ie_octets}
+use Rattle.s1ap_messages.specs.Usual.{nas_octets, setup_octets, items_octets, erabs_octets}
+use Rattle.aper_octets.proofs.Lengths.{counted_length}
 
 -- a content behind the head of an IE
 pub ie_put : (front head all content : List ℕ) (id criticality len : ℕ) → head ≡ front ++ 0 ∷ id ∷ 64 * criticality ∷ count_octets len → all ≡ head ++ content → len ≡ length content → all ≡ front ++ ie_octets id criticality content
 unfolding ie_octets counted
 ie_put front head all content id criticality len h a l =
     a ∙ rw (h, l) (append_assoc front (0 ∷ id ∷ 64 * criticality ∷ count_octets (length content)) content)
-
--- a length of one octet
-pub short_body : (out : List ℕ) (n : ℕ) → 4 ≤ length out → n ≡ length out - 4 → n < 128 → slice_set out 3 n ≡ take 3 out ++ counted (drop 4 out)
-unfolding counted count_octets
-short_body (a ∷ b ∷ c ∷ d ∷ rest) n some e short =
-    let l : length rest ≡ n = omega (arith, e) in
-    rw (l, lt-ltb n 128 short) refl
-short_body [] n some e short = absurd (omega arith)
-short_body (a ∷ []) n some e short = absurd (omega arith)
-short_body (a ∷ b ∷ []) n some e short = absurd (omega arith)
-short_body (a ∷ b ∷ c ∷ []) n some e short = absurd (omega arith)
-
--- a length of two octets
-pub long_body : (out : List ℕ) (n : ℕ) → 4 ≤ length out → n ≡ length out - 4 → 128 ≤ n → insert (slice_set out 3 (128 + n / 256)) 4 (n % 256) ≡ take 3 out ++ counted (drop 4 out)
-unfolding counted count_octets
-long_body (a ∷ b ∷ c ∷ d ∷ rest) n some e long =
-    let l : length rest ≡ n = omega (arith, e) in
-    rw (l, le-ltb n 128 long) refl
-long_body [] n some e long = absurd (omega arith)
-long_body (a ∷ []) n some e long = absurd (omega arith)
-long_body (a ∷ b ∷ []) n some e long = absurd (omega arith)
-long_body (a ∷ b ∷ c ∷ []) n some e long = absurd (omega arith)
 
 pub number_length : (before unit n : ℕ) → length (number_octets before unit n) ≡ length (least_octets n) + 1
 unfolding number_octets

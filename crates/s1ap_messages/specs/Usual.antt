@@ -1,5 +1,5 @@
 -- The octets of a message as it is written, octet by octet.
-use Rattle.std.specs.Prelude.{◌≡◌, ℕ, ◌+◌, ◌-◌, ◌*◌, ◌/◌, ◌%◌, ◌<◌, ◌≤◌, ◌==◌, nat_lt, List, [], ◌∷◌, ◌++◌, length, Option, Some, None, is_some, IfSome, unwrap_or, if◌then◌else◌}
+use Rattle.std.specs.Prelude.{◌≡◌, ℕ, ◌+◌, ◌-◌, ◌*◌, ◌<◌, ◌≤◌, List, [], ◌∷◌, ◌++◌, length, Option, Some, None, is_some, IfSome, unwrap_or, if◌then◌else◌}
 use Rattle.std.specs.List.{AllByRecursion}
 use Rattle.aper_fields.specs.declared.enumerated.EnumValue.{EnumValue}
 use Rattle.s1ap_ies.specs.declared.tai.Tai.{Tai}
@@ -12,6 +12,8 @@ use Rattle.s1ap_ies.specs.declared.ue_ids.UeIds.{UeIds}
 use Rattle.s1ap_ies.specs.declared.ue_ids.UeIds.TheVariants.{Pair, Mme}
 use Rattle.s1ap_ies.specs.declared.erab_done.ErabDone.{ErabDone}
 use Rattle.s1ap_ies.specs.declared.erab_to_setup.ErabToSetup.{ErabToSetup}
+use Rattle.aper_octets.specs.Octets.{counted, four_octets, number_octets, ie_octets}
+use Rattle.aper_octets.specs.Values.{tai_octets, cgi_octets, stmsi_octets, caps_octets, cause_octets}
 use Rattle.s1ap_pdu.specs.declared.tables.IeRow.{IeRow}
 use Rattle.s1ap_pdu.specs.declared.tables.MessageKind.{MessageKind}
 use Rattle.s1ap_pdu.specs.Messages.{rows_of}
@@ -26,60 +28,14 @@ use Rattle.s1ap_pdu.specs.Values.{FieldValue}
 use Rattle.s1ap_pdu.specs.Messages.{outcome_index, header_of, kind_of, values_of}
 use Rattle.s1ap_pdu.specs.Run.{count_of, IsRightValue}
 
--- ---- pieces
-
--- a length: one octet below 128, else two that begin with the bits 10
-unfoldable pub count_octets : ℕ → List ℕ
-count_octets n = if nat_lt n 128 then n ∷ [] else (128 + n / 256) ∷ n % 256 ∷ []
-
--- octets behind their length: an octet string, and an open type
-unfoldable pub counted : List ℕ → List ℕ
-counted octets = count_octets (length octets) ++ octets
-
-unfoldable pub four_octets : ℕ → List ℕ
-four_octets n = n / 16777216 ∷ n / 65536 % 256 ∷ n / 256 % 256 ∷ n % 256 ∷ []
-
--- a number below 2^40 in its least octets
-unfoldable pub least_octets : ℕ → List ℕ
-least_octets n =
-    if nat_lt n 256 then n ∷ []
-    else (if nat_lt n 65536 then n / 256 ∷ n % 256 ∷ []
-    else (if nat_lt n 16777216 then n / 65536 ∷ n / 256 % 256 ∷ n % 256 ∷ []
-    else (if nat_lt n 4294967296 then n / 16777216 ∷ n / 65536 % 256 ∷ n / 256 % 256 ∷ n % 256 ∷ []
-    else n / 4294967296 ∷ n / 16777216 % 256 ∷ n / 65536 % 256 ∷ n / 256 % 256 ∷ n % 256 ∷ [])))
-
--- a number behind an octet that holds the bits before it, and the count of its octets less one
-unfoldable pub number_octets : ℕ → ℕ → ℕ → List ℕ
-number_octets before unit n = (before + unit * (length (least_octets n) - 1)) ∷ least_octets n
-
 -- ---- values
-
-unfoldable pub tai_octets : Tai → List ℕ
-tai_octets v = 0 ∷ v.plmn / 65536 ∷ v.plmn / 256 % 256 ∷ v.plmn % 256 ∷ v.tac / 256 ∷ v.tac % 256 ∷ []
-
-unfoldable pub cgi_octets : Cgi → List ℕ
-cgi_octets v = 0 ∷ v.plmn / 65536 ∷ v.plmn / 256 % 256 ∷ v.plmn % 256 ∷ v.cell / 1048576 ∷ v.cell / 4096 % 256 ∷ v.cell / 16 % 256 ∷ v.cell % 16 * 16 ∷ []
-
-unfoldable pub stmsi_octets : Stmsi → List ℕ
-stmsi_octets v = v.mmec / 4 ∷ v.mmec % 4 * 64 ∷ four_octets v.tmsi
 
 unfoldable pub rates_octets : BitRates → List ℕ
 rates_octets v = number_octets 0 8 v.dl ++ number_octets 0 32 v.ul
 
-unfoldable pub caps_octets : SecCaps → List ℕ
-caps_octets v = v.eea / 2048 ∷ v.eea / 8 % 256 ∷ (v.eea % 8 * 32 + v.eia / 4096) ∷ v.eia / 16 % 256 ∷ v.eia % 16 * 16 ∷ []
-
 -- a root, or one behind the extension mark
 unfoldable pub rrc_octets : EnumValue → List ℕ
 rrc_octets v = if v.extended then (128 + v.index) ∷ [] else 16 * v.index ∷ []
-
-unfoldable pub cause_octets : Cause → List ℕ
-cause_octets v =
-    if v.extended then (16 * v.group + 8 + v.index / 16) ∷ v.index % 16 * 16 ∷ []
-    else (if v.group == 0 then v.index / 8 ∷ v.index % 8 * 32 ∷ []
-    else (if v.group == 1 then (16 + 4 * v.index) ∷ []
-    else (if v.group == 2 then (32 + 2 * v.index) ∷ []
-    else (16 * v.group + v.index) ∷ [])))
 
 unfoldable pub ids_octets : UeIds → List ℕ
 ids_octets (Pair mme enb) = number_octets 0 4 mme ++ number_octets 0 64 enb
@@ -97,10 +53,6 @@ unfoldable pub setup_octets : ErabToSetup → List ℕ
 setup_octets v = ((if is_some v.nas then 64 else 0) + v.id) ∷ 0 ∷ v.qci ∷ v.arp ∷ 15 ∷ 128 ∷ four_octets v.address ++ (four_octets v.teid ++ nas_octets v.nas)
 
 -- ---- IEs
-
--- an IE, or an item of a list: its id, its criticality, and what it contains
-unfoldable pub ie_octets : ℕ → ℕ → List ℕ → List ℕ
-ie_octets id criticality content = 0 ∷ id ∷ 64 * criticality ∷ counted content
 
 -- the items of a list
 unfoldable pub items_octets : {A : Type 0} → ℕ → ℕ → (A → List ℕ) → List A → List ℕ

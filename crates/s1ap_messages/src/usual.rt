@@ -3,21 +3,19 @@
 ghost use Rattle.std.specs.Prelude.{◌≡◌, ◌<◌, ◌∷◌, All, IfOk, IfSome, Ok, length};
 ghost use Rattle.s1ap_pdu.specs.Built.{message_at};
 ghost use Rattle.s1ap_pdu.specs.Run.{written, IsRight};
-ghost use Rattle.s1ap_messages.specs.Usual.{counted, unfinished_octets, usual_octets, IsPut, IsUsual};
+ghost use Rattle.aper_octets.specs.Octets.{counted};
+ghost use Rattle.s1ap_messages.specs.Usual.{unfinished_octets, usual_octets, IsPut, IsUsual};
 
 mod bearers;
 mod fields;
 mod kinds;
-mod octets;
-mod put;
 mod put_kinds;
 mod strings;
 mod values;
 
 use crate::usual::kinds::{fields, kind_of_header};
-use crate::usual::octets::{counted, three};
-use crate::usual::put::finish;
 use crate::usual::put_kinds::{is_put, put};
+use aper_octets::{counted, finish, three};
 use device_types::Octets;
 use s1ap_pdu::Pdu;
 use std::alloc::{AllocError, Global};

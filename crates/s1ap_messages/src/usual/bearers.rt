@@ -4,14 +4,13 @@ ghost use Rattle.std.specs.Prelude.{◌≡◌, ◌+◌, ◌<◌, ◌≤◌, ◌�
 ghost use Rattle.s1ap_ies.specs.Run.{IsErabDone, IsErabToSetup, IsNas};
 ghost use Rattle.s1ap_ies.specs.Criticalities.{criticality_number};
 ghost use Rattle.s1ap_pdu.specs.declared.value.IeValue.TheVariants as value;
-ghost use Rattle.s1ap_messages.specs.Usual.{nas_octets, done_octets, setup_octets, ie_octets};
+ghost use Rattle.aper_octets.specs.Octets.{ie_octets};
+ghost use Rattle.s1ap_messages.specs.Usual.{nas_octets, done_octets, setup_octets};
 ghost use Rattle.s1ap_messages.specs.Lent.{erab_of};
 
 use crate::usual::fields::Field;
-use crate::usual::octets::{ie, one};
-use crate::usual::put::{count_len, counted_len, put_counted, put_ie};
 use crate::usual::strings::{Nas, own};
-use crate::usual::values::{four, octets_of};
+use aper_octets::{count_len, counted_len, four, ie, octets_of, one, put_counted, put_ie};
 use device_types::ListOf;
 use s1ap_ies::{Criticality, ErabDone, ErabToSetup, names};
 use std::alloc::{AllocError, Global};
@@ -81,7 +80,7 @@ impl<'a> Field<'a> for ErabDone {
         done(item(octets, names::ERAB_SETUP_ITEM, Criticality::Ignore)?)
     }
 
-    #[tactic(auto, unfolding(crate::specs::Usual::ie_octets, crate::specs::Usual::counted, crate::specs::Usual::count_octets, crate::specs::Usual::erabs_octets, crate::specs::Usual::items_octets, crate::specs::Usual::done_octets, crate::specs::Usual::four_octets, s1ap_ies::specs::Values::erab_done, s1ap_ies::specs::Values::erab_id, s1ap_ies::specs::Values::address))]
+    #[tactic(auto, unfolding(aper_octets::specs::Octets::ie_octets, aper_octets::specs::Octets::counted, aper_octets::specs::Octets::count_octets, crate::specs::Usual::erabs_octets, crate::specs::Usual::items_octets, crate::specs::Usual::done_octets, aper_octets::specs::Octets::four_octets, s1ap_ies::specs::Values::erab_done, s1ap_ies::specs::Values::erab_id, s1ap_ies::specs::Values::address))]
     #[rattlefmt::skip]
     fn put(&self, out: &mut Vec<u8>, id: u16, criticality: Criticality) -> Result<(), AllocError> {
         let [a, b, c, d] = octets_of(self.address);
@@ -159,7 +158,7 @@ fn put_nas(out: &mut Vec<u8>, nas: Option<&[u8]>) -> Result<(), AllocError>
 }
 
 /// Puts the fields of an E-RAB that is to be set up.
-#[tactic(auto, unfolding(crate::specs::Usual::setup_octets, crate::specs::Usual::four_octets))]
+#[tactic(auto, unfolding(crate::specs::Usual::setup_octets, aper_octets::specs::Octets::four_octets))]
 fn put_setup(out: &mut Vec<u8>, erab: &LentErab) -> Result<(), AllocError>
     requires { IsErabToSetup (erab_of erab.now) }
     ensures { OnOk result (out.new.items ≡ out.old.items ++ setup_octets (erab_of erab.now)) }

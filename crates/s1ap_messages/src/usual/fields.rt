@@ -7,12 +7,12 @@ ghost use Rattle.s1ap_pdu.specs.Tables.{no_row};
 ghost use Rattle.s1ap_pdu.specs.Messages.{rows_of};
 ghost use Rattle.s1ap_pdu.specs.Run.{count_of, IsRightValue, IsRightField};
 ghost use Rattle.s1ap_pdu.specs.Values.{FieldValue};
-ghost use Rattle.s1ap_messages.specs.Usual.{value_octets, ie_octets, fields_octets, beginning, IsUsualValue, IsBrief, AreSmallIds, AreFields};
+ghost use Rattle.aper_octets.specs.Octets.{ie_octets};
+ghost use Rattle.s1ap_messages.specs.Usual.{value_octets, fields_octets, beginning, IsUsualValue, IsBrief, AreSmallIds, AreFields};
 
-use crate::usual::octets::ie;
-use crate::usual::put::begin;
+use aper_octets::ie;
 use s1ap_ies::Criticality;
-use s1ap_pdu::{IeRow, IeTable, MessageKind, ies_of};
+use s1ap_pdu::{IeRow, IeTable, MessageKind, header_of, ies_of};
 use std::alloc::AllocError;
 
 /// The value of an IE, as it lies in the octets of a message.
@@ -161,6 +161,17 @@ pub fn read_fields<'a, F: Fields<'a>>(kind: MessageKind, octets: &'a [u8], count
         return None;
     }
     Some(fields)
+}
+
+/// Puts what stands before so many IEs of a message of that kind, with an octet of zeros in place of its length.
+#[inline(always)]
+fn begin(out: &mut Vec<u8>, kind: MessageKind, count: u8) -> Result<(), AllocError>
+    ensures { OnOk result (out.new.items ≡ out.old.items ++ beginning kind count) }
+{
+    let header = header_of(kind);
+    let outcome = header.outcome.octet();
+    let criticality = 64 * header.criticality.number();
+    out.extend_from_slice(&[outcome, header.code, criticality, 0, 0, 0, count])
 }
 
 /// Puts the beginning of a message of that kind, and its IEs.

@@ -3,11 +3,10 @@
 ghost use Rattle.std.specs.Prelude.{◌≡◌, ◌<◌, ◌≤◌, ◌++◌, IfSome, OnOk, length};
 ghost use Rattle.s1ap_ies.specs.Criticalities.{criticality_number};
 ghost use Rattle.s1ap_pdu.specs.declared.value.IeValue.TheVariants as value;
-ghost use Rattle.s1ap_messages.specs.Usual.{counted, ie_octets};
+ghost use Rattle.aper_octets.specs.Octets.{counted, ie_octets};
 
 use crate::usual::fields::Field;
-use crate::usual::octets::counted;
-use crate::usual::put::{counted_len, put_counted, put_ie};
+use aper_octets::{counted, counted_len, put_counted, put_ie};
 use device_types::Octets;
 use s1ap_ies::{Criticality, names};
 use std::alloc::{AllocError, Global};
@@ -98,7 +97,7 @@ impl<'a> Field<'a> for Key<'a> {
     }
 
     #[inline(always)]
-    #[tactic(auto, unfolding(crate::specs::Usual::ie_octets, crate::specs::Usual::counted))]
+    #[tactic(auto, unfolding(aper_octets::specs::Octets::ie_octets, aper_octets::specs::Octets::counted))]
     fn put(&self, out: &mut Vec<u8>, id: u16, criticality: Criticality) -> Result<(), AllocError> {
         let key = self.0;
         put_ie(out, id, criticality, key.len())?;

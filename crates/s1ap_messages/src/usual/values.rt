@@ -1,16 +1,18 @@
 //! Values of IEs, read from their octets and written as them.
 
-ghost use Rattle.std.specs.Prelude.{◌≡◌, ◌+◌, ◌*◌, ◌%◌, ◌^◌, ◌<◌, ◌≤◌, ◌∷◌, [], ◌++◌, IfSome, OnOk, length};
-ghost use Rattle.s1ap_ies.specs.Run.{IsTai, IsCgi, IsStmsi, IsSecCaps, IsCause};
+ghost use Rattle.std.specs.Prelude.{◌≡◌, ◌^◌, ◌<◌, ◌++◌, OnOk};
 ghost use Rattle.s1ap_ies.specs.declared.ue_ids.UeIds.TheVariants.{Pair};
 ghost use Rattle.s1ap_ies.specs.Criticalities.{criticality_number};
 ghost use Rattle.s1ap_pdu.specs.declared.value.IeValue.TheVariants as value;
-ghost use Rattle.s1ap_messages.specs.Usual.{four_octets, number_octets, tai_octets, cgi_octets, stmsi_octets, caps_octets, cause_octets, ids_octets, ie_octets};
+ghost use Rattle.aper_octets.specs.Octets.{number_octets, ie_octets};
+ghost use Rattle.s1ap_messages.specs.Usual.{ids_octets};
 
 use crate::usual::fields::Field;
-use crate::usual::octets::{id, number};
-use crate::usual::put::{octets_in, put_ie, put_number};
 use aper_fields::EnumValue;
+use aper_octets::{
+    caps_of, cgi_of, four, id, nas_cause, number, octets_in, octets_of, put_ie, put_number,
+    radio_cause, stmsi_of, tai_of,
+};
 use s1ap_ies::{BitRates, Cause, Cgi, Criticality, SecCaps, Stmsi, Tai, names};
 use std::alloc::AllocError;
 
@@ -122,18 +124,6 @@ impl<'a> Field<'a> for BothIds {
     }
 }
 
-/// The TAI that five octets behind an octet of zeros are.
-#[tactic(auto, using(crate::proofs::UsualRead::tai_read))]
-fn tai_of(a: u8, b: u8, c: u8, d: u8, e: u8) -> Tai
-    ensures octets { tai_octets result ≡ 0 ∷ a ∷ b ∷ c ∷ d ∷ e ∷ [] }
-    ensures right { IsTai result }
-{
-    Tai {
-        plmn: u32::from(a) * 65536 + u32::from(b) * 256 + u32::from(c),
-        tac: u16::from(d) * 256 + u16::from(e),
-    }
-}
-
 impl<'a> Field<'a> for Tai {
     ghost meaning = { value.Tai };
 
@@ -148,7 +138,7 @@ impl<'a> Field<'a> for Tai {
     /// An octet 00, which says that nothing optional is there, the PLMN identity in three octets, the tracking area code in two
     /// (TS 36.413, 9.2.3.16).
     #[inline(always)]
-    #[tactic(auto, unfolding(crate::specs::Usual::ie_octets, crate::specs::Usual::counted, crate::specs::Usual::count_octets, crate::specs::Usual::tai_octets))]
+    #[tactic(auto, unfolding(aper_octets::specs::Octets::ie_octets, aper_octets::specs::Octets::counted, aper_octets::specs::Octets::count_octets, aper_octets::specs::Values::tai_octets))]
     fn put(&self, out: &mut Vec<u8>, id: u16, criticality: Criticality) -> Result<(), AllocError> {
         out.extend_from_slice(&[
             0,
@@ -162,19 +152,6 @@ impl<'a> Field<'a> for Tai {
             (self.tac / 256) as u8,
             (self.tac % 256) as u8,
         ])
-    }
-}
-
-/// The CGI that seven octets behind an octet of zeros are.
-#[tactic(auto, using(crate::proofs::UsualRead::cgi_read))]
-fn cgi_of(a: u8, b: u8, c: u8, d: u8, e: u8, f: u8, g: u8) -> Cgi
-    requires { g % 16 ≡ 0 }
-    ensures octets { cgi_octets result ≡ 0 ∷ a ∷ b ∷ c ∷ d ∷ e ∷ f ∷ g ∷ [] }
-    ensures right { IsCgi result }
-{
-    Cgi {
-        plmn: u32::from(a) * 65536 + u32::from(b) * 256 + u32::from(c),
-        cell: u32::from(d) * 1048576 + u32::from(e) * 4096 + u32::from(f) * 16 + u32::from(g / 16),
     }
 }
 
@@ -194,7 +171,7 @@ impl<'a> Field<'a> for Cgi {
 
     /// An octet 00, the PLMN identity in three octets, the cell identity in 28 bits, and four bits 0 (TS 36.413, 9.2.1.38).
     #[inline(always)]
-    #[tactic(auto, unfolding(crate::specs::Usual::ie_octets, crate::specs::Usual::counted, crate::specs::Usual::count_octets, crate::specs::Usual::cgi_octets))]
+    #[tactic(auto, unfolding(aper_octets::specs::Octets::ie_octets, aper_octets::specs::Octets::counted, aper_octets::specs::Octets::count_octets, aper_octets::specs::Values::cgi_octets))]
     fn put(&self, out: &mut Vec<u8>, id: u16, criticality: Criticality) -> Result<(), AllocError> {
         out.extend_from_slice(&[
             0,
@@ -235,51 +212,13 @@ impl<'a> Field<'a> for EnumValue {
 
     /// A bit 0 and the root's index in three bits, and bits 0; or the bits 10 and an index beyond the roots in six.
     #[inline(always)]
-    #[tactic(auto, unfolding(crate::specs::Usual::ie_octets, crate::specs::Usual::counted, crate::specs::Usual::count_octets, crate::specs::Usual::rrc_octets))]
+    #[tactic(auto, unfolding(aper_octets::specs::Octets::ie_octets, aper_octets::specs::Octets::counted, aper_octets::specs::Octets::count_octets, crate::specs::Usual::rrc_octets))]
     fn put(&self, out: &mut Vec<u8>, id: u16, criticality: Criticality) -> Result<(), AllocError> {
         let criticality = 64 * criticality.number();
         if self.extended {
             return out.extend_from_slice(&[0, id as u8, criticality, 1, 128 + self.index]);
         }
         out.extend_from_slice(&[0, id as u8, criticality, 1, 16 * self.index])
-    }
-}
-
-/// Four octets as a number.
-#[inline(always)]
-#[tactic(auto, using(crate::proofs::UsualRead::four_read))]
-pub fn four(a: u8, b: u8, c: u8, d: u8) -> u32
-    ensures { four_octets result ≡ a ∷ b ∷ c ∷ d ∷ [] }
-{
-    u32::from(a) * 16777216 + u32::from(b) * 65536 + u32::from(c) * 256 + u32::from(d)
-}
-
-/// A number as four octets.
-#[inline(always)]
-#[tactic(auto, unfolding(crate::specs::Usual::four_octets))]
-pub fn octets_of(n: u32) -> [u8; 4]
-    ensures { result ≡ four_octets n }
-{
-    [
-        (n / 16777216) as u8,
-        (n / 65536 % 256) as u8,
-        (n / 256 % 256) as u8,
-        (n % 256) as u8,
-    ]
-}
-
-/// The S-TMSI with an MME code that stands two bits behind the start of two octets.
-#[inline(always)]
-#[tactic(auto, unfolding(crate::specs::Usual::stmsi_octets))]
-fn stmsi_of(h: u8, m: u8, tmsi: u32) -> Stmsi
-    requires high { h < 64 }
-    requires low { m % 64 ≡ 0 }
-    ensures octets { stmsi_octets result ≡ h ∷ m ∷ four_octets tmsi }
-    ensures right { IsStmsi result }
-{
-    Stmsi {
-        mmec: h * 4 + m / 64,
-        tmsi,
     }
 }
 
@@ -299,7 +238,7 @@ impl<'a> Field<'a> for Stmsi {
 
     /// Two bits 0, the MME code in eight bits, bits 0 up to the next octet, and the M-TMSI in four octets (TS 36.413, 9.2.3.6).
     #[inline(always)]
-    #[tactic(auto, unfolding(crate::specs::Usual::ie_octets, crate::specs::Usual::counted, crate::specs::Usual::count_octets, crate::specs::Usual::stmsi_octets, crate::specs::Usual::four_octets))]
+    #[tactic(auto, unfolding(aper_octets::specs::Octets::ie_octets, aper_octets::specs::Octets::counted, aper_octets::specs::Octets::count_octets, aper_octets::specs::Values::stmsi_octets, aper_octets::specs::Octets::four_octets))]
     fn put(&self, out: &mut Vec<u8>, id: u16, criticality: Criticality) -> Result<(), AllocError> {
         let [a, b, c, d] = octets_of(self.tmsi);
         let code = self.mmec;
@@ -349,22 +288,6 @@ impl<'a> Field<'a> for BitRates {
     }
 }
 
-/// The security capabilities that five octets are.
-#[inline(always)]
-#[tactic(auto, using(crate::proofs::UsualRead::caps_read))]
-fn caps_of(a: u8, b: u8, c: u8, d: u8, e: u8) -> SecCaps
-    requires first { a < 32 }
-    requires third { c % 32 < 16 }
-    requires last { e % 16 ≡ 0 }
-    ensures octets { caps_octets result ≡ a ∷ b ∷ c ∷ d ∷ e ∷ [] }
-    ensures right { IsSecCaps result }
-{
-    SecCaps {
-        eea: u16::from(a) * 2048 + u16::from(b) * 8 + u16::from(c / 32),
-        eia: u16::from(c % 16) * 4096 + u16::from(d) * 16 + u16::from(e / 16),
-    }
-}
-
 impl<'a> Field<'a> for SecCaps {
     ghost meaning = { value.Caps };
 
@@ -382,7 +305,7 @@ impl<'a> Field<'a> for SecCaps {
     /// Two bits 0, then twice a bit 0 and 16 bits of algorithms, encryption before integrity protection, and four bits 0
     /// (TS 36.413, 9.2.1.40).
     #[inline(always)]
-    #[tactic(auto, unfolding(crate::specs::Usual::ie_octets, crate::specs::Usual::counted, crate::specs::Usual::count_octets, crate::specs::Usual::caps_octets))]
+    #[tactic(auto, unfolding(aper_octets::specs::Octets::ie_octets, aper_octets::specs::Octets::counted, aper_octets::specs::Octets::count_octets, aper_octets::specs::Values::caps_octets))]
     fn put(&self, out: &mut Vec<u8>, id: u16, criticality: Criticality) -> Result<(), AllocError> {
         out.extend_from_slice(&[
             0,
@@ -396,40 +319,6 @@ impl<'a> Field<'a> for SecCaps {
             (self.eia % 16 * 16) as u8,
         ])
     }
-}
-
-/// The cause that one octet is, where it is a root of those of NAS.
-#[inline(always)]
-#[tactic(auto, unfolding(crate::specs::Usual::cause_octets, device_types::specs::Cause::cause_roots))]
-fn nas_cause(a: u8) -> Option<Cause>
-    ensures octets { IfSome result (λ c. cause_octets c ≡ a ∷ []) }
-    ensures right { IfSome result (λ c. IsCause c) }
-{
-    if a < 32 || a >= 40 || a % 2 != 0 {
-        return None;
-    }
-    Some(Cause {
-        group: 2,
-        extended: false,
-        index: a % 32 / 2,
-    })
-}
-
-/// The cause that two octets are, where it is a root of those of the radio network.
-#[inline(always)]
-#[tactic(auto, unfolding(crate::specs::Usual::cause_octets, device_types::specs::Cause::cause_roots))]
-fn radio_cause(a: u8, b: u8) -> Option<Cause>
-    ensures octets { IfSome result (λ c. cause_octets c ≡ a ∷ b ∷ []) }
-    ensures right { IfSome result (λ c. IsCause c) }
-{
-    if a >= 8 || b % 32 != 0 || a * 8 + b / 32 >= 36 {
-        return None;
-    }
-    Some(Cause {
-        group: 0,
-        extended: false,
-        index: a * 8 + b / 32,
-    })
 }
 
 /// A Cause (TS 36.413, 9.2.1.3) in one octet or two.
@@ -448,7 +337,7 @@ impl<'a> Field<'a> for Cause {
 
     /// A bit 0 and the group in three bits, then a bit 0 and the root's index in as many bits as the group's roots need, or the
     /// bits 10 and an index beyond them in six; bits 0 at the end.
-    #[tactic(auto, unfolding(crate::specs::Usual::ie_octets, crate::specs::Usual::counted, crate::specs::Usual::count_octets, crate::specs::Usual::cause_octets, device_types::specs::Cause::cause_roots))]
+    #[tactic(auto, unfolding(aper_octets::specs::Octets::ie_octets, aper_octets::specs::Octets::counted, aper_octets::specs::Octets::count_octets, aper_octets::specs::Values::cause_octets, device_types::specs::Cause::cause_roots))]
     fn put(&self, out: &mut Vec<u8>, id: u16, criticality: Criticality) -> Result<(), AllocError> {
         let id = id as u8;
         let criticality = 64 * criticality.number();

@@ -1,5 +1,5 @@
 -- A counted string behind the head of an IE is the IE of that string.
-use Rattle.s1ap_messages.specs.Usual.{counted}
+use Rattle.aper_octets.specs.Octets.{counted}
 use Rattle.s1ap_messages.proofs.UsualWrite.{ie_put}
 use Rattle.s1ap_messages.proofs.usual.strings.put_text.Goals as goal
 use Rattle.s1ap_ies.specs.Criticalities.{criticality_number}

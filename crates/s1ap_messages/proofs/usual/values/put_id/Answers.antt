@@ -1,6 +1,6 @@
 -- A number behind the head of an IE is the IE of that identity.
 use Rattle.std.proofs.Common.{arith}
-use Rattle.s1ap_messages.specs.Usual.{number_octets}
+use Rattle.aper_octets.specs.Octets.{number_octets}
 use Rattle.s1ap_messages.proofs.UsualWrite.{ie_put, number_length}
 use Rattle.s1ap_messages.proofs.usual.values.put_id.Goals as goal
 use Rattle.s1ap_ies.specs.Criticalities.{criticality_number}

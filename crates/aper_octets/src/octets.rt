@@ -1,8 +1,8 @@
-//! Octets, read from left to right.
+//! Pieces that begin at an octet, read from left to right.
 
 ghost use Rattle.std.specs.Prelude.{◌≡◌, ◌+◌, ◌*◌, ◌<◌, ◌≤◌, ◌∷◌, [], ◌++◌, IfSome, length};
 ghost use Rattle.s1ap_ies.specs.Criticalities.{criticality_number};
-ghost use Rattle.s1ap_messages.specs.Usual.{count_octets, counted, least_octets, number_octets, ie_octets};
+ghost use Rattle.aper_octets.specs.Octets.{count_octets, counted, least_octets, number_octets, ie_octets};
 
 use s1ap_ies::Criticality;
 
@@ -28,20 +28,21 @@ pub fn three(octets: &[u8]) -> Option<(u8, u8, u8, &[u8])>
     Some((*a, *b, *c, rest))
 }
 
-/// The length that two octets tell.
-#[tactic(auto, using(crate::proofs::UsualRead::long_count))]
-fn long_count(a: u8, b: u8) -> usize
-    requires long { 32896 ≤ a * 256 + b }
-    requires two { a < 192 }
-    ensures octets { count_octets result ≡ a ∷ b ∷ [] }
-    ensures few { result < 16384 }
+/// The length that two octets tell, where one would not hold it.
+#[tactic(auto, using(crate::proofs::Lengths::long_count))]
+fn long_count(a: u8, b: u8) -> Option<usize>
+    ensures octets { IfSome result (λ n. count_octets n ≡ a ∷ b ∷ []) }
+    ensures few { IfSome result (λ n. n < 16384) }
 {
-    usize::from(a) * 256 + usize::from(b) - 32768
+    if a >= 192 || u16::from(a) * 256 + u16::from(b) < 32896 {
+        return None;
+    }
+    Some(usize::from(a) * 256 + usize::from(b) - 32768)
 }
 
 /// A length, and what stands behind it.
 #[inline(always)]
-#[tactic(auto, using(crate::proofs::UsualRead::short_count))]
+#[tactic(auto, using(crate::proofs::Lengths::short_count))]
 fn count(octets: &[u8]) -> Option<(usize, &[u8])>
     ensures octets { IfSome result (λ x. octets.now ≡ count_octets x.0 ++ x.1.now) }
     ensures few { IfSome result (λ x. x.0 < 16384) }
@@ -51,10 +52,7 @@ fn count(octets: &[u8]) -> Option<(usize, &[u8])>
         return Some((usize::from(a), rest));
     }
     let (b, rest) = one(rest)?;
-    if a >= 192 || u16::from(a) * 256 + u16::from(b) < 32896 {
-        return None;
-    }
-    Some((long_count(a, b), rest))
+    Some((long_count(a, b)?, rest))
 }
 
 /// Octets behind their length, and what stands behind them.
@@ -73,7 +71,7 @@ pub fn counted(octets: &[u8]) -> Option<(&[u8], &[u8])>
 
 /// What an IE contains, and what stands behind it. An item of a list has the same form.
 #[inline(always)]
-#[tactic(auto, unfolding(crate::specs::Usual::ie_octets))]
+#[tactic(auto, unfolding(crate::specs::Octets::ie_octets))]
 pub fn ie(octets: &[u8], id: u16, criticality: Criticality) -> Option<(&[u8], &[u8])>
     ensures { IfSome result (λ x. octets.now ≡ ie_octets id (criticality_number criticality) x.0.now ++ x.1.now) }
 {
@@ -85,13 +83,14 @@ pub fn ie(octets: &[u8], id: u16, criticality: Criticality) -> Option<(&[u8], &[
 }
 
 /// A number of at least one octet more than another, which is not 0.
-#[tactic(auto, using(crate::proofs::UsualRead::least_more))]
-fn behind(high: u64, low: u8) -> u64
-    requires some { 0 < high }
-    requires fits { high < 4294967296 }
-    ensures { least_octets result ≡ least_octets high ++ low ∷ [] }
+#[tactic(auto, using(crate::proofs::Numbers::least_more))]
+fn behind(high: u64, low: u8) -> Option<u64>
+    ensures { IfSome result (λ n. least_octets n ≡ least_octets high ++ low ∷ []) }
 {
-    high * 256 + u64::from(low)
+    if high == 0 || high >= 4294967296 {
+        return None;
+    }
+    Some(high * 256 + u64::from(low))
 }
 
 /// A number that goes on for so many octets more, and what stands behind it.
@@ -101,10 +100,7 @@ fn longer(high: u64, octets: &[u8], more: u8) -> Option<(u64, &[u8])>
     ensures count { IfSome result (λ x. length (least_octets x.0) ≡ length (least_octets high) + more) }
 {
     let (low, rest) = one(octets)?;
-    if high == 0 || high >= 4294967296 {
-        return None;
-    }
-    let n = behind(high, low);
+    let n = behind(high, low)?;
     if more == 1 {
         return Some((n, rest));
     }
@@ -113,7 +109,7 @@ fn longer(high: u64, octets: &[u8], more: u8) -> Option<(u64, &[u8])>
 
 /// A number in so many octets, and what stands behind it.
 #[inline(always)]
-#[tactic(auto, using(crate::proofs::UsualRead::least_one))]
+#[tactic(auto, using(crate::proofs::Numbers::least_one))]
 fn least(octets: &[u8], count: u8) -> Option<(u64, &[u8])>
     requires { 0 < count }
     ensures octets { IfSome result (λ x. octets.now ≡ least_octets x.0 ++ x.1.now) }
@@ -128,7 +124,7 @@ fn least(octets: &[u8], count: u8) -> Option<(u64, &[u8])>
 
 /// The count less one that an octet tells: it counts in units, and some bits stand before it.
 #[inline(always)]
-#[tactic(auto, using(crate::proofs::UsualRead::count_head))]
+#[tactic(auto, using(crate::proofs::Numbers::count_head))]
 fn count_in(head: u8, before: u8, unit: u8) -> Option<u8>
     requires { 0 < unit }
     ensures head { IfSome result (λ k. head ≡ before + unit * k) }

@@ -1,5 +1,5 @@
 -- Each turn reads an octet less.
-use Rattle.s1ap_messages.proofs.usual.octets.+longer.Given as goal
+use Rattle.aper_octets.proofs.octets.+longer.Given as goal
 
 abbrev pub decreases-longer : goal.decreases-longer
 decreases-longer l = l.more

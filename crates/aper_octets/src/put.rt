@@ -1,29 +1,17 @@
-//! Octets that are written one behind another.
+//! Pieces that begin at an octet, written one behind another.
 
 ghost use Rattle.std.specs.Prelude.{◌≡◌, ◌+◌, ◌-◌, ◌*◌, ◌<◌, ◌≤◌, ◌∷◌, ◌++◌, IfOk, IfSome, OnOk, length, take, drop};
 ghost use Rattle.s1ap_ies.specs.Criticalities.{criticality_number};
-ghost use Rattle.s1ap_messages.specs.Usual.{beginning, count_octets, counted, least_octets, number_octets};
+ghost use Rattle.aper_octets.specs.Octets.{count_octets, counted, least_octets, number_octets};
 
 use device_types::Octets;
 use s1ap_ies::Criticality;
-use s1ap_pdu::{MessageKind, header_of};
 use std::alloc::AllocError;
-
-/// Puts what stands before so many IEs of a message of that kind, with an octet of zeros in place of its length.
-#[inline(always)]
-pub fn begin(out: &mut Vec<u8>, kind: MessageKind, count: u8) -> Result<(), AllocError>
-    ensures { OnOk result (out.new.items ≡ out.old.items ++ beginning kind count) }
-{
-    let header = header_of(kind);
-    let outcome = header.outcome.octet();
-    let criticality = 64 * header.criticality.number();
-    out.extend_from_slice(&[outcome, header.code, criticality, 0, 0, 0, count])
-}
 
 /// Puts a length (ITU-T X.691, 11.9): an octet where it is below 128, else two that begin with the bits 10.
 #[inline(always)]
-#[tactic(auto, unfolding(crate::specs::Usual::count_octets))]
-pub fn put_count(out: &mut Vec<u8>, n: usize) -> Result<(), AllocError>
+#[tactic(auto, unfolding(crate::specs::Octets::count_octets))]
+fn put_count(out: &mut Vec<u8>, n: usize) -> Result<(), AllocError>
     requires { n < 16384 }
     ensures { OnOk result (out.new.items ≡ out.old.items ++ count_octets n) }
 {
@@ -35,7 +23,7 @@ pub fn put_count(out: &mut Vec<u8>, n: usize) -> Result<(), AllocError>
 
 /// How many octets a length is.
 #[inline(always)]
-#[tactic(auto, unfolding(crate::specs::Usual::count_octets))]
+#[tactic(auto, unfolding(crate::specs::Octets::count_octets))]
 pub fn count_len(n: usize) -> usize
     ensures len { result ≡ length (count_octets n) }
     ensures few { result ≤ 2 }
@@ -45,7 +33,7 @@ pub fn count_len(n: usize) -> usize
 
 /// How many octets those are with their length before them.
 #[inline(always)]
-#[tactic(auto, using(crate::proofs::UsualWrite::counted_length))]
+#[tactic(auto, using(crate::proofs::Lengths::counted_length))]
 pub fn counted_len(octets: &[u8]) -> usize
     requires { length octets.now < 16384 }
     ensures len { result ≡ length (counted octets.now) }
@@ -56,7 +44,7 @@ pub fn counted_len(octets: &[u8]) -> usize
 
 /// Puts an OCTET STRING of free size (ITU-T X.691, 17): its length, and its octets.
 #[inline(always)]
-#[tactic(auto, unfolding(crate::specs::Usual::counted))]
+#[tactic(auto, unfolding(crate::specs::Octets::counted))]
 pub fn put_counted(out: &mut Vec<u8>, octets: &[u8]) -> Result<(), AllocError>
     requires { length octets.now < 16384 }
     ensures { OnOk result (out.new.items ≡ out.old.items ++ counted octets.now) }
@@ -67,7 +55,7 @@ pub fn put_counted(out: &mut Vec<u8>, octets: &[u8]) -> Result<(), AllocError>
 
 /// Puts what stands before the content of an IE, or of an item of a list.
 #[inline(always)]
-#[tactic(auto, unfolding(crate::specs::Usual::count_octets))]
+#[tactic(auto, unfolding(crate::specs::Octets::count_octets))]
 pub fn put_ie(
     out: &mut Vec<u8>,
     id: u16,
@@ -88,7 +76,7 @@ pub fn put_ie(
 
 /// How many octets a number needs.
 #[inline(always)]
-#[tactic(auto, unfolding(crate::specs::Usual::least_octets))]
+#[tactic(auto, unfolding(crate::specs::Octets::least_octets))]
 pub fn octets_in(n: u64) -> usize
     ensures count { result ≡ length (least_octets n) }
     ensures some { 1 ≤ result }
@@ -109,7 +97,7 @@ pub fn octets_in(n: u64) -> usize
 }
 
 /// Puts a number in its least octets.
-#[tactic(auto, using(crate::proofs::UsualRead::least_one, crate::proofs::UsualRead::put_last))]
+#[tactic(auto, using(crate::proofs::Numbers::least_one, crate::proofs::Numbers::put_last))]
 fn put_least(out: &mut Vec<u8>, n: u64) -> Result<(), AllocError>
     requires { n < 1099511627776 }
     ensures { OnOk result (out.new.items ≡ out.old.items ++ least_octets n) }
@@ -125,7 +113,7 @@ fn put_least(out: &mut Vec<u8>, n: u64) -> Result<(), AllocError>
 /// Puts a number behind the octet with the count of its octets less one. In that octet the count counts in units, and some bits
 /// stand before it.
 #[inline(always)]
-#[tactic(auto, unfolding(crate::specs::Usual::number_octets), using(crate::proofs::UsualRead::least_one))]
+#[tactic(auto, unfolding(crate::specs::Octets::number_octets), using(crate::proofs::Numbers::least_one))]
 pub fn put_number(out: &mut Vec<u8>, before: u8, unit: u8, n: u64) -> Result<(), AllocError>
     requires fits { n < 1099511627776 }
     requires room { before + unit * (length (least_octets n) - 1) ≤ 255 }
@@ -138,8 +126,9 @@ pub fn put_number(out: &mut Vec<u8>, before: u8, unit: u8, n: u64) -> Result<(),
     put_least(out, n)
 }
 
-/// Notes the length of the body in its place, where it has one.
-#[tactic(auto, using(crate::proofs::UsualWrite::short_body, crate::proofs::UsualWrite::long_body))]
+/// Puts, in place of the fourth octet, the length of what stands behind it; None where there are not four octets, or where it is
+/// too long for two octets.
+#[tactic(auto, using(crate::proofs::Lengths::short_body, crate::proofs::Lengths::long_body))]
 pub fn finish(out: Vec<u8>) -> Result<Option<Octets>, AllocError>
     ensures octets { IfOk result (λ found. IfSome found (λ o. o ≡ take 3 out.items ++ counted (drop 4 out.items))) }
     ensures few { IfOk result (λ found. IfSome found (λ o. (4 ≤ length out.items) × (length out.items < 16388))) }
