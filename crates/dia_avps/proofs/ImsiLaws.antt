@@ -1,15 +1,12 @@
 -- The digits of an IMSI: the octets that are read are those that are written.
-use Rattle.std.proofs.Common.{◌≡◌, ℕ, zero, suc, ◌+◌, ◌-◌, ◌*◌, ◌/◌, ◌%◌, ◌^◌, ◌<◌, ◌≤◌, eqb, Bool, true, false, cond, List, [], ◌∷◌, length, get_or, drop, Some, None, refl, sym, ap, ◌∙◌, arith}
+use Rattle.std.proofs.Common.{◌≡◌, ℕ, zero, suc, ◌+◌, ◌-◌, ◌*◌, ◌/◌, ◌%◌, ◌^◌, ◌<◌, ◌≤◌, eqb, Bool, true, false, cond, List, [], ◌∷◌, length, Some, None, refl, sym, ap, ◌∙◌, arith}
 use Rattle.std.proofs.lemmas.Bool.{eqb-true}
-use Rattle.std.proofs.Math.Nat.{add-mul, add_assoc, mod-eq_of_lt, mod-lt, mul-add-mod_self_right, mul-le-mul_right, mul_assoc, one-le-pow, pow-le-pow_right, pow-succ'}
-use Rattle.std.proofs.lemmas.Grind.{pow_more}
-use Rattle.std.proofs.lemmas.List.{drop_more, length-drop}
+use Rattle.std.proofs.Math.Nat.{add-mul, add_assoc, mod-eq_of_lt, mod-lt, mul-add-mod_self_right, mul-le-mul_right, mul_assoc, one-le-pow, pow-succ'}
 use Rattle.std.proofs.lemmas.Nat.{div-add-mod', div-mul-add, mod-mul-add}
 use Rattle.echo_base.specs.Format.{Decides}
-use Rattle.tlv_elements.specs.Grammar.{and_then}
 use Rattle.tlv_elements.specs.Digits.{coded, number_from}
 use Rattle.tlv_elements.proofs.Pieces.{between}
-use Rattle.tlv_elements.proofs.Digits.{digits_found, digits_back}
+use Rattle.tlv_elements.proofs.Digits.{digits_found, digits_back, coded_length}
 use Rattle.dia_avps.specs.Values.{imsi, imsi_run, imsi_decode, digit_run, digit_of}
 
 digit_found : (octet d : ℕ) → digit_of octet ≡ Some d → (d < 10) × (octet ≡ digit_run d)
@@ -23,13 +20,8 @@ digit_found octet d h =
 digit_back : (d : ℕ) → d < 10 → digit_of (digit_run d) ≡ Some d
 digit_back d few = (between 48 57 (48 + d) (48 + d - 48)).only d (omega arith, (omega arith, omega arith))
 
-coded_length : (k v : ℕ) → length (coded digit_run 10 k v) ≡ k
-unfolding coded
-coded_length zero v = refl
-coded_length (suc k) v = ap suc (coded_length k (v % 10 ^ k))
-
 pub imsi_length : (v : ℕ) → length (imsi_run v) ≡ 15
-imsi_length v = coded_length 15 v
+imsi_length v = coded_length digit_run 10 15 v
 
 -- 15 digits are those of their number
 found_in : (octets : List ℕ) (n : ℕ) → length octets ≡ 15 → number_from digit_of 10 0 octets ≡ Some n → (n < 10 ^ 15) × (octets ≡ imsi_run n)
@@ -38,9 +30,6 @@ found_in octets n fifteen h =
     let few : x.0 < 10 ^ 15 = x.1 in
     let is : n ≡ x.0 = omega (arith, x.2) in
     rw is (few, x.3)
-
-pub number_few : (octets : List ℕ) (n : ℕ) → length octets ≡ 15 → number_from digit_of 10 0 octets ≡ Some n → n < 10 ^ 15
-number_few octets n fifteen h = (found_in octets n fifteen h).0
 
 pub imsi_decides : (octets : List ℕ) → Decides (imsi.decode octets) (imsi.Means octets)
 unfolding imsi_decode
@@ -54,43 +43,7 @@ imsi_decides octets = record {
     by false e v h = absurd cc
 
     only : (v : ℕ) → v < 10 ^ 15 → imsi_decode (imsi_run v) ≡ Some v
-    only v few = rw (coded_length 15 v) (digits_back digit_run digit_of 10 (λ d few. digit_back d few) 15 0 v few ∙ ap (λ x. Some x) (omega arith))
-
--- ---- read digit by digit
-
-pub number_fits : (i n : ℕ) → i < 15 → n < 10 ^ i → 10 * n + 9 < 2 ^ 64
-number_fits i n few h =
-    let e : i ≤ 14 = omega arith in
-    let most : 10 ^ i ≤ 10 ^ 14 = pow-le-pow_right (omega arith) e in
-    omega arith
-
-pub number_more : (i n d : ℕ) → n < 10 ^ i → d < 10 → 10 * n + d < 10 ^ (i + 1)
-number_more i n d h g =
-    let e : 10 ^ (i + 1) ≡ 10 ^ i * 10 = pow_more 10 i in
-    omega arith
-
--- one more digit
-step_at : (n octet : ℕ) (octets : List ℕ) → number_from digit_of 10 n (octet ∷ octets) ≡ and_then (digit_of octet) (λ d. number_from digit_of 10 (10 * n + d) octets)
-unfolding number_from
-step_at n octet octets = refl
-
-pub digit_at : (i n d m : ℕ) (octets : List ℕ) → i < length octets → digit_of (get_or octets i 0) ≡ Some d → m ≡ d → number_from digit_of 10 (10 * n + m) (drop (i + 1) octets) ≡ number_from digit_of 10 n (drop i octets)
-digit_at i n d m octets within h e =
-    let rest = drop (i + 1) octets in
-    rw (drop_more octets i 0 within, e) (sym (step_at n (get_or octets i 0) rest ∙ rw h refl))
-
-pub no_digit : (i n : ℕ) (octets : List ℕ) → i < length octets → digit_of (get_or octets i 0) ≡ None → number_from digit_of 10 n (drop i octets) ≡ None
-no_digit i n octets within h =
-    let rest = drop (i + 1) octets in
-    rw (drop_more octets i 0 within) (step_at n (get_or octets i 0) rest ∙ rw h refl)
-
-no_octets : (xs : List ℕ) → length xs ≡ 0 → xs ≡ []
-no_octets [] e = refl
-no_octets (x ∷ xs) e = absurd (omega arith)
-
-pub number_end : (i n : ℕ) (octets : List ℕ) → length octets ≤ i → number_from digit_of 10 n (drop i octets) ≡ Some n
-unfolding number_from
-number_end i n octets past = rw (no_octets (drop i octets) (omega (arith, length-drop i octets))) refl
+    only v few = rw (coded_length digit_run 10 15 v) (digits_back digit_run digit_of 10 (λ d few. digit_back d few) 15 0 v few ∙ ap (λ x. Some x) (omega arith))
 
 -- ---- written digit by digit
 

@@ -1,11 +1,10 @@
 //! The values of AVPs (RFC 6733, 4.2, 4.3 and 8; 3GPP TS 29.272, 7.3). Each is exact: a value that is longer or shorter is none.
 
 ghost use Rattle.std.specs.Prelude.{◌≡◌, ◌/◌, ◌%◌, ◌^◌, ◌<◌, ◌≤◌, IfSome, option_map, length};
-ghost use Rattle.tlv_elements.specs.Digits.{number_from};
 ghost use Rattle.dia_avps.specs.Values.{sized, session, unsigned, plmn, plmn_of, digit_of, imsi};
 
 use echo_base::{Reason, Refusal};
-use tlv_elements::Left;
+use tlv_elements::{Digit, Left, number_of};
 
 /// What is due inside a value: whatever it is, its AVP is told to be of wrong form.
 const DUE: Refusal = Refusal {
@@ -83,34 +82,27 @@ pub fn plmn_of(imsi: u64) -> u32
     65536 * first + 256 * second + third
 }
 
-/// A digit.
-fn digit_of(octet: u8) -> Option<u8>
-    ensures value { result ≡ digit_of octet }
-    ensures range { IfSome result (λ d. d < 10) }
-{
-    if octet < 48 {
-        return None;
-    }
-    if octet > 57 {
-        return None;
-    }
-    Some(octet - 48)
-}
+/// A decimal digit in ASCII.
+struct Decimal;
 
-/// The number of 15 digits.
-fn number_of(octets: &[u8]) -> Option<u64>
-    requires { length octets.now ≡ 15 }
-    ensures value { result ≡ number_from digit_of 10 0 octets.now }
-    ensures range { IfSome result (λ n. n < 10 ^ 15) }
-{
-    let mut number: u64 = 0;
-    for octet in octets {
-        let Some(digit) = digit_of(*octet) else {
-            return None;
-        };
-        number = 10 * number + u64::from(digit);
+impl Digit for Decimal {
+    ghost base = { 10 };
+
+    ghost digit = { digit_of };
+
+    fn base() -> u64 {
+        10
     }
-    Some(number)
+
+    fn read(octet: u8) -> Option<u8> {
+        if octet < 48 {
+            return None;
+        }
+        if octet > 57 {
+            return None;
+        }
+        Some(octet - 48)
+    }
 }
 
 /// The IMSI of a User-Name (RFC 6733, 8.14).
@@ -122,5 +114,5 @@ pub fn imsi(octets: &[u8]) -> Option<u64>
     if octets.len() != 15 {
         return None;
     }
-    number_of(octets)
+    number_of::<Decimal>(octets)
 }

@@ -1,16 +1,13 @@
 -- The digits of an IMSI: the octets that are read are those that are written.
-use Rattle.std.proofs.Common.{◌≡◌, ℕ, zero, suc, ◌+◌, ◌*◌, ◌/◌, ◌%◌, ◌^◌, ◌<◌, ◌≤◌, ◌&&◌, eqb, leb, Bool, true, false, cond, List, [], ◌∷◌, ◌++◌, length, take, drop, get_or, Option, Some, None, refl, sym, ap, ◌∙◌, arith}
+use Rattle.std.proofs.Common.{◌≡◌, ℕ, ◌+◌, ◌*◌, ◌/◌, ◌%◌, ◌^◌, ◌<◌, ◌≤◌, ◌&&◌, eqb, leb, Bool, true, false, cond, List, [], ◌∷◌, ◌++◌, length, take, get_or, Some, None, refl, sym, ap, ◌∙◌, arith}
 use Rattle.std.proofs.lemmas.Bool.{eqb-true, leb-true, le-leb}
-use Rattle.std.proofs.lemmas.List.{take-append-drop, take_at, length-take, length-drop, drop_more, length-append, get_or-append_right}
-use Rattle.std.proofs.Math.Nat.{pow-le-pow_right}
+use Rattle.std.proofs.lemmas.List.{take-append-drop, take_at, length-take, drop_all, length-append, get_or-append_right}
 use Rattle.std.proofs.Math.Seq.{drop-cons}
-use Rattle.std.proofs.lemmas.Grind.{pow_more}
 use Rattle.echo_base.specs.Format.{Decides}
-use Rattle.tlv_elements.specs.Grammar.{and_then}
 use Rattle.tlv_elements.specs.Piece.{passing}
 use Rattle.tlv_elements.specs.Digits.{coded, number_from}
 use Rattle.tlv_elements.proofs.Pieces.{passing_decides, both_true}
-use Rattle.tlv_elements.proofs.Digits.{digits_found, digits_back}
+use Rattle.tlv_elements.proofs.Digits.{and_some, digits_found, digits_back, coded_length}
 use Rattle.gtp2_ies.specs.Values.{imsi, pair_run, pair_of, imsi_run, imsi_of, imsi_decode}
 
 abbrev pub IsImsi : List ℕ → ℕ → Type 0
@@ -35,10 +32,6 @@ last_found n last v h =
     let d = (passing_decides (leb (last % 16) 9 && eqb (last / 16) 15) (10 * n + last % 16) ((last % 16 ≤ 9) × (last / 16 ≡ 15)) (λ h. both_true (leb (last % 16) 9) (eqb (last / 16) 15) (last % 16 ≤ 9) (last / 16 ≡ 15) (λ h. leb-true _ _ h) (λ h. eqb-true _ _ h) h) (λ p. rw (le-leb (last % 16) 9 p.0, p.1) refl)).found v h in
     (d.0, d.1.0, d.1.1)
 
-and_some : {A B : Type 0} (o : Option A) (f : A → Option B) (b : B) → and_then o f ≡ Some b → (a : A) × (o ≡ Some a) × (f a ≡ Some b)
-and_some None f b h = absurd cc
-and_some (Some a) f b h = (a, refl, h)
-
 imsi_of_found : (front : List ℕ) (last v : ℕ) → length front ≡ 7 → imsi_of front last ≡ Some v → IsImsi (front ++ last ∷ []) v
 imsi_of_found front last v seven h =
     let x = and_some (number_from pair_of 100 0 front) (λ n. passing (leb (last % 16) 9 && eqb (last / 16) 15) (10 * n + last % 16)) v h in
@@ -57,21 +50,9 @@ imsi_of_back v few =
     let high : (v % 10 + 240) / 16 ≡ 15 = omega arith in
     rw (digits_back pair_run pair_of 100 (λ n few. pair_back n few) 7 0 (v / 10) front, low, high, le-leb (v % 10) 9 (omega arith)) (ap (λ x. Some x) (omega arith))
 
-pub coded_length : (k v : ℕ) → length (coded pair_run 100 k v) ≡ k
-unfolding coded
-coded_length zero v = refl
-coded_length (suc k) v = ap suc (coded_length k (v % 100 ^ k))
-
-no_octets : (xs : List ℕ) → length xs ≡ 0 → xs ≡ []
-no_octets [] e = refl
-no_octets (x ∷ xs) e = absurd (omega arith)
-
-drop_all : (xs : List ℕ) (n : ℕ) → length xs ≤ n → drop n xs ≡ []
-drop_all xs n few = no_octets (drop n xs) (omega (arith, length-drop n xs))
-
 eight_parts : (octets : List ℕ) → length octets ≡ 8 → octets ≡ take 7 octets ++ get_or octets 7 0 ∷ []
 eight_parts octets eight =
-    sym (take-append-drop 7 octets) ∙ ap (λ more. take 7 octets ++ more) (drop-cons octets 7 0 (omega arith) ∙ ap (λ more. get_or octets 7 0 ∷ more) (drop_all octets 8 (omega arith)))
+    sym (take-append-drop 7 octets) ∙ ap (λ more. take 7 octets ++ more) (drop-cons octets 7 0 (omega arith) ∙ ap (λ more. get_or octets 7 0 ∷ more) (drop_all 8 octets (omega arith)))
 
 pub imsi_decides : (octets : List ℕ) → Decides (imsi.decode octets) (imsi.Means octets)
 unfolding imsi_decode
@@ -89,47 +70,9 @@ imsi_decides octets = record {
     only : (v : ℕ) → v < 10 ^ 15 → imsi_decode (imsi_run v) ≡ Some v
     only v few =
         let front = coded pair_run 100 7 (v / 10) in
-        let seven : length front ≡ 7 = coded_length 7 (v / 10) in
+        let seven : length front ≡ 7 = coded_length pair_run 100 7 (v / 10) in
         let eight : length (front ++ (v % 10 + 240) ∷ []) ≡ 8 = omega (arith, seven, length-append front ((v % 10 + 240) ∷ [])) in
         rw (eight, take_at front ((v % 10 + 240) ∷ []) 7 seven, get_or-append_right front ((v % 10 + 240) ∷ []) 7 7 0 seven (omega arith)) (imsi_of_back v few)
-
--- ---- read pair by pair
-
-pub number_few : (octets : List ℕ) (n : ℕ) → length octets ≡ 7 → number_from pair_of 100 0 octets ≡ Some n → n < 10 ^ 14
-number_few octets n seven h =
-    let d = digits_found pair_run pair_of 100 (λ o n h. pair_found o n h) 7 0 n octets seven h in
-    let few : d.0 < 10 ^ 14 = d.1 in
-    omega (arith, few, d.2)
-
-pub number_fits : (i n : ℕ) → i < 7 → n < 100 ^ i → 100 * n + 99 < 2 ^ 64
-number_fits i n few h =
-    let e : i ≤ 6 = omega arith in
-    let most : 100 ^ i ≤ 100 ^ 6 = pow-le-pow_right (omega arith) e in
-    omega arith
-
-pub number_more : (i n d : ℕ) → n < 100 ^ i → d < 100 → 100 * n + d < 100 ^ (i + 1)
-number_more i n d h g =
-    let e : 100 ^ (i + 1) ≡ 100 ^ i * 100 = pow_more 100 i in
-    omega arith
-
--- one more pair
-step_at : (n octet : ℕ) (octets : List ℕ) → number_from pair_of 100 n (octet ∷ octets) ≡ and_then (pair_of octet) (λ d. number_from pair_of 100 (100 * n + d) octets)
-unfolding number_from
-step_at n octet octets = refl
-
-pub pair_at : (i n d m : ℕ) (octets : List ℕ) → i < length octets → pair_of (get_or octets i 0) ≡ Some d → m ≡ d → number_from pair_of 100 (100 * n + m) (drop (i + 1) octets) ≡ number_from pair_of 100 n (drop i octets)
-pair_at i n d m octets within h e =
-    let rest = drop (i + 1) octets in
-    rw (drop_more octets i 0 within, e) (sym (step_at n (get_or octets i 0) rest ∙ rw h refl))
-
-pub no_pair : (i n : ℕ) (octets : List ℕ) → i < length octets → pair_of (get_or octets i 0) ≡ None → number_from pair_of 100 n (drop i octets) ≡ None
-no_pair i n octets within h =
-    let rest = drop (i + 1) octets in
-    rw (drop_more octets i 0 within) (step_at n (get_or octets i 0) rest ∙ rw h refl)
-
-pub number_end : (i n : ℕ) (octets : List ℕ) → length octets ≤ i → number_from pair_of 100 n (drop i octets) ≡ Some n
-unfolding number_from
-number_end i n octets past = rw (no_octets (drop i octets) (omega (arith, length-drop i octets))) refl
 
 -- the octets of an IMSI as the program makes them
 pub imsi_octets_are : (v a b c d e f g : ℕ)
@@ -149,4 +92,4 @@ imsi_octets_are v a b c d e f g ha hb hc hd he hf hg =
     rw (ha, hb, hc, hd, he, hf, last) refl
 
 pub imsi_length : (v : ℕ) → length (imsi_run v) ≡ 8
-imsi_length v = omega (arith, coded_length 7 (v / 10), length-append (coded pair_run 100 7 (v / 10)) ((v % 10 + 240) ∷ []))
+imsi_length v = omega (arith, coded_length pair_run 100 7 (v / 10), length-append (coded pair_run 100 7 (v / 10)) ((v % 10 + 240) ∷ []))

@@ -2,11 +2,10 @@
 //! an IMSI and an access point name are exact.
 
 ghost use Rattle.std.specs.Prelude.{◌≡◌, ◌^◌, ◌<◌, ◌≤◌, IfSome, option_map, length};
-ghost use Rattle.tlv_elements.specs.Digits.{number_from};
 ghost use Rattle.gtp2_ies.specs.Values.{exactly, cause, ebi, fteid, address, no_address, rates, qos, apn, imsi, pair_of};
 
 use echo_base::{Reason, Refusal};
-use tlv_elements::Left;
+use tlv_elements::{Digit, Left, number_of};
 
 /// What is due inside a value: whatever it is, its element is told to be of wrong form.
 const DUE: Refusal = Refusal {
@@ -121,33 +120,26 @@ pub fn apn(octets: &[u8]) -> Option<&[u8]>
     Some(text)
 }
 
-/// The two digits of an octet, the first in the low half.
-fn pair_of(octet: u8) -> Option<u8>
-    ensures value { result ≡ pair_of octet }
-    ensures range { IfSome result (λ n. n < 100) }
-{
-    let first = octet % 16;
-    let second = octet / 16;
-    if first > 9 || second > 9 {
-        return None;
-    }
-    Some(10 * first + second)
-}
+/// Two decimal digits, the first in the low half of the octet (8.3, TBCD).
+struct Tbcd;
 
-/// The number of seven pairs of digits.
-fn number_of(octets: &[u8]) -> Option<u64>
-    requires { length octets.now ≡ 7 }
-    ensures value { result ≡ number_from pair_of 100 0 octets.now }
-    ensures range { IfSome result (λ n. n < 10 ^ 14) }
-{
-    let mut number: u64 = 0;
-    for octet in octets {
-        let Some(pair) = pair_of(*octet) else {
-            return None;
-        };
-        number = 100 * number + u64::from(pair);
+impl Digit for Tbcd {
+    ghost base = { 100 };
+
+    ghost digit = { pair_of };
+
+    fn base() -> u64 {
+        100
     }
-    Some(number)
+
+    fn read(octet: u8) -> Option<u8> {
+        let first = octet % 16;
+        let second = octet / 16;
+        if first > 9 || second > 9 {
+            return None;
+        }
+        Some(10 * first + second)
+    }
 }
 
 /// The IMSI (8.3).
@@ -159,7 +151,7 @@ pub fn imsi(octets: &[u8]) -> Option<u64>
     if octets.len() != 8 {
         return None;
     }
-    let n = number_of(&octets[..7])?;
+    let n = number_of::<Tbcd>(&octets[..7])?;
     let last = octets[7];
     if last % 16 > 9 || last / 16 != 15 {
         return None;

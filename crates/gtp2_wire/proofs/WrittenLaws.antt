@@ -8,11 +8,12 @@ use Rattle.tlv_elements.specs.Element.{Element, truncated}
 use Rattle.tlv_elements.specs.Reading.{is_of}
 use Rattle.tlv_elements.specs.Grammar.{Rows, Framed, named, first, HoldsAll, law_of, RightBy, IsRight, AreRight, lacks, Law, law, laws, value, and_then, rows_run}
 use Rattle.tlv_elements.specs.Piece.{piece_in, given_in}
+use Rattle.tlv_elements.proofs.Digits.{coded_length}
 use Rattle.tlv_elements.proofs.Writes.{IsWritten, NamedAll, WrittenAll, FitsAll, written_holds, rows_pairs, of_itself}
 use Rattle.gtp2_ies.specs.Frame.{frame_in, frame_run, gtp}
 use Rattle.gtp2_ies.specs.Picking.{found, other_than_16, rejecting}
-use Rattle.gtp2_ies.specs.Values.{cause}
-use Rattle.gtp2_ies.proofs.ImsiLaws.{coded_length, imsi_length}
+use Rattle.gtp2_ies.specs.Values.{cause, pair_run}
+use Rattle.gtp2_ies.proofs.ImsiLaws.{imsi_length}
 use Rattle.gtp2_wire.specs.declared.gtp.Gtp.{Gtp}
 use Rattle.gtp2_wire.specs.declared.gtp.GtpBody.{GtpBody}
 use Rattle.gtp2_wire.specs.declared.gtp.GtpBody.TheVariants as body
@@ -112,7 +113,7 @@ cause_fits : (c : ℕ) → c < 256 → FitsIn cause_alone (c, tt)
 cause_fits c few = ((few, (omega arith, omega arith)), tt)
 
 pub create_length : (i b u d addr c : ℕ) (a : List ℕ) → length (body_run (body.Create i b a u d addr c)) ≡ 96 + length a
-create_length i b u d addr c a = (let seven = coded_length 7 (i / 10) in simp length-append (omega arith))
+create_length i b u d addr c a = (let seven = coded_length pair_run 100 7 (i / 10) in simp length-append (omega arith))
 
 pub body_small : (b : GtpBody) → IsBody b → length (body_run b) < 1000
 body_small (body.Create i b a u d addr c) is = (let few : length a ≤ 30 = is.2.1 in omega (arith, create_length i b u d addr c a))
