@@ -1,7 +1,7 @@
 //! Pieces that begin at an octet, read from left to right.
 
 ghost use Rattle.std.specs.Prelude.{◌≡◌, ◌+◌, ◌*◌, ◌<◌, ◌≤◌, ◌∷◌, [], ◌++◌, IfSome, length};
-ghost use Rattle.s1ap_ies.specs.Criticalities.{criticality_number};
+ghost use Rattle.protocol_ies.specs.Criticalities.{criticality_number};
 ghost use Rattle.aper_octets.specs.Octets.{count_octets, counted, least_octets, number_octets, ie_octets};
 
 use s1ap_ies::Criticality;

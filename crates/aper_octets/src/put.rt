@@ -1,7 +1,7 @@
 //! Pieces that begin at an octet, written one behind another.
 
 ghost use Rattle.std.specs.Prelude.{◌≡◌, ◌+◌, ◌-◌, ◌*◌, ◌<◌, ◌≤◌, ◌∷◌, ◌++◌, IfOk, IfSome, OnOk, length, take, drop};
-ghost use Rattle.s1ap_ies.specs.Criticalities.{criticality_number};
+ghost use Rattle.protocol_ies.specs.Criticalities.{criticality_number};
 ghost use Rattle.aper_octets.specs.Octets.{count_octets, counted, least_octets, number_octets};
 
 use device_types::Octets;

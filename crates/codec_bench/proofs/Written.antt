@@ -8,7 +8,7 @@ use Rattle.s1ap_pdu.specs.declared.pdu.Pdu.{Pdu}
 use Rattle.aper_fields.specs.Run.{◌▸◌, fixed_bits_run, number_run, open_run}
 use Rattle.aper_fields.proofs.NotEmpty.{first_some, bit_some}
 use Rattle.aper_fields.proofs.Packed.{length-packed}
-use Rattle.s1ap_ies.specs.Criticalities.{criticality_number}
+use Rattle.protocol_ies.specs.Criticalities.{criticality_number}
 use Rattle.aper_fields.specs.Asn1.{index_run}
 use Rattle.s1ap_pdu.specs.Messages.{outcome_index, header_of, kind_of, values_of}
 use Rattle.s1ap_pdu.specs.Run.{header_run, ies_run, pdu_run, written}

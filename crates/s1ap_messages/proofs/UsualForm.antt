@@ -16,7 +16,7 @@ use Rattle.s1ap_pdu.specs.Messages.{rows_of}
 use Rattle.s1ap_ies.specs.declared.stmsi.Stmsi.{Stmsi}
 use Rattle.aper_fields.specs.Asn1.{run}
 use Rattle.s1ap_ies.proofs.Items.{dones_fit, dones_right, setups_fit, setups_right}
-use Rattle.s1ap_ies.specs.Criticalities.{criticality_number}
+use Rattle.protocol_ies.specs.Criticalities.{criticality_number}
 use Rattle.s1ap_pdu.specs.declared.value.IeValue.TheVariants as value
 use Rattle.s1ap_pdu.specs.declared.pdu.Pdu.{Pdu}
 use Rattle.s1ap_pdu.specs.declared.pdu.Pdu.TheVariants as pdu

@@ -17,8 +17,8 @@ use Rattle.aper_octets.specs.Values.{tai_octets, cgi_octets, stmsi_octets, caps_
 use Rattle.s1ap_pdu.specs.declared.tables.IeRow.{IeRow}
 use Rattle.s1ap_pdu.specs.declared.tables.MessageKind.{MessageKind}
 use Rattle.s1ap_pdu.specs.Messages.{rows_of}
-use Rattle.s1ap_ies.specs.Criticalities as level
-use Rattle.s1ap_ies.specs.Criticalities.{criticality_number}
+use Rattle.protocol_ies.specs.Criticalities as level
+use Rattle.protocol_ies.specs.Criticalities.{criticality_number}
 use Rattle.s1ap_ies.specs.declared.names.TheConstants as names
 use Rattle.s1ap_pdu.specs.declared.header.Header.{Header}
 use Rattle.s1ap_pdu.specs.declared.pdu.Pdu.{Pdu}

@@ -2,7 +2,7 @@
 use Rattle.std.proofs.Common.{◌≡◌, ℕ, suc, Bool, true, false, ◌&&◌, eqb, List, [], ◌∷◌, Option, Some, None, option_map, Result, Ok, Err, refl, sym, ap}
 use Rattle.s1ap_pdu.specs.declared.pdu.Pdu.{Pdu}
 use Rattle.std.proofs.lemmas.Bool.{and_parts}
-use Rattle.s1ap_ies.specs.declared.criticality.Criticality.{Criticality}
+use Rattle.protocol_ies.specs.declared.criticality.Criticality.{Criticality}
 use Rattle.s1ap_pdu.specs.declared.tables.IeRow.{IeRow}
 use Rattle.s1ap_pdu.specs.Values.{FieldValue, IeType, ie_with, id_of}
 use Rattle.s1ap_pdu.proofs.Ies.{own_id}

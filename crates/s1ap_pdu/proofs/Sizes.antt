@@ -6,7 +6,7 @@ use Rattle.std.proofs.lemmas.List.{length-append}
 use Rattle.std.proofs.lemmas.List.Sums.{sum_by-cons}
 use Rattle.s1ap_pdu.specs.declared.tables.IeRow.{IeRow}
 use Rattle.aper_fields.specs.Asn1.{item_run}
-use Rattle.s1ap_ies.specs.Criticalities.{criticality_number}
+use Rattle.protocol_ies.specs.Criticalities.{criticality_number}
 use Rattle.s1ap_pdu.specs.Values.{FieldValue}
 use Rattle.s1ap_pdu.specs.Grammar.{Ie, Named, Other, found}
 use Rattle.s1ap_pdu.specs.Run.{value_run, ie_run, fields_run}

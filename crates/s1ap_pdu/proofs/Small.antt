@@ -7,7 +7,7 @@ use Rattle.s1ap_pdu.specs.declared.tables.IeRow.{IeRow}
 use Rattle.s1ap_pdu.specs.declared.tables.MessageKind.{MessageKind}
 use Rattle.s1ap_pdu.specs.Messages.{rows_of}
 use Rattle.aper_fields.proofs.Sizes.{item_takes, takes_of, most_of}
-use Rattle.s1ap_ies.specs.Criticalities.{criticality_number}
+use Rattle.protocol_ies.specs.Criticalities.{criticality_number}
 use Rattle.s1ap_pdu.specs.declared.pdu.Pdu.{Pdu}
 use Rattle.s1ap_pdu.specs.Values.{FieldValue, asn1_of}
 use Rattle.s1ap_pdu.specs.Messages.{kind_of, values_of}

@@ -18,7 +18,7 @@ use Rattle.aper_fields.specs.Asn1.{index_run, format, item_run}
 use Rattle.aper_fields.specs.Format.{IsSpelledBy}
 use Rattle.s1ap_pdu.proofs.Distinct.{ids_distinct, few_rows}
 use Rattle.aper_fields.proofs.Spelled.{choice_spelled}
-use Rattle.s1ap_ies.specs.Criticalities.{criticality_number}
+use Rattle.protocol_ies.specs.Criticalities.{criticality_number}
 use Rattle.s1ap_pdu.specs.declared.pdu.Pdu.{Pdu}
 use Rattle.s1ap_pdu.specs.declared.pdu.Pdu.TheVariants as pdus
 use Rattle.aper_fields.specs.Many.{InOrder}

@@ -1,8 +1,8 @@
 -- The messages (TS 36.413, 9.1): how each begins, who sends it, and its IEs in order.
 use Rattle.std.specs.Prelude.{ℕ, codes, Bool, true, false, List, [], ◌∷◌, Option, Some, None, Result, Ok, Err}
 use Rattle.s1ap_ies.specs.declared.names.TheConstants as names
-use Rattle.s1ap_ies.specs.declared.criticality.Criticality.{Criticality}
-use Rattle.s1ap_ies.specs.declared.criticality.Criticality.TheVariants.{Reject, Ignore}
+use Rattle.protocol_ies.specs.declared.criticality.Criticality.{Criticality}
+use Rattle.protocol_ies.specs.declared.criticality.Criticality.TheVariants.{Reject, Ignore}
 use Rattle.s1ap_pdu.specs.declared.tables.IeRow.{IeRow}
 use Rattle.s1ap_pdu.specs.declared.tables.MessageKind.{MessageKind}
 use Rattle.s1ap_pdu.specs.declared.tables.MessageKind.TheVariants as kind

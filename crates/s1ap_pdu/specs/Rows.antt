@@ -2,7 +2,7 @@
 use Rattle.std.specs.Prelude.{ℕ, suc, true, false, List, [], ◌∷◌, Option, Some, None, option_map, Result, Ok, Err, slice_index_or}
 use Rattle.s1ap_pdu.specs.declared.tables.IeRow.{IeRow}
 use Rattle.echo_base.specs.Answer.{◌>>=◌}
-use Rattle.s1ap_ies.specs.declared.criticality.Criticality.{Criticality}
+use Rattle.protocol_ies.specs.declared.criticality.Criticality.{Criticality}
 use Rattle.s1ap_pdu.specs.Values.{FieldValue, IeType, ie_with}
 
 -- an IE that a message has to have, or may have, by its id, with its criticality; A is the field's type

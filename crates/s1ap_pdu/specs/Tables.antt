@@ -1,6 +1,6 @@
 -- The rows of tables, as the program keeps them.
 use Rattle.std.specs.Prelude.{ℕ, Bool, true, false}
-use Rattle.s1ap_ies.specs.declared.criticality.Criticality.TheVariants.{Reject, Ignore}
+use Rattle.protocol_ies.specs.declared.criticality.Criticality.TheVariants.{Reject, Ignore}
 use Rattle.s1ap_pdu.specs.declared.tables.IeRow.{IeRow}
 use Rattle.s1ap_pdu.specs.declared.tables.Sender.{Sender}
 use Rattle.s1ap_pdu.specs.declared.tables.Sender.TheVariants.{Up, Down}

@@ -2,7 +2,7 @@
 
 ghost use Rattle.std.specs.Prelude.{◌≡◌, ◌+◌, ◌-◌, ◌<◌, ◌≤◌, List, Option, ◌∷◌, [], ◌++◌, IfSome, OnOk, Some, length, replicate, option_map};
 ghost use Rattle.std.specs.List.{AllByRecursion};
-ghost use Rattle.s1ap_ies.specs.Criticalities.{criticality_number};
+ghost use Rattle.protocol_ies.specs.Criticalities.{criticality_number};
 ghost use Rattle.s1ap_pdu.specs.Tables.{no_row};
 ghost use Rattle.s1ap_pdu.specs.Messages.{rows_of};
 ghost use Rattle.s1ap_pdu.specs.Run.{count_of, IsRightValue, IsRightField};

@@ -1,7 +1,7 @@
 //! Octet strings in IEs, read from their octets and written as them.
 
 ghost use Rattle.std.specs.Prelude.{◌≡◌, ◌<◌, ◌≤◌, ◌++◌, IfSome, OnOk, length};
-ghost use Rattle.s1ap_ies.specs.Criticalities.{criticality_number};
+ghost use Rattle.protocol_ies.specs.Criticalities.{criticality_number};
 ghost use Rattle.s1ap_pdu.specs.declared.value.IeValue.TheVariants as value;
 ghost use Rattle.aper_octets.specs.Octets.{counted, ie_octets};
 

@@ -2,7 +2,7 @@
 
 ghost use Rattle.std.specs.Prelude.{◌≡◌, ◌^◌, ◌<◌, ◌++◌, OnOk};
 ghost use Rattle.s1ap_ies.specs.declared.ue_ids.UeIds.TheVariants.{Pair};
-ghost use Rattle.s1ap_ies.specs.Criticalities.{criticality_number};
+ghost use Rattle.protocol_ies.specs.Criticalities.{criticality_number};
 ghost use Rattle.s1ap_pdu.specs.declared.value.IeValue.TheVariants as value;
 ghost use Rattle.aper_octets.specs.Octets.{number_octets, ie_octets};
 ghost use Rattle.s1ap_messages.specs.Usual.{ids_octets};

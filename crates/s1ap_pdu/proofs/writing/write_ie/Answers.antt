@@ -1,6 +1,6 @@
 -- A value that is written behind the start of its IE, and counted then, gives that IE whole; it is short enough to be counted.
 use Rattle.std.proofs.lemmas.Result.{on_ok_weaker}
-use Rattle.s1ap_ies.specs.Criticalities.{criticality_number}
+use Rattle.protocol_ies.specs.Criticalities.{criticality_number}
 use Rattle.s1ap_pdu.specs.Values.{seen}
 use Rattle.s1ap_pdu.specs.Run.{ie_run, value_run, IsRightField}
 use Rattle.s1ap_pdu.proofs.Ies.{value_periodic}

@@ -1,6 +1,6 @@
 -- The kind that was found begins with these octets.
 use Rattle.std.proofs.Common.{ℕ, ◌*◌, ap, sym, ◌∙◌}
-use Rattle.s1ap_ies.specs.Criticalities.{criticality_number}
+use Rattle.protocol_ies.specs.Criticalities.{criticality_number}
 use Rattle.s1ap_pdu.specs.declared.header.Header.{Header}
 use Rattle.s1ap_messages.proofs.UsualForm.{kind_begins}
 use Rattle.s1ap_messages.proofs.usual.kinds.kind_of_header.Goals as goal

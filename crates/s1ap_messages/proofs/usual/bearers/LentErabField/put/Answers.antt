@@ -1,5 +1,5 @@
 -- An E-RAB behind the heads of its list and of its item is a list of one.
-use Rattle.s1ap_ies.specs.Criticalities.{criticality_number}
+use Rattle.protocol_ies.specs.Criticalities.{criticality_number}
 use Rattle.s1ap_messages.specs.Lent.{erab_of}
 use Rattle.s1ap_messages.proofs.UsualWrite.{setups_put}
 use Rattle.s1ap_messages.proofs.usual.bearers.LentErabField.put.Goals as goal

@@ -1,6 +1,6 @@
 -- Two numbers behind the head of an IE are the octets of the bit rates.
 use Rattle.std.proofs.Common.{arith}
-use Rattle.s1ap_ies.specs.Criticalities.{criticality_number}
+use Rattle.protocol_ies.specs.Criticalities.{criticality_number}
 use Rattle.aper_octets.specs.Octets.{number_octets}
 use Rattle.s1ap_messages.specs.Usual.{rates_octets}
 use Rattle.s1ap_messages.proofs.UsualWrite.{two_put, number_length}
