@@ -1,8 +1,8 @@
 -- Lengths, and octets behind them.
-use Rattle.std.proofs.Common.{◌≡◌, ℕ, ◌+◌, ◌-◌, ◌*◌, ◌/◌, ◌%◌, ◌<◌, ◌≤◌, List, [], ◌∷◌, ◌++◌, length, take, drop, slice_set, insert, refl, sym, ◌∙◌, append_assoc, arith}
+use Rattle.std.proofs.Common.{◌≡◌, ℕ, ◌+◌, ◌-◌, ◌*◌, ◌/◌, ◌%◌, ◌<◌, ◌≤◌, List, [], ◌∷◌, ◌++◌, length, Option, Some, None, IfSome, take, drop, slice_set, insert, refl, sym, ◌∙◌, append_assoc, arith}
 use Rattle.std.proofs.lemmas.Bool.{lt-ltb, le-ltb}
 use Rattle.std.proofs.lemmas.List.{length-append, take-append-drop}
-use Rattle.aper_octets.specs.Octets.{count_octets, counted}
+use Rattle.aper_octets.specs.Octets.{count_octets, counted, ie_octets}
 
 pub short_count : (n : ℕ) → n < 128 → count_octets n ≡ n ∷ []
 unfolding count_octets
@@ -21,6 +21,12 @@ unfolding counted
 counted_front octets rest front back n e f b l =
     let whole : front ++ back ≡ rest = rw (f, b) (take-append-drop n rest) in
     e ∙ rw (← whole, l) (sym (append_assoc (count_octets n) front back))
+
+-- behind an id and a criticality
+pub ie_front : {A : Type 0} (found : Option A) (front back : A → List ℕ) (octets rest : List ℕ) (high low third id criticality : ℕ) → octets ≡ high ∷ low ∷ third ∷ rest → high ≡ 0 → low ≡ id → third ≡ 64 * criticality → IfSome found (λ x. rest ≡ counted (front x) ++ back x) → IfSome found (λ x. octets ≡ ie_octets id criticality (front x) ++ back x)
+unfolding ie_octets
+ie_front None front back octets rest high low third id criticality e h l t stands = tt
+ie_front (Some x) front back octets rest high low third id criticality e h l t stands = e ∙ rw (h, l, t, stands) refl
 
 pub counted_length : (octets : List ℕ) → length (counted octets) ≡ length (count_octets (length octets)) + length octets
 unfolding counted

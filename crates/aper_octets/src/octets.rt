@@ -29,7 +29,6 @@ pub fn three(octets: &[u8]) -> Option<(u8, u8, u8, &[u8])>
 }
 
 /// The length that two octets tell, where one would not hold it.
-#[tactic(auto, using(crate::proofs::Lengths::long_count))]
 fn long_count(a: u8, b: u8) -> Option<usize>
     ensures octets { IfSome result (λ n. count_octets n ≡ a ∷ b ∷ []) }
     ensures few { IfSome result (λ n. n < 16384) }
@@ -71,7 +70,6 @@ pub fn counted(octets: &[u8]) -> Option<(&[u8], &[u8])>
 
 /// What an IE contains, and what stands behind it. An item of a list has the same form.
 #[inline(always)]
-#[tactic(auto, unfolding(crate::specs::Octets::ie_octets))]
 pub fn ie(octets: &[u8], id: u16, criticality: Criticality) -> Option<(&[u8], &[u8])>
     ensures { IfSome result (λ x. octets.now ≡ ie_octets id (criticality_number criticality) x.0.now ++ x.1.now) }
 {
