@@ -2,12 +2,7 @@
 use Rattle.std.specs.Prelude.{◌≡◌, ℕ, ◌+◌, ◌-◌, ◌*◌, ◌<◌, ◌≤◌, List, [], ◌∷◌, ◌++◌, length, Option, Some, None, is_some, IfSome, unwrap_or, if◌then◌else◌}
 use Rattle.std.specs.List.{AllByRecursion}
 use Rattle.aper_fields.specs.declared.enumerated.EnumValue.{EnumValue}
-use Rattle.s1ap_ies.specs.declared.tai.Tai.{Tai}
-use Rattle.s1ap_ies.specs.declared.cgi.Cgi.{Cgi}
-use Rattle.s1ap_ies.specs.declared.stmsi.Stmsi.{Stmsi}
 use Rattle.s1ap_ies.specs.declared.bit_rates.BitRates.{BitRates}
-use Rattle.s1ap_ies.specs.declared.sec_caps.SecCaps.{SecCaps}
-use Rattle.s1ap_ies.specs.declared.cause.Cause.{Cause}
 use Rattle.s1ap_ies.specs.declared.ue_ids.UeIds.{UeIds}
 use Rattle.s1ap_ies.specs.declared.ue_ids.UeIds.TheVariants.{Pair, Mme}
 use Rattle.s1ap_ies.specs.declared.erab_done.ErabDone.{ErabDone}
