@@ -1,2 +1,4 @@
 pub mod Criticalities
 pub mod Lists
+pub mod Tables
+pub mod Slots

@@ -9,7 +9,7 @@ use Rattle.aper_fields.specs.Run.{fixed_bits_run, number_run}
 use Rattle.aper_fields.specs.Spelling.{IsOctets}
 use Rattle.aper_fields.proofs.BitLaws.{length-bits, length-bits_of}
 use Rattle.aper_fields.proofs.Packed.{IsBytes, packed_is}
-use Rattle.s1ap_pdu.specs.declared.tables.IeRow.{IeRow}
+use Rattle.protocol_ies.specs.declared.tables.IeRow.{IeRow}
 use Rattle.s1ap_pdu.specs.declared.tables.MessageKind.{MessageKind}
 use Rattle.s1ap_pdu.specs.declared.tables.MessageKind.TheVariants as kind
 use Rattle.s1ap_pdu.specs.Messages.{rows_of}
@@ -23,7 +23,8 @@ use Rattle.s1ap_pdu.specs.declared.pdu.Pdu.TheVariants as pdu
 use Rattle.s1ap_pdu.specs.Messages.{outcome_index, header_of, kinds, kind_of, values_of}
 use Rattle.s1ap_pdu.specs.Grammar.{Spells, kind_among, kind_with}
 use Rattle.s1ap_pdu.specs.Built.{message_at}
-use Rattle.s1ap_pdu.specs.Run.{value_run, ie_run, fields_run, ies_run, header_run, pdu_run, written, count_of, IsShort, IsRightValue, IsRightField, IsRight, HasOctetsIn, HasOctets}
+use Rattle.protocol_ies.specs.Slots.{count_of}
+use Rattle.s1ap_pdu.specs.Run.{value_run, ie_run, fields_run, ies_run, header_run, pdu_run, written, IsShort, IsRightValue, IsRightField, IsRight, HasOctetsIn, HasOctets}
 use Rattle.aper_octets.specs.Octets.{counted, ie_octets}
 use Rattle.s1ap_messages.specs.Usual.{octets_of, value_octets, Given, HasForm, IsUsualValue, fields_octets, body_octets, message_octets, usual_octets, unfinished_octets, HasForms, IsPut, HasUsualValues, IsUsual, AreFieldsOf, AreSmallIds, BeginsAs}
 use Rattle.s1ap_pdu.specs.Values.{FieldValue}

@@ -9,7 +9,7 @@ use Rattle.s1ap_ies.specs.declared.erab_done.ErabDone.{ErabDone}
 use Rattle.s1ap_ies.specs.declared.erab_to_setup.ErabToSetup.{ErabToSetup}
 use Rattle.aper_octets.specs.Octets.{counted, four_octets, number_octets, ie_octets}
 use Rattle.aper_octets.specs.Values.{tai_octets, cgi_octets, stmsi_octets, caps_octets, cause_octets}
-use Rattle.s1ap_pdu.specs.declared.tables.IeRow.{IeRow}
+use Rattle.protocol_ies.specs.declared.tables.IeRow.{IeRow}
 use Rattle.s1ap_pdu.specs.declared.tables.MessageKind.{MessageKind}
 use Rattle.s1ap_pdu.specs.Messages.{rows_of}
 use Rattle.protocol_ies.specs.Criticalities as level
@@ -21,7 +21,8 @@ use Rattle.s1ap_pdu.specs.declared.pdu.Pdu.TheVariants as pdu
 use Rattle.s1ap_pdu.specs.declared.value.IeValue.TheVariants as value
 use Rattle.s1ap_pdu.specs.Values.{FieldValue}
 use Rattle.s1ap_pdu.specs.Messages.{outcome_index, header_of, kind_of, values_of}
-use Rattle.s1ap_pdu.specs.Run.{count_of, IsRightValue}
+use Rattle.protocol_ies.specs.Slots.{count_of}
+use Rattle.s1ap_pdu.specs.Run.{IsRightValue}
 
 -- ---- values
 

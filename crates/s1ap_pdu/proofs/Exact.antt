@@ -14,7 +14,7 @@ use Rattle.s1ap_pdu.specs.declared.pdu.Pdu.{Pdu}
 use Rattle.s1ap_pdu.specs.Messages.{kind_of, values_of, is_downlink}
 use Rattle.s1ap_pdu.specs.Grammar as grammar
 use Rattle.s1ap_pdu.specs.Grammar.{Ie, pdu_in, ies_in, start, AreIes, fields_of, Spells, SpellsUplink, RefusedUplink, missing}
-use Rattle.s1ap_pdu.specs.Reading.{lacking}
+use Rattle.protocol_ies.specs.Slots.{lacking}
 use Rattle.s1ap_pdu.specs.Built.{at_end, message_at, received, uplink_at}
 use Rattle.s1ap_pdu.specs.Messages.{message_from}
 use Rattle.echo_base.specs.Answer.{Answers, IsAnswer}

@@ -7,14 +7,15 @@ use Rattle.echo_base.specs.declared.refusal.Bad.TheVariants.{Refused, OutOfMemor
 use Rattle.aper_fields.specs.Reading.{whole_at}
 use Rattle.echo_base.proofs.Answers.{bind, ok_of, ok_err, answers_refused}
 use Rattle.aper_fields.proofs.Containers.{whole_found}
-use Rattle.s1ap_pdu.specs.declared.tables.IeRow.{IeRow}
+use Rattle.protocol_ies.specs.declared.tables.IeRow.{IeRow}
 use Rattle.s1ap_pdu.specs.declared.tables.MessageKind.{MessageKind}
 use Rattle.s1ap_pdu.specs.Messages.{rows_of}
 use Rattle.s1ap_pdu.specs.declared.pdu.Pdu.{Pdu}
 use Rattle.s1ap_pdu.specs.Messages.{kind_of, values_of, is_downlink}
 use Rattle.s1ap_pdu.specs.Grammar as grammar
 use Rattle.s1ap_pdu.specs.Grammar.{Ie, found, fields_of, pdu_in, start, AreIes, Spells, SpellsUplink, RefusedUplink}
-use Rattle.s1ap_pdu.specs.Reading.{pdu_at, lacking}
+use Rattle.protocol_ies.specs.Slots.{lacking}
+use Rattle.s1ap_pdu.specs.Reading.{pdu_at}
 use Rattle.s1ap_pdu.specs.Rows.{Slots}
 use Rattle.s1ap_pdu.specs.Built.{at_end, message_at, received, uplink_at}
 use Rattle.s1ap_pdu.specs.Messages.{message_from}

@@ -8,7 +8,7 @@ use Rattle.aper_fields.specs.Reading.{Input, Read, number_at, open_at, whole_at,
 use Rattle.aper_fields.specs.Format as formats
 use Rattle.aper_fields.specs.Format.{either, just}
 use Rattle.echo_base.proofs.Answers.{bind, bind_same, bind_assoc, ok_of}
-use Rattle.s1ap_pdu.specs.declared.tables.IeRow.{IeRow}
+use Rattle.protocol_ies.specs.declared.tables.IeRow.{IeRow}
 use Rattle.s1ap_pdu.specs.declared.tables.MessageKind.{MessageKind}
 use Rattle.s1ap_pdu.specs.declared.tables.MessageKind.TheVariants as kind
 use Rattle.s1ap_pdu.specs.Messages.{rows_of}
@@ -18,7 +18,9 @@ use Rattle.aper_fields.specs.Many.{many_at, inside, inside_at, looked_up_at, ans
 use Rattle.aper_fields.proofs.Maps.{Maps, behind_maps, whole_maps, contained_maps}
 use Rattle.s1ap_pdu.specs.Values.{FieldValue, value_type}
 use Rattle.s1ap_pdu.specs.Grammar.{Ie, Named, Other, found, new_id, has_ie, ie_in}
-use Rattle.s1ap_pdu.specs.Reading.{empty, place_of, is_filled, free_id, content_at, ie_at, noted, fields_at, header_at, ies_at, pdu_at}
+use Rattle.protocol_ies.specs.Tables.{place_of}
+use Rattle.protocol_ies.specs.Slots.{empty, is_filled, free_id, noted}
+use Rattle.s1ap_pdu.specs.Reading.{content_at, ie_at, fields_at, header_at, ies_at, pdu_at}
 use Rattle.s1ap_pdu.specs.Rows.{Slots}
 use Rattle.aper_fields.specs.Asn1.{format, reading}
 use Rattle.s1ap_pdu.proofs.Places.{position-here, position-later, slot_is, slot_set}

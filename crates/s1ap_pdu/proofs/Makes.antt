@@ -6,7 +6,7 @@ use Rattle.aper_fields.specs.Format as formats
 use Rattle.aper_fields.specs.Format.{either, just}
 use Rattle.aper_fields.specs.Asn1.{format}
 use Rattle.aper_fields.specs.Many.{InOrder, inside}
-use Rattle.s1ap_pdu.specs.declared.tables.IeRow.{IeRow}
+use Rattle.protocol_ies.specs.declared.tables.IeRow.{IeRow}
 use Rattle.s1ap_pdu.specs.declared.tables.MessageKind.{MessageKind}
 use Rattle.s1ap_pdu.specs.declared.tables.MessageKind.TheVariants as kind
 use Rattle.s1ap_pdu.specs.declared.pdu.Pdu.{Pdu}
@@ -15,7 +15,7 @@ use Rattle.s1ap_pdu.specs.Values.{FieldValue, ie_with, value_type}
 use Rattle.s1ap_pdu.specs.Rows.{Rows, last, ◌▸◌, taken, Slots, table, values}
 use Rattle.s1ap_pdu.specs.Messages.{Message, message_of, kind_of, rows_of, values_of, made, made_from, message_from}
 use Rattle.s1ap_pdu.specs.Grammar.{Ie, Named, Other, found, has_ie, ie_in, fields_of, missing}
-use Rattle.s1ap_pdu.specs.Reading.{lacking}
+use Rattle.protocol_ies.specs.Slots.{lacking}
 use Rattle.s1ap_pdu.proofs.Ies.{known}
 use Rattle.s1ap_pdu.proofs.Kept.{slots_of}
 use Rattle.s1ap_pdu.proofs.RowLaws.{row_id, ie_of, IsOf, AreOf, front, MakesFields, makes_fields, message_back, message_whole}

@@ -1,12 +1,11 @@
 -- The slots of a table and the IEs that stand under its ids.
-use Rattle.std.proofs.Common.{◌≡◌, ℕ, suc, ◌+◌, ◌-◌, ◌<◌, Bool, true, false, ◌&&◌, cond, eqb, ltb, List, [], ◌∷◌, ◌++◌, length, map, get_or, take, drop, Option, Some, None, is_none, option_map, refl, sym, ap, ◌∙◌, subst, inl, inr, arith}
+use Rattle.std.proofs.Common.{◌≡◌, ℕ, suc, ◌+◌, ◌<◌, Bool, true, false, cond, eqb, ltb, List, [], ◌∷◌, ◌++◌, length, map, get_or, Option, Some, None, option_map, refl, sym, ap, ◌∙◌, subst, inl, inr, arith}
 use Rattle.std.specs.List.{position, position_or_len, IsDistinct, AllByRecursion}
 use Rattle.std.proofs.Math.ListN.{set}
-use Rattle.std.proofs.lemmas.List.{drop_more, take_all}
 use Rattle.std.proofs.lemmas.Bool.{cases_Bool, cases_lt, lt-ltb, le-ltb, eqb-true, eqb-false, ne_eqb}
-use Rattle.s1ap_pdu.specs.declared.tables.IeRow.{IeRow}
+use Rattle.protocol_ies.specs.declared.tables.IeRow.{IeRow}
 use Rattle.s1ap_pdu.specs.Values.{FieldValue}
-use Rattle.s1ap_pdu.specs.Reading.{place_of, lacking}
+use Rattle.protocol_ies.specs.Tables.{place_of}
 
 abbrev Slot : Type 0
 Slot = Option FieldValue
@@ -70,22 +69,3 @@ slot_set f g v (row ∷ rows) rest id k distinct here there e =
           let other : g row.id ≡ f row.id = there row.id (ne_eqb id row.id (λ z. eqb-false row.id id n (sym z))) in
           rw x.2 (ap (λ (s : Slot). s ∷ set (map (λ r. f r.id) rows ++ rest) x.0 v) (sym other) ∙ ap (λ (l : List Slot). g row.id ∷ l) (slot_set f g v rows rest id x.0 distinct.1 here there x.1))
     ]
-
--- ---- rows without a value
-
--- the first row that is left is needed, and its place is empty
-pub lacking_here : (left : List IeRow) (d : IeRow) (values : List Slot) (place : ℕ) (all : Option ℕ) → 0 < length left → place < length values → lacking left (drop place values) ≡ all → (get_or left 0 d).needed && is_none (get_or values place None) ≡ true → Some (get_or left 0 d).id ≡ all
-unfolding lacking
-lacking_here [] d values place all some lt e t = absurd (omega arith)
-lacking_here (row ∷ later) d values place all some lt e t =
-    let here : lacking (row ∷ later) (drop place values) ≡ Some row.id = rw (drop_more values place None lt, t) refl in
-    sym here ∙ e
-
--- it is not needed, or has a value
-pub lacking_later : (left : List IeRow) (d : IeRow) (values : List Slot) (place : ℕ) (all : Option ℕ) → 0 < length left → place < length values → lacking left (drop place values) ≡ all → (get_or left 0 d).needed && is_none (get_or values place None) ≡ false → lacking (take (length left - 1) (drop 1 left)) (drop (place + 1) values) ≡ all
-unfolding lacking
-lacking_later [] d values place all some lt e f = absurd (omega arith)
-lacking_later (row ∷ later) d values place all some lt e f =
-    let behind : lacking (row ∷ later) (drop place values) ≡ lacking later (drop (place + 1) values) = rw (drop_more values place None lt, f) refl in
-    let rest : take (length (row ∷ later) - 1) later ≡ later = take_all _ later (omega arith) in
-    ap (λ (rows : List IeRow). lacking rows (drop (place + 1) values)) rest ∙ sym behind ∙ e

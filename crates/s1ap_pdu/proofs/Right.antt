@@ -14,7 +14,7 @@ use Rattle.aper_fields.specs.Spelling.{Open}
 use Rattle.aper_fields.specs.Format as formats
 use Rattle.aper_fields.specs.Format.{either, just}
 use Rattle.aper_fields.proofs.BitLaws.{length-bits}
-use Rattle.s1ap_pdu.specs.declared.tables.IeRow.{IeRow}
+use Rattle.protocol_ies.specs.declared.tables.IeRow.{IeRow}
 use Rattle.s1ap_pdu.specs.declared.tables.MessageKind.{MessageKind}
 use Rattle.s1ap_pdu.specs.Messages.{rows_of}
 use Rattle.aper_fields.specs.Sequence.{zero_bit_in}
@@ -25,7 +25,8 @@ use Rattle.aper_fields.specs.Many.{InOrder, inside}
 use Rattle.s1ap_pdu.specs.Values.{FieldValue, value_type}
 use Rattle.s1ap_pdu.specs.Messages.{kind_of}
 use Rattle.s1ap_pdu.specs.Grammar.{Ie, Named, Other, found, has_ie, fields_of, ie_in, ies_in, pdu_in, Spells}
-use Rattle.s1ap_pdu.specs.Run.{value_run, fields_run, count_of, ies_run, IsShort, IsRightValue, IsRightField, IsRight, HasOctetsIn, HasOctets}
+use Rattle.protocol_ies.specs.Slots.{count_of}
+use Rattle.s1ap_pdu.specs.Run.{value_run, fields_run, ies_run, IsShort, IsRightValue, IsRightField, IsRight, HasOctetsIn, HasOctets}
 use Rattle.echo_base.specs.Answer.{Answers}
 use Rattle.aper_fields.proofs.Ends.{EndsBy, front_ends, open_ends}
 use Rattle.aper_fields.proofs.Opens.{open_offset, open_small}

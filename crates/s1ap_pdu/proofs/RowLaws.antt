@@ -3,13 +3,13 @@ use Rattle.std.proofs.Common.{◌≡◌, ℕ, suc, Bool, true, false, ◌&&◌, 
 use Rattle.s1ap_pdu.specs.declared.pdu.Pdu.{Pdu}
 use Rattle.std.proofs.lemmas.Bool.{and_parts}
 use Rattle.protocol_ies.specs.declared.criticality.Criticality.{Criticality}
-use Rattle.s1ap_pdu.specs.declared.tables.IeRow.{IeRow}
+use Rattle.protocol_ies.specs.declared.tables.IeRow.{IeRow}
 use Rattle.s1ap_pdu.specs.Values.{FieldValue, IeType, ie_with, id_of}
 use Rattle.s1ap_pdu.proofs.Ies.{own_id}
 use Rattle.s1ap_pdu.specs.Rows.{Row, Rows, last, ◌▸◌, must, may, row_of, taken, Slots, table, value_of, values, part_of, slot, field_from, fields_from}
 use Rattle.echo_base.specs.Answer.{◌>>=◌}
 use Rattle.s1ap_pdu.specs.Messages.{Message, values_or_none, made_from}
-use Rattle.s1ap_pdu.specs.Reading.{lacking}
+use Rattle.protocol_ies.specs.Slots.{lacking}
 
 -- the id of a row, and the IE with that id
 abbrev pub row_id : {A : Type 0} → Row A → ℕ

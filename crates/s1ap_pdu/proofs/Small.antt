@@ -3,7 +3,7 @@ use Rattle.std.proofs.Common.{◌+◌, ◌*◌, ◌≤◌, List, [], ◌∷◌, 
 use Rattle.std.specs.List.{AllByRecursion}
 use Rattle.aper_fields.specs.Run.{◌▸◌, number_run, fixed_bits_run}
 use Rattle.aper_fields.proofs.Lengths.{Takes, then_takes, number_takes, fixed_bits_takes}
-use Rattle.s1ap_pdu.specs.declared.tables.IeRow.{IeRow}
+use Rattle.protocol_ies.specs.declared.tables.IeRow.{IeRow}
 use Rattle.s1ap_pdu.specs.declared.tables.MessageKind.{MessageKind}
 use Rattle.s1ap_pdu.specs.Messages.{rows_of}
 use Rattle.aper_fields.proofs.Sizes.{item_takes, takes_of, most_of}
@@ -11,7 +11,8 @@ use Rattle.protocol_ies.specs.Criticalities.{criticality_number}
 use Rattle.s1ap_pdu.specs.declared.pdu.Pdu.{Pdu}
 use Rattle.s1ap_pdu.specs.Values.{FieldValue, asn1_of}
 use Rattle.s1ap_pdu.specs.Messages.{kind_of, values_of}
-use Rattle.s1ap_pdu.specs.Run.{value_run, ie_run, fields_run, count_of, ies_run, IsRight, IsRightValue, IsRightField, IsShort}
+use Rattle.protocol_ies.specs.Slots.{count_of}
+use Rattle.s1ap_pdu.specs.Run.{value_run, ie_run, fields_run, ies_run, IsRight, IsRightValue, IsRightField, IsShort}
 use Rattle.s1ap_pdu.proofs.Distinct.{few_rows}
 use Rattle.s1ap_pdu.proofs.Writes.{values-length}
 use Rattle.s1ap_pdu.proofs.Ies.{value_sound}

@@ -9,7 +9,7 @@ use Rattle.aper_fields.specs.Run.{◌▸◌, fixed_bits_run, number_run, open_ru
 use Rattle.aper_fields.proofs.BitLaws.{length-bits}
 use Rattle.aper_fields.proofs.Packed.{bits_of-packed}
 use Rattle.aper_fields.proofs.Periodic.{IsPeriodic, constant_periodic, then_periodic, number_periodic, fixed_bits_periodic}
-use Rattle.s1ap_pdu.specs.declared.tables.IeRow.{IeRow}
+use Rattle.protocol_ies.specs.declared.tables.IeRow.{IeRow}
 use Rattle.s1ap_pdu.specs.declared.tables.MessageKind.{MessageKind}
 use Rattle.s1ap_pdu.specs.declared.tables.MessageKind.TheVariants as kind
 use Rattle.s1ap_pdu.specs.Messages.{rows_of}
@@ -25,7 +25,8 @@ use Rattle.aper_fields.specs.Many.{InOrder}
 use Rattle.s1ap_pdu.specs.Values.{FieldValue, value_type, id_of}
 use Rattle.s1ap_pdu.specs.Messages.{outcome_index, header_of, message_of, kind_of, values_of}
 use Rattle.s1ap_pdu.specs.Grammar.{Ie, Named, found, has_ie, or_other, kind_with, kind_among, header_in, ie_in, ies_in, pdu_in, Spells}
-use Rattle.s1ap_pdu.specs.Run.{value_run, ie_run, fields_run, count_of, ies_run, header_run, pdu_run, written, IsRightField, HasOctetsIn, IsRight, HasOctets}
+use Rattle.protocol_ies.specs.Slots.{count_of}
+use Rattle.s1ap_pdu.specs.Run.{value_run, ie_run, fields_run, ies_run, header_run, pdu_run, written, IsRightField, HasOctetsIn, IsRight, HasOctets}
 use Rattle.s1ap_pdu.proofs.Kept.{found-append}
 use Rattle.s1ap_pdu.proofs.RowLaws.{are_of, message_of_rows}
 use Rattle.s1ap_pdu.proofs.Frame.{pdu_some}

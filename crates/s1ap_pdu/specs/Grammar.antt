@@ -8,7 +8,7 @@ use Rattle.aper_fields.specs.Bits.{bits_of}
 use Rattle.aper_fields.specs.Reading.{Input}
 use Rattle.aper_fields.specs.Spelling.{Holds}
 use Rattle.aper_fields.specs.Format.{Format, ◌>>=◌, just, passing, either, fixed_bits_in, number_in, open_in, contained_in, WholeRefuses}
-use Rattle.s1ap_pdu.specs.declared.tables.IeRow.{IeRow}
+use Rattle.protocol_ies.specs.declared.tables.IeRow.{IeRow}
 use Rattle.s1ap_pdu.specs.declared.tables.MessageKind.{MessageKind}
 use Rattle.s1ap_pdu.specs.Messages.{rows_of}
 use Rattle.aper_fields.specs.Sequence.{zero_bit_in, criticality_in, choice_in}

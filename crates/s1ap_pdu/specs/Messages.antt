@@ -3,7 +3,7 @@ use Rattle.std.specs.Prelude.{ℕ, codes, Bool, true, false, List, [], ◌∷◌
 use Rattle.s1ap_ies.specs.declared.names.TheConstants as names
 use Rattle.protocol_ies.specs.declared.criticality.Criticality.{Criticality}
 use Rattle.protocol_ies.specs.declared.criticality.Criticality.TheVariants.{Reject, Ignore}
-use Rattle.s1ap_pdu.specs.declared.tables.IeRow.{IeRow}
+use Rattle.protocol_ies.specs.declared.tables.IeRow.{IeRow}
 use Rattle.s1ap_pdu.specs.declared.tables.MessageKind.{MessageKind}
 use Rattle.s1ap_pdu.specs.declared.tables.MessageKind.TheVariants as kind
 use Rattle.s1ap_pdu.specs.declared.header.Header.{Header}

@@ -1,9 +1,10 @@
 -- Reading a message from left to right, with a slot for each row of its table.
-use Rattle.std.specs.Prelude.{ℕ, zero, suc, ◌==◌, ◌&&◌, Bool, false, List, [], ◌∷◌, position, slice_set, slice_index_or, Option, Some, None, is_some, is_none, Result, Ok, Err, if◌then◌else◌}
-use Rattle.echo_base.specs.declared.reason.Reason.{Reason}
+use Rattle.std.specs.Prelude.{ℕ, zero, suc, ◌==◌, List, Option, Some, None}
 use Rattle.echo_base.specs.declared.reason.Reason.TheVariants as reasons
 use Rattle.aper_fields.specs.Reading.{Input, fixed_bits_at, number_at, open_at, contained_at}
-use Rattle.s1ap_pdu.specs.declared.tables.IeRow.{IeRow}
+use Rattle.protocol_ies.specs.declared.tables.IeRow.{IeRow}
+use Rattle.protocol_ies.specs.Tables.{place_of}
+use Rattle.protocol_ies.specs.Slots.{empty, free_id, noted}
 use Rattle.s1ap_pdu.specs.declared.tables.MessageKind.{MessageKind}
 use Rattle.s1ap_pdu.specs.Messages.{rows_of}
 use Rattle.aper_fields.specs.SequenceReading.{Reader, ◌>>=◌, done, passing_at, zero_bit_at, criticality_at, choice_at}
@@ -25,20 +26,6 @@ header_at = do
 
 -- ---- the IEs
 
-abbrev pub empty : Slots
-empty = None ∷ None ∷ None ∷ None ∷ None ∷ None ∷ []
-
--- the place of the row with an id
-abbrev pub place_of : List IeRow → ℕ → Option ℕ
-place_of rows id = position (λ row. row.id == id) rows
-
-abbrev pub is_filled : Option ℕ → Slots → Bool
-is_filled None slots = false
-is_filled (Some place) slots = is_some (slice_index_or slots place None)
-
-abbrev pub free_id : List IeRow → Slots → ℕ → Result ℕ Reason
-free_id rows slots id = if is_filled (place_of rows id) slots then Err (reasons.RepeatedIe id) else Ok id
-
 -- a value with its place, or nothing of an IE that is passed over
 abbrev pub content_at : Option ℕ → ℕ → Input → Reader (Option (ℕ × FieldValue))
 content_at None id content = done None
@@ -51,20 +38,10 @@ ie_at rows slots = do
   content ← open_at
   content_at (place_of rows id) id content
 
-abbrev pub noted : Slots → Option (ℕ × FieldValue) → Slots
-noted slots None = slots
-noted slots (Some x) = slice_set slots x.0 (Some x.1)
-
 -- so many IEs
 unfoldable pub fields_at : List IeRow → ℕ → Slots → Reader Slots
 fields_at rows zero slots = done slots
 fields_at rows (suc n) slots = ie_at rows slots >>= λ ie. fields_at rows n (noted slots ie)
-
--- the first needed row without a value
-unfoldable pub lacking : List IeRow → Slots → Option ℕ
-lacking [] values = None
-lacking (row ∷ rows) [] = None
-lacking (row ∷ rows) (v ∷ values) = if row.needed && is_none v then Some row.id else lacking rows values
 
 unfoldable pub ies_at : MessageKind → Reader Slots
 ies_at kind = do

@@ -1,6 +1,6 @@
 -- Rows: the IEs of a message in order. What follows from them: the table, the values of a message's fields, and the fields out of slots.
 use Rattle.std.specs.Prelude.{ℕ, suc, true, false, List, [], ◌∷◌, Option, Some, None, option_map, Result, Ok, Err, slice_index_or}
-use Rattle.s1ap_pdu.specs.declared.tables.IeRow.{IeRow}
+use Rattle.protocol_ies.specs.declared.tables.IeRow.{IeRow}
 use Rattle.echo_base.specs.Answer.{◌>>=◌}
 use Rattle.protocol_ies.specs.declared.criticality.Criticality.{Criticality}
 use Rattle.s1ap_pdu.specs.Values.{FieldValue, IeType, ie_with}

@@ -1,10 +1,11 @@
 -- The octets with which a message is written: the IEs of its table in order, each with the table's criticality.
-use Rattle.std.specs.Prelude.{ℕ, ◌*◌, ◌≤◌, Bool, List, [], ◌∷◌, length, count_by, Option, Some, None, is_some, IfSome}
+use Rattle.std.specs.Prelude.{ℕ, ◌*◌, ◌≤◌, Bool, List, [], ◌∷◌, length, Option, Some, None, IfSome}
 use Rattle.std.specs.List.{AllByRecursion}
 use Rattle.aper_fields.specs.Bits.{packed}
 use Rattle.aper_fields.specs.Run.{Run, ◌▸◌, nothing_run, fixed_bits_run, number_run, open_run}
 use Rattle.aper_fields.specs.Spelling.{IsOctets}
-use Rattle.s1ap_pdu.specs.declared.tables.IeRow.{IeRow}
+use Rattle.protocol_ies.specs.declared.tables.IeRow.{IeRow}
+use Rattle.protocol_ies.specs.Slots.{count_of}
 use Rattle.s1ap_pdu.specs.declared.tables.MessageKind.{MessageKind}
 use Rattle.s1ap_pdu.specs.Messages.{rows_of}
 use Rattle.aper_fields.specs.Asn1.{index_run, run, item_run, CanBeWritten, Fits}
@@ -44,10 +45,6 @@ unfoldable pub fields_run : List IeRow → List (Option FieldValue) → Run
 fields_run (row ∷ rows) (v ∷ values) = ie_run row v ▸ fields_run rows values
 fields_run [] values = nothing_run
 fields_run (row ∷ rows) [] = nothing_run
-
--- how many values there are
-abbrev pub count_of : List (Option FieldValue) → ℕ
-count_of values = count_by is_some values
 
 unfoldable pub ies_run : MessageKind → List (Option FieldValue) → Run
 ies_run kind values = fixed_bits_run 1 0 ▸ number_run 0 65535 (count_of values) ▸ fields_run (rows_of kind) values

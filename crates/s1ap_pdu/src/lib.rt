@@ -15,8 +15,7 @@ mod writing;
 pub use header::{Header, Outcome};
 pub use laws::{one_answer, small_is_right, spelled_is_right, written_is_spelled};
 pub use pdu::{ErabsDone, ErabsToAdd, ErabsToSetup, Pdu, Tais};
+pub use protocol_ies::{IeRow, IeTable};
 pub use reading::{read_pieces, receive_pieces};
-pub use tables::{
-    IeRow, IeTable, MessageKind, header_of, ies_of, is_downlink, kind_with, message_name,
-};
+pub use tables::{MessageKind, header_of, ies_of, is_downlink, kind_with, message_name};
 pub use writing::write_pieces;

@@ -1,10 +1,11 @@
 //! Reading messages.
 
-ghost use Rattle.std.specs.Prelude.{◌≡◌, ◌≤◌, ◌<◌, IfOk, IfSome, length, take};
+ghost use Rattle.std.specs.Prelude.{◌≡◌, ◌≤◌, ◌<◌, IfOk, IfSome, length};
 ghost use Rattle.echo_base.specs.Reading.{Gives};
 ghost use Rattle.aper_fields.specs.Reading.{whole_at};
 ghost use Rattle.s1ap_pdu.specs.Messages.{rows_of};
-ghost use Rattle.s1ap_pdu.specs.Reading.{empty, place_of, ie_at, fields_at, ies_at, pdu_at};
+ghost use Rattle.protocol_ies.specs.Slots.{empty};
+ghost use Rattle.s1ap_pdu.specs.Reading.{ie_at, fields_at, ies_at, pdu_at};
 ghost use Rattle.s1ap_pdu.specs.Grammar.{start};
 ghost use Rattle.s1ap_pdu.specs.Built.{message_at, uplink_at};
 ghost use Rattle.s1ap_pdu.specs.Memory.{IsFound, IsRead};
@@ -13,19 +14,12 @@ use crate::build::message;
 use crate::header::read_header;
 use crate::pdu::Pdu;
 use crate::slots::Slots;
-use crate::tables::{IeRow, IeTable, MessageKind, ies_of, is_downlink};
+use crate::tables::{MessageKind, ies_of, is_downlink};
 use crate::value::{FoundValue, find_value};
 use aper_fields::{BitReader, Ranged, close, read_criticality, read_open, read_zero_bit};
 use echo_base::{Bad, Reason, Refusal};
+use protocol_ies::{IeRow, place_of, rows};
 use std::alloc::Global;
-
-/// The place of the row with that id.
-fn place_of(rows: &[IeRow], id: u16) -> Option<usize>
-    ensures place { result ≡ place_of rows.now id }
-    ensures within { IfSome result (λ k. k < length rows.now) }
-{
-    rows.iter().position(|row| row.id == id)
-}
 
 /// Reads an IE behind others, and what its table names with its place.
 #[tactic(auto, unfolding(crate::specs::Reading::ie_at, aper_fields::specs::Reading::whole_at))]
@@ -41,7 +35,7 @@ fn read_ie<'a>(
     let mut ahead = r.ahead();
     let id = Ranged::<0, 65535>::read(&mut ahead)? as u16;
     let place = place_of(rows, id);
-    if slots.is_filled(place) {
+    if slots.values().is_filled(place) {
         return Err(r.refusal(Reason::RepeatedIe(id)));
     }
     read_criticality(&mut ahead)?;
@@ -74,14 +68,6 @@ fn read_fields<'a>(r: &mut BitReader<'a>, rows: &[IeRow], count: u64) -> Result<
     }
     *r = ahead;
     Ok(slots)
-}
-
-/// The rows of a table.
-pub(crate) fn rows(table: &IeTable) -> &[IeRow]
-    requires { table.now.len ≤ 6 }
-    ensures { result.now ≡ take table.now.len table.now.rows }
-{
-    &table.rows[..table.len]
 }
 
 /// Reads the SEQUENCE of IEs of that kind of message.
@@ -131,7 +117,7 @@ fn find_message(bytes: &[u8]) -> Result<(MessageKind, Slots<'_>), Refusal>
     ensures { IsFound (message_at bytes.now) result }
 {
     let (kind, slots) = read_whole(bytes)?;
-    if let Some(id) = slots.lacking(rows(&ies_of(kind))) {
+    if let Some(id) = slots.values().lacking(rows(&ies_of(kind))) {
         return Err(Refusal {
             reason: Reason::MissingIe(id),
             place: bytes.len() as u64,

@@ -3,11 +3,13 @@
 
 ghost use Rattle.std.specs.Prelude.{◌≡◌, ◌≤◌, ◌-◌, ◌++◌, map, length, replicate, eqb};
 ghost use Rattle.std.specs.List.{IsDistinct};
-ghost use Rattle.s1ap_pdu.specs.Tables.{reject, ignore, optional, optional_ignore, no_row, by_mme};
+ghost use Rattle.protocol_ies.specs.Tables.{no_row};
+ghost use Rattle.s1ap_pdu.specs.Tables.{by_mme};
 ghost use Rattle.s1ap_pdu.specs.Messages.{outcome_index, rows_of, header_of, is_downlink, name_of};
 ghost use Rattle.s1ap_pdu.specs.Grammar.{kind_with};
 
 use crate::header::{Header, Outcome};
+use protocol_ies::{IeTable, ignore, optional, optional_ignore, reject, table};
 use s1ap_ies::{Criticality, names};
 
 /// A kind of message (3GPP TS 36.413, 9.1).
@@ -39,95 +41,6 @@ pub enum MessageKind {
     ErabSetupRequest,
     /// E-RAB SETUP RESPONSE (9.1.3.2).
     ErabSetupResponse,
-}
-
-/// An information element that a message has.
-#[derive(Clone, Copy)]
-pub struct IeRow {
-    /// Its id.
-    pub id: u16,
-    /// Its criticality.
-    pub criticality: Criticality,
-    /// Whether each message of the kind must have it.
-    pub needed: bool,
-}
-
-/// The information elements of a kind of message.
-#[derive(Clone, Copy)]
-pub struct IeTable {
-    /// The elements in order, and behind them rows of zeros.
-    pub rows: [IeRow; 6],
-    /// How many elements there are.
-    pub len: usize,
-}
-
-/// A needed element, whose criticality is reject.
-const fn reject(id: u16) -> IeRow
-    ensures { result ≡ reject id }
-{
-    IeRow {
-        id,
-        criticality: Criticality::Reject,
-        needed: true,
-    }
-}
-
-/// A needed element, whose criticality is ignore.
-const fn ignore(id: u16) -> IeRow
-    ensures { result ≡ ignore id }
-{
-    IeRow {
-        id,
-        criticality: Criticality::Ignore,
-        needed: true,
-    }
-}
-
-/// An element that may be absent, whose criticality is reject.
-const fn optional(id: u16) -> IeRow
-    ensures { result ≡ optional id }
-{
-    IeRow {
-        id,
-        criticality: Criticality::Reject,
-        needed: false,
-    }
-}
-
-/// An element that may be absent, whose criticality is ignore.
-const fn optional_ignore(id: u16) -> IeRow
-    ensures { result ≡ optional_ignore id }
-{
-    IeRow {
-        criticality: Criticality::Ignore,
-        ..optional(id)
-    }
-}
-
-/// The row behind the last element.
-const NO_ROW: IeRow = IeRow {
-    id: 0,
-    criticality: Criticality::Reject,
-    needed: false,
-};
-
-/// The table of two to six rows.
-macro_rules! table {
-    ($a:expr, $b:expr) => {
-        IeTable { rows: [$a, $b, NO_ROW, NO_ROW, NO_ROW, NO_ROW], len: 2 }
-    };
-    ($a:expr, $b:expr, $c:expr) => {
-        IeTable { rows: [$a, $b, $c, NO_ROW, NO_ROW, NO_ROW], len: 3 }
-    };
-    ($a:expr, $b:expr, $c:expr, $d:expr) => {
-        IeTable { rows: [$a, $b, $c, $d, NO_ROW, NO_ROW], len: 4 }
-    };
-    ($a:expr, $b:expr, $c:expr, $d:expr, $e:expr) => {
-        IeTable { rows: [$a, $b, $c, $d, $e, NO_ROW], len: 5 }
-    };
-    ($a:expr, $b:expr, $c:expr, $d:expr, $e:expr, $f:expr) => {
-        IeTable { rows: [$a, $b, $c, $d, $e, $f], len: 6 }
-    };
 }
 
 /// Who sends a message.

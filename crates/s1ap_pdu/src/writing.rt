@@ -1,21 +1,21 @@
 //! Writing messages.
 
-ghost use Rattle.std.specs.Prelude.{◌≡◌, ◌+◌, ◌≤◌, OnOk, IfOk, IfSome, option_map, length};
+ghost use Rattle.std.specs.Prelude.{◌≡◌, OnOk, IfOk, IfSome, option_map, length};
 ghost use Rattle.std.specs.List.{AllByRecursion};
 ghost use Rattle.aper_fields.specs.Run.{then_written};
 ghost use Rattle.s1ap_pdu.specs.Messages.{rows_of};
 ghost use Rattle.s1ap_pdu.specs.Messages.{kind_of, values_of};
 ghost use Rattle.s1ap_pdu.specs.Values.{seen, all_seen};
-ghost use Rattle.s1ap_pdu.specs.Run.{ie_run, fields_run, ies_run, written, IsRightField, IsRight, count_of};
+ghost use Rattle.s1ap_pdu.specs.Run.{ie_run, fields_run, ies_run, written, IsRightField, IsRight};
 
 use crate::header::write_header;
 use crate::pdu::Pdu;
-use crate::reading::rows;
-use crate::tables::{IeRow, MessageKind, header_of, ies_of};
+use crate::tables::{MessageKind, header_of, ies_of};
 use crate::value::{LentValue, write_value};
 use aper_fields::{BitWriter, Ranged, begin_open, end_open, write_bits_fixed};
 use device_types::Octets;
 use echo_base::OutOfMemory;
+use protocol_ies::{IeRow, count_of, rows};
 use s1ap_ies::begin_item;
 use std::alloc::Global;
 
@@ -56,16 +56,8 @@ fn write_fields(
     Ok(())
 }
 
-/// How many values there are.
-fn count_of(values: &[Option<LentValue>]) -> usize
-    ensures value { result ≡ count_of (all_seen values.now) }
-    ensures most { result ≤ length values.now }
-{
-    values.iter().filter(|value| value.is_some()).count()
-}
-
 /// Writes the SEQUENCE of IEs of a table, with their values.
-#[tactic(auto, unfolding(crate::specs::Run::ies_run))]
+#[tactic(auto, unfolding(crate::specs::Run::ies_run), using(crate::proofs::Writes::count_seen))]
 fn write_ies(
     w: &mut BitWriter,
     kind: MessageKind,

@@ -3,9 +3,10 @@
 ghost use Rattle.std.specs.Prelude.{◌≡◌, ◌+◌, ◌-◌, ◌<◌, ◌≤◌, List, Option, ◌∷◌, [], ◌++◌, IfSome, OnOk, Some, length, replicate, option_map};
 ghost use Rattle.std.specs.List.{AllByRecursion};
 ghost use Rattle.protocol_ies.specs.Criticalities.{criticality_number};
-ghost use Rattle.s1ap_pdu.specs.Tables.{no_row};
+ghost use Rattle.protocol_ies.specs.Tables.{no_row};
 ghost use Rattle.s1ap_pdu.specs.Messages.{rows_of};
-ghost use Rattle.s1ap_pdu.specs.Run.{count_of, IsRightValue, IsRightField};
+ghost use Rattle.protocol_ies.specs.Slots.{count_of};
+ghost use Rattle.s1ap_pdu.specs.Run.{IsRightValue, IsRightField};
 ghost use Rattle.s1ap_pdu.specs.Values.{FieldValue};
 ghost use Rattle.aper_octets.specs.Octets.{ie_octets};
 ghost use Rattle.s1ap_messages.specs.Usual.{value_octets, fields_octets, beginning, IsUsualValue, IsBrief, AreSmallIds, AreFields};

@@ -2,7 +2,7 @@
 use Rattle.std.proofs.Common.{◌≡◌, take, sym, ap, ◌∙◌}
 use Rattle.std.proofs.lemmas.List.{take_at}
 use Rattle.s1ap_pdu.specs.Messages.{rows_of}
-use Rattle.s1ap_pdu.specs.Reading.{lacking}
+use Rattle.protocol_ies.specs.Slots.{lacking}
 use Rattle.s1ap_pdu.proofs.Found.{found_lacking}
 use Rattle.s1ap_pdu.proofs.reading.find_message.Goals as goal
 
