@@ -4,3 +4,4 @@ pub mod Rule
 pub mod Steps
 pub mod Turns
 pub mod Front
+pub mod FrontRow

@@ -1,5 +1,5 @@
 //! A front, and its turns.
-ghost use Rattle.std.specs.Prelude.{◌≡◌, ◌<◌, ◌^◌, true, false, [], ◌∷◌, All, IsTrue, IfErr, IfOk, IfSome, None, Some, length, map, vec_capacity};
+ghost use Rattle.std.specs.Prelude.{◌≡◌, ◌<◌, ◌^◌, true, false, [], ◌∷◌, All, IfErr, IfOk, IfSome, None, Some, map, vec_capacity};
 ghost use Rattle.std.specs.List.{range_with_len};
 ghost use mathlib.Core.List.{IsPrefix};
 ghost use Rattle.front_lock.specs.declared.view.Stage.TheVariants.{Idle, Waiting, Served, Holding};

@@ -12,7 +12,7 @@ use Rattle.device_types.specs.Journal.{effects_of, pushed_count}
 use Rattle.device_types.proofs.Courses.{few_pushed}
 use Rattle.session_store.specs.Charter.{CharterState, IsCharter, IsShort, alone_in}
 use Rattle.session_store.specs.Rows.{IsDevice}
-use Rattle.shard_parts.proofs.Columns.{holds_of}
+use Rattle.front_lock.proofs.Columns.{holds_of}
 use Rattle.pool_rows.proofs.Closed.{got}
 
 -- the row and the messages of a device

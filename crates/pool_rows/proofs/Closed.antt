@@ -22,14 +22,14 @@ use Rattle.store_shared.specs.declared.basis.PeerBasis.{PeerBasis}
 use Rattle.store_shared.specs.declared.basis.ShardBasis.{ShardBasis}
 use Rattle.store_shared.specs.declared.peer_shard.PeerShard.{PeerShard}
 use Rattle.store_shared.specs.declared.store_shard.StoreShard.{StoreShard}
-use Rattle.shard_parts.specs.declared.front_row.FrontsSeat.{FrontsSeat}
+use Rattle.front_lock.specs.declared.row.FrontsSeat.{FrontsSeat}
 use Rattle.store_shared.specs.declared.turn.Turn.{Turn}
-use Rattle.shard_parts.specs.FrontRow.{Along, IsFreshSeat, SpeaksOnAll, seen_at}
+use Rattle.front_lock.specs.FrontRow.{Along, IsFreshSeat, SpeaksOnAll, seen_at}
 use Rattle.store_shared.specs.Legal.{AreAcceptedIn, IsAcceptedOf, accepted_in, journal_in}
 use Rattle.store_shared.specs.PeerBases.{peer_bases, peer_basis, peer_basis_at, peer_turns}
 use Rattle.store_shared.specs.StoreBases.{basis_at, store_basis, store_turns}
-use Rattle.shard_parts.proofs.Columns.{got_map, placed_from, speaks_own}
-use Rattle.shard_parts.proofs.Items.{get_here, some_one}
+use Rattle.front_lock.proofs.Columns.{got_map, placed_from, speaks_own}
+use Rattle.front_lock.proofs.Items.{get_here, some_one}
 use Rattle.pool_rows.specs.Shared.{AreClosedRows, closed_calls, closed_journal, turns_on}
 
 module _ {T B : Type 0} {h : held.Ghosts T Turn B} where

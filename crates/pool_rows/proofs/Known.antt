@@ -26,19 +26,19 @@ use Rattle.session_store.specs.declared.asked.Seen.{Seen}
 use Rattle.session_store.specs.Seen.{peeked_of, seen_of}
 use Rattle.session_store.specs.Shards.{shard_of}
 use Rattle.store_shared.specs.declared.basis.ShardBasis.{ShardBasis}
-use Rattle.shard_parts.specs.declared.front_row.FrontsSeat.{FrontsSeat}
+use Rattle.front_lock.specs.declared.row.FrontsSeat.{FrontsSeat}
 use Rattle.store_shared.specs.declared.turn.Turn.{Turn}
 use Rattle.store_shared.specs.declared.turn.TurnAnswer.{TurnAnswer}
 use Rattle.store_shared.specs.declared.turn.TurnAnswer.TheVariants as answers
 use Rattle.store_shared.specs.declared.turn.TurnCall.{TurnCall}
 use Rattle.store_shared.specs.declared.turn.TurnCall.TheVariants as calls
-use Rattle.shard_parts.specs.FrontRow.{AreFreshSeats, AreJoined, IsFreshSeat, seen_at}
+use Rattle.front_lock.specs.FrontRow.{AreFreshSeats, AreJoined, IsFreshSeat, seen_at}
 use Rattle.store_shared.specs.Legal.{IsBehind, TellsCount, commit_of, journal_in, row_after, row_from, row_in}
 use Rattle.store_shared.specs.SharedCalls.{Called}
 use Rattle.store_shared.specs.Stays.{journal_begins, row_from-append, row_next}
 use Rattle.store_shared.specs.StoreBases.{seat_of}
 use Rattle.store_shared.specs.StoreShards.{turn_by}
-use Rattle.shard_parts.proofs.Items.{get_at, some_one}
+use Rattle.front_lock.proofs.Items.{get_at, some_one}
 use Rattle.store_shared.proofs.Turns.{seen_is}
 use Rattle.pool_rows.specs.Seats.{IsLater, Settles}
 use Rattle.pool_rows.specs.Shared.{RowComes, row_known}

@@ -25,18 +25,18 @@ use Rattle.session_store.specs.Charter.{CharterState, IsCharter, alone_in}
 use Rattle.session_store.specs.Rows.{Begins, IsDevice}
 use Rattle.session_store.specs.Shards.{shard_of}
 use Rattle.store_shared.specs.declared.basis.PeerBasis.{PeerBasis}
-use Rattle.shard_parts.specs.declared.front_row.FrontsSeat.{FrontsSeat}
+use Rattle.front_lock.specs.declared.row.FrontsSeat.{FrontsSeat}
 use Rattle.store_shared.specs.declared.turn.Turn.{Turn}
 use Rattle.store_shared.specs.declared.turn.TurnAnswer.{TurnAnswer}
 use Rattle.store_shared.specs.declared.turn.TurnAnswer.TheVariants as answers
 use Rattle.store_shared.specs.declared.turn.TurnCall.{TurnCall}
 use Rattle.store_shared.specs.declared.turn.TurnCall.TheVariants as calls
-use Rattle.shard_parts.specs.FrontRow.{AreFreshSeats, AreJoined, IsFreshSeat, seen_at}
+use Rattle.front_lock.specs.FrontRow.{AreFreshSeats, AreJoined, IsFreshSeat, seen_at}
 use Rattle.shard_parts.specs.BothPeers.{is_call, lane_of}
 use Rattle.store_shared.specs.Legal.{IsAcceptedOf, IsTurn, accepted_after, accepted_from, accepted_in, peers_say}
 use Rattle.store_shared.specs.PeerShards.{offer_by}
 use Rattle.store_shared.specs.SharedOffers.{Offered}
-use Rattle.shard_parts.proofs.Items.{get_at}
+use Rattle.front_lock.proofs.Items.{get_at}
 use Rattle.store_shared.proofs.PeerTurns.{accepted_from-append, accepted_next}
 use Rattle.pool_rows.specs.Seats.{IsCall, IsOffer, IsOwnOf}
 use Rattle.pool_rows.specs.Shared.{calls_known}

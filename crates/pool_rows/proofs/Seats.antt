@@ -22,18 +22,18 @@ use Rattle.session_store.specs.Rows.{Begins}
 use Rattle.session_store.specs.Shards.{shard_of}
 use Rattle.store_shared.specs.declared.basis.PeerBasis.{PeerBasis}
 use Rattle.store_shared.specs.declared.basis.ShardBasis.{ShardBasis}
-use Rattle.shard_parts.specs.declared.front_row.FrontsSeat.{FrontsSeat}
+use Rattle.front_lock.specs.declared.row.FrontsSeat.{FrontsSeat}
 use Rattle.store_shared.specs.declared.turn.Turn.{Turn}
 use Rattle.store_shared.specs.declared.turn.TurnAnswer.{TurnAnswer}
 use Rattle.store_shared.specs.declared.turn.TurnAnswer.TheVariants as answers
 use Rattle.store_shared.specs.declared.turn.TurnCall.{TurnCall}
-use Rattle.shard_parts.specs.FrontRow.{AreJoined, IsFreshSeat, MissesAt, SpeaksOnAll, seen_at}
+use Rattle.front_lock.specs.FrontRow.{AreJoined, IsFreshSeat, MissesAt, SpeaksOnAll, seen_at}
 use Rattle.store_shared.specs.PeerShards.{offer_by}
 use Rattle.store_shared.specs.SharedCalls.{Called}
 use Rattle.store_shared.specs.SharedOffers.{Offered}
 use Rattle.store_shared.specs.StoreBases.{seat_of}
 use Rattle.store_shared.specs.StoreShards.{turn_by}
-use Rattle.shard_parts.proofs.Items.{some_one}
+use Rattle.front_lock.proofs.Items.{some_one}
 use Rattle.store_shared.proofs.Turns.{seen_is}
 use Rattle.pool_rows.specs.Seats.{GoesOn}
 

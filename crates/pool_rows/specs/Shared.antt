@@ -18,7 +18,7 @@ use Rattle.store_shared.specs.declared.basis.ShardBasis.{ShardBasis}
 use Rattle.store_shared.specs.declared.peer_shard.PeerShard.{PeerShard}
 use Rattle.store_shared.specs.declared.store_shard.StoreShard.{StoreShard}
 use Rattle.store_shared.specs.declared.turn.Turn.{Turn}
-use Rattle.shard_parts.specs.FrontRow.{seen_at}
+use Rattle.front_lock.specs.FrontRow.{seen_at}
 use Rattle.store_shared.specs.Legal.{IsPeerHistory, IsStoreHistory, accepted_in, journal_in, row_in}
 use Rattle.store_shared.specs.PeerBases.{peer_basis, peer_bases, peer_turns}
 use Rattle.store_shared.specs.StoreBases.{seat_of, shard_bases, store_basis, store_turns}

@@ -1,7 +1,7 @@
 //! The shared peers as peers that threads share.
 ghost use Rattle.std.specs.Prelude.{◌≡◌, length};
 ghost use Rattle.std.specs.Arc.{arc_value};
-ghost use Rattle.shard_parts.specs.FrontRow.{AreSeatsOf, SpeaksOnAll};
+ghost use Rattle.front_lock.specs.FrontRow.{AreSeatsOf, SpeaksOnAll};
 ghost use Rattle.store_shared.specs.PeerBases.{peer_basis};
 ghost use Rattle.pool_rows.specs.Shared.{AreClosedPeers, calls_known, closed_calls};
 

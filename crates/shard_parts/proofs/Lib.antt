@@ -1,3 +1,1 @@
-pub mod Columns
-pub mod Items
 pub mod Wraps

@@ -1,5 +1,6 @@
 -- The calls of one peer, as effects.
 use Rattle.std.proofs.Common.{◌≡◌, ℕ, List, [], ◌∷◌, ◌++◌, length, map, take, refl, sym, ap, ◌∙◌}
+use Rattle.std.specs.Prelude.{Result, Ok, Err, IfOk}
 use Rattle.std.proofs.lemmas.List.{map-append, length-map, take-map}
 use Rattle.device_types.specs.declared.effect.Effect.{Effect}
 use Rattle.device_types.specs.declared.effect.Effect.TheVariants as effects
@@ -31,9 +32,15 @@ module _ {C : Type 0} (wrap : C → Effect) where
       by_arrival Repeat = ap (λ a. offer.Repeat a) (same (take k cs) ∙ ap answer (sym (take-map wrap k cs)))
       by_arrival (Ahead last) = refl
 
--- what each peer says is said of its lane
+-- what a peer says is said of its lane
 pub gateway_said : (row : Subscriber) (peers : Peers) (k : ℕ) (c : GwCall) (call : Effect) (offer : Offer) → call ≡ effects.Gateway c → offer ≡ offer_of (gateway_answer_of row) (calls_of peers.gateway row.number) k c → offer ≡ offer_of (answer_of row) (lists_on peers (lane_of call) row.number) k call
 gateway_said row peers k c call offer is said = said ∙ (says_so effects.Gateway (gateway_answer_of row) (answer_of row) (λ cs. refl) (calls_of peers.gateway row.number) k c ∙ ap (λ (e : Effect). offer_of (answer_of row) (lists_on peers (lane_of e) row.number) k e) (sym is))
 
-pub subscriber_said : (row : Subscriber) (peers : Peers) (k : ℕ) (c : SubCall) (call : Effect) (offer : Offer) → call ≡ effects.Subscriber c → offer ≡ offer_of (subscriber_answer_of row) (calls_of peers.subscriber row.number) k c → offer ≡ offer_of (answer_of row) (lists_on peers (lane_of call) row.number) k call
-subscriber_said row peers k c call offer is said = said ∙ (says_so effects.Subscriber (subscriber_answer_of row) (answer_of row) (λ cs. refl) (calls_of peers.subscriber row.number) k c ∙ ap (λ (e : Effect). offer_of (answer_of row) (lists_on peers (lane_of e) row.number) k e) (sym is))
+-- and where it may find no memory, of what it said
+pub gateway_offered : {E : Type 0} (row : Subscriber) (peers : Peers) (k : ℕ) (c : GwCall) (call : Effect) (r : Result Offer E) → call ≡ effects.Gateway c → IfOk r (λ offer. offer ≡ offer_of (gateway_answer_of row) (calls_of peers.gateway row.number) k c) → IfOk r (λ offer. offer ≡ offer_of (answer_of row) (lists_on peers (lane_of call) row.number) k call)
+gateway_offered row peers k c call (Ok offer) is said = gateway_said row peers k c call offer is said
+gateway_offered row peers k c call (Err e) is said = said
+
+pub subscriber_offered : {E : Type 0} (row : Subscriber) (peers : Peers) (k : ℕ) (c : SubCall) (call : Effect) (r : Result Offer E) → call ≡ effects.Subscriber c → IfOk r (λ offer. offer ≡ offer_of (subscriber_answer_of row) (calls_of peers.subscriber row.number) k c) → IfOk r (λ offer. offer ≡ offer_of (answer_of row) (lists_on peers (lane_of call) row.number) k call)
+subscriber_offered row peers k c call (Ok offer) is said = said ∙ (says_so effects.Subscriber (subscriber_answer_of row) (answer_of row) (λ cs. refl) (calls_of peers.subscriber row.number) k c ∙ ap (λ (e : Effect). offer_of (answer_of row) (lists_on peers (lane_of e) row.number) k e) (sym is))
+subscriber_offered row peers k c call (Err e) is said = said

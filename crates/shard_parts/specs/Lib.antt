@@ -1,2 +1,1 @@
 pub mod BothPeers
-pub mod FrontRow

@@ -9,7 +9,7 @@ ghost use Rattle.device_types.specs.Line.{IsLine};
 ghost use Rattle.device_types.specs.Message.{IsBody, IsFrom, IsMessage};
 ghost use Rattle.device_types.specs.Subscriber.{IsSubscriber};
 ghost use Rattle.session_store.specs.Charter.{IsShort};
-ghost use Rattle.shard_parts.specs.FrontRow.{AreSeatsOf};
+ghost use Rattle.front_lock.specs.FrontRow.{AreSeatsOf};
 ghost use Rattle.shard_parts.specs.BothPeers.{is_call, lane_of};
 ghost use Rattle.store_shared.specs.PeerBases.{peer_basis};
 ghost use Rattle.store_shared.specs.PeerShards.{IsOffered};

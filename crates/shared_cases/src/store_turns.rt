@@ -2,7 +2,7 @@
 //! one.
 ghost use Rattle.std.specs.Prelude.{◌≡◌, All, IfSome};
 ghost use Rattle.session_store.specs.Rows.{IsDevice};
-ghost use Rattle.shard_parts.specs.FrontRow.{AreSeatsOf};
+ghost use Rattle.front_lock.specs.FrontRow.{AreSeatsOf};
 ghost use Rattle.store_shared.specs.StoreBases.{store_basis};
 
 use crate::any_law::{AnyLaw, any_law, first_entry};

@@ -1,30 +1,23 @@
 -- What an offer makes of a shard of the peers.
-use Rattle.std.proofs.Common.{◌≡◌, ℕ, ◌-◌, ◌≤◌, ◌<◌, true, false, List, [], ◌∷◌, ◌++◌, length, map, get_or, replicate, Option, Some, refl, sym, ap, ◌∙◌, subst, arith}
-use Rattle.std.specs.Prelude.{slice_get, IfOk, Result, Ok, Err}
-use Rattle.std.proofs.lemmas.Option.{slice_get_within, slice_get-get_or}
+use Rattle.std.proofs.Common.{◌≡◌, ℕ, ◌-◌, ◌<◌, List, [], ◌∷◌, ◌++◌, length, map, get_or, replicate, Some, refl, sym, ap, ◌∙◌, subst, arith}
+use Rattle.std.specs.Prelude.{slice_get}
+use Rattle.std.proofs.lemmas.Option.{slice_get-get_or}
 use Rattle.std.proofs.lemmas.List.{length-replicate, get_or-replicate}
 use Rattle.device_types.specs.declared.effect.Effect.{Effect}
 use Rattle.device_types.specs.declared.effect.Effect.TheVariants as effects
-use Rattle.device_types.specs.declared.effect.GwCall.{GwCall}
-use Rattle.device_types.specs.declared.effect.SubCall.{SubCall}
 use Rattle.device_types.specs.declared.event.Lane.{Lane}
 use Rattle.device_types.specs.declared.event.Lane.TheVariants as lane
 use Rattle.device_types.specs.declared.input.Offer.{Offer}
 use Rattle.device_types.specs.declared.subscriber.DeviceId.{DeviceId}
 use Rattle.device_types.specs.declared.subscriber.Subscriber.{Subscriber}
-use Rattle.device_types.specs.Journal.{effects_of, is_on}
 use Rattle.device_types.specs.PeerAnswer.{answer_of}
 use Rattle.peer_calls.specs.Calls.{calls_of, offer_of}
-use Rattle.peer_gateway.specs.Gateway.{gateway_answer_of}
-use Rattle.peer_subscriber.specs.Server.{subscriber_answer_of}
-use Rattle.session_store.specs.Charter.{CharterState, alone_in}
+use Rattle.session_store.specs.Charter.{CharterState}
 use Rattle.session_store.specs.Rows.{IsDevice}
 use Rattle.store_shared.specs.declared.turn.Turn.{Turn}
-use Rattle.store_shared.specs.declared.turn.TurnCall.TheVariants as calls
-use Rattle.store_shared.specs.declared.turn.TurnAnswer.{TurnAnswer}
 use Rattle.store_shared.specs.declared.turn.TurnAnswer.TheVariants as answers
-use Rattle.shard_parts.specs.BothPeers.{is_call, lane_of}
-use Rattle.store_shared.specs.Legal.{accepted_in, peer_says, ArePeers, IsTurn, peers_say, AreAcceptedIn}
+use Rattle.shard_parts.specs.BothPeers.{lane_of}
+use Rattle.store_shared.specs.Legal.{accepted_in, ArePeers, IsTurn, peers_say}
 use Rattle.store_shared.proofs.Histories.{legal_none, legal_more}
 use Rattle.store_shared.proofs.PeerTurns.{peers_more, peers_same, on_lane, accepted_more}
 use Rattle.shard_parts.specs.declared.peers.Peers.{Peers}

@@ -13,7 +13,7 @@ use Rattle.session_row.specs.Row.{RowState, Commits}
 use Rattle.session_store.specs.declared.asked.Asked.{Asked}
 use Rattle.session_store.specs.declared.asked.Peeked.{Peeked}
 use Rattle.session_store.specs.declared.asked.Seen.{Seen}
-use Rattle.session_store.specs.Rows.{opening_row, unsettled_effect, with_settled}
+use Rattle.session_store.specs.Rows.{unsettled_effect, with_settled}
 use Rattle.session_store.specs.Seen.{seen_of, peeked_of}
 use Rattle.session_store.specs.Shards as shard
 use Rattle.session_store.specs.Shards.{ShardState, IsHere, IsOpening}

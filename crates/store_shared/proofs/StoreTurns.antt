@@ -1,5 +1,5 @@
 -- The rows of a shard of the store behind a turn more.
-use Rattle.std.proofs.Common.{◌≡◌, ℕ, zero, suc, ◌+◌, ◌-◌, ◌≤◌, ◌==◌, Bool, true, false, cond, ⊎_elim, List, [], ◌∷◌, ◌++◌, length, take, Some, refl, sym, ap, ◌∙◌, subst, arith, length-append, eqb-true, eq-eqb, ne_eqb}
+use Rattle.std.proofs.Common.{◌≡◌, ℕ, zero, suc, ◌+◌, ◌-◌, ◌==◌, Bool, true, false, cond, ⊎_elim, List, [], ◌∷◌, ◌++◌, length, Some, refl, sym, ap, ◌∙◌, subst, arith, length-append, eqb-true, eq-eqb, ne_eqb}
 use Rattle.std.specs.Prelude.{slice_get}
 use Rattle.std.proofs.lemmas.Bool.{cases_eq}
 use Rattle.std.proofs.lemmas.Option.{slice_get_within}
@@ -12,14 +12,12 @@ use Rattle.session_row.specs.Row.{RowState, Commits}
 use Rattle.session_store.specs.Law.{IsLawful}
 use Rattle.session_store.specs.Rows.{opening_row}
 use Rattle.session_store.specs.Shards as shard
-use Rattle.session_store.specs.Shards.{shard_of, ShardState, IsHere, AreLawfulHere}
+use Rattle.session_store.specs.Shards.{shard_of, ShardState, AreLawfulHere}
 use Rattle.session_store.proofs.Shards.{in_other}
 use Rattle.store_shared.specs.declared.turn.Turn.{Turn}
-use Rattle.store_shared.specs.declared.turn.TurnCall.{TurnCall}
 use Rattle.store_shared.specs.declared.turn.TurnCall.TheVariants as calls
-use Rattle.store_shared.specs.declared.turn.TurnAnswer.{TurnAnswer}
 use Rattle.store_shared.specs.declared.turn.TurnAnswer.TheVariants as answers
-use Rattle.store_shared.specs.Legal.{row_after, row_from, row_in, journal_in, commit_of, commit_count, IsBehind, TellsCount, AreLawfulIn}
+use Rattle.store_shared.specs.Legal.{row_after, row_from, row_in, journal_in, commit_of, IsBehind, TellsCount, AreLawfulIn}
 use Rattle.store_shared.specs.StoreShards.{AreRowsOf, IsStoreShard, turn_by}
 use Rattle.store_shared.specs.Stays.{row_next}
 

@@ -1,12 +1,11 @@
 -- What a turn on a front says of a call of the store, and of an offer.
-use Rattle.std.proofs.Common.{◌≡◌, ℕ, ◌+◌, ◌<◌, ◌≤◌, ◌%◌, zero, suc, List, [], ◌∷◌, ◌++◌, length, map, Some, refl, sym, ap, ◌∙◌, arith, subst}
+use Rattle.std.proofs.Common.{◌≡◌, ℕ, ◌+◌, ◌<◌, ◌≤◌, zero, suc, List, [], ◌∷◌, ◌++◌, length, map, Some, refl, sym, ap, ◌∙◌, arith, subst}
 use Rattle.std.specs.Prelude.{slice_get, All, Result, IfOk}
 use Rattle.std.specs.List.{range_with_len}
 use Rattle.std.specs.Option.{option_map_or}
 use Rattle.std.proofs.lemmas.List.{map-append}
 use Rattle.std.proofs.lemmas.List.Elements.{All-nil, All-push}
 use Rattle.std.proofs.lemmas.List.FromFn.{map-range_with_len_more}
-use mathlib.Core.List.{IsPrefix}
 use Rattle.device_types.specs.declared.effect.Effect.{Effect}
 use Rattle.device_types.specs.declared.input.Offer.{Offer}
 use Rattle.device_types.specs.declared.step.Entry.{Entry}
@@ -18,11 +17,10 @@ use Rattle.front_lock.specs.declared.view.View.{View}
 use Rattle.front_lock.specs.declared.view.Stage.TheVariants.{Idle}
 use Rattle.front_lock.specs.View.{view_at}
 use Rattle.front_lock.specs.Numbers.{with_turn}
-use Rattle.front_lock.specs.Turns.{MakesTurn}
 use Rattle.front_lock.specs.Front.{view, basis_of, IsSeatOf}
-use Rattle.shard_parts.specs.FrontRow.{AreSeatsOf, Along, TurnsAt, MissesAt, IsValueMore, seen_at}
-use Rattle.shard_parts.proofs.Items.{some_one, if_ok}
-use Rattle.shard_parts.proofs.Columns.{got_map, placed_from}
+use Rattle.front_lock.specs.FrontRow.{AreSeatsOf, Along, TurnsAt, MissesAt, IsValueMore, seen_at}
+use Rattle.front_lock.proofs.Items.{some_one, if_ok}
+use Rattle.front_lock.proofs.Columns.{got_map, placed_from}
 use Rattle.session_row.specs.declared.commit.Commit.{Commit}
 use Rattle.session_store.specs.Charter.{CharterState}
 use Rattle.session_store.specs.Shards.{shard_count, shard_of}

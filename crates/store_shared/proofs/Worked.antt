@@ -1,5 +1,5 @@
 -- Worked histories, computed: the cheapest test of their definitions.
-use Rattle.std.proofs.Common.{◌≡◌, ℕ, List, [], ◌∷◌, ◌++◌, Some, None, refl}
+use Rattle.std.proofs.Common.{◌≡◌, [], ◌∷◌, Some, None, refl}
 use Rattle.device_types.specs.declared.effect.Effect.{Effect}
 use Rattle.device_types.specs.declared.effect.Effect.TheVariants as effects
 use Rattle.device_types.specs.declared.effect.GwCall.{GwCall}
@@ -12,7 +12,7 @@ use Rattle.session_row.specs.declared.commit.Commit.TheVariants.{Committed, Stal
 use Rattle.store_shared.specs.declared.turn.Turn.{Turn}
 use Rattle.store_shared.specs.declared.turn.TurnCall.TheVariants as calls
 use Rattle.store_shared.specs.declared.turn.TurnAnswer.TheVariants as answers
-use Rattle.store_shared.specs.Legal.{row_in, journal_in, accepted_in, commit_count, commit_of, row_says, TellsCount}
+use Rattle.store_shared.specs.Legal.{row_in, journal_in, accepted_in, commit_count, row_says}
 use Rattle.store_shared.specs.StoreShards.{turn_by}
 
 module _ (entry other : Entry) where

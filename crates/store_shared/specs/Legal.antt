@@ -1,5 +1,5 @@
 -- Legal histories: each turn on a shard is answered by the turns before it. A history has the oldest turn first.
-use Rattle.std.specs.Prelude.{◌≡◌, ◌≤◌, ◌<◌, ℕ, ◌+◌, ◌-◌, ◌%◌, ◌==◌, Bool, true, false, List, [], ◌∷◌, ◌++◌, length, map, take, Option, Some, None, slice_get, if◌then◌else◌}
+use Rattle.std.specs.Prelude.{◌≡◌, ◌<◌, ℕ, ◌+◌, ◌-◌, ◌==◌, List, [], ◌∷◌, ◌++◌, length, map, take, Option, Some, None, slice_get, if◌then◌else◌}
 use Rattle.device_types.specs.declared.effect.Effect.{Effect}
 use Rattle.device_types.specs.declared.event.Lane.{Lane}
 use Rattle.device_types.specs.declared.input.Offer.TheVariants as offer

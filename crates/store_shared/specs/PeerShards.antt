@@ -9,12 +9,10 @@ use Rattle.session_store.specs.Charter.{CharterState, alone_in}
 use Rattle.session_store.specs.Rows.{IsDevice}
 use Rattle.session_store.specs.Shards.{shard_of}
 use Rattle.store_shared.specs.declared.turn.Turn.{Turn}
-use Rattle.store_shared.specs.declared.turn.TurnCall.{TurnCall}
 use Rattle.store_shared.specs.declared.turn.TurnCall.TheVariants as calls
 use Rattle.store_shared.specs.declared.turn.TurnAnswer.{TurnAnswer}
-use Rattle.store_shared.specs.declared.turn.TurnAnswer.TheVariants as answers
 use Rattle.shard_parts.specs.BothPeers.{is_call, lane_of}
-use Rattle.store_shared.specs.Legal.{ArePeers, IsTurn, peers_say, IsPeerHistory, AreAcceptedIn}
+use Rattle.store_shared.specs.Legal.{ArePeers, IsPeerHistory, AreAcceptedIn}
 use Rattle.shard_parts.specs.declared.peers.Peers.{Peers}
 
 pub record IsPeerShard (charter : CharterState) (shard : ℕ) (peers : Peers) (turns : List Turn) : Type 0 where

@@ -1,10 +1,7 @@
 //! A shard of the peers, as a value of a front.
-ghost use Rattle.std.specs.Prelude.{◌≡◌, ◌≤◌, ◌<◌, ◌-◌, ◌∷◌, ◌++◌, [], length, slice_get, slice_index_or, Some, IfOk, IfErr, OnOk, OnErr};
+ghost use Rattle.std.specs.Prelude.{◌≡◌, ◌≤◌, ◌<◌, ◌-◌, ◌∷◌, ◌++◌, [], length, slice_get, Some, IfOk, IfErr, OnOk, OnErr};
 ghost use Rattle.std.specs.Arc.{arc_value};
 ghost use Rattle.device_types.specs.Numbers.{IsWithin};
-ghost use Rattle.device_types.specs.PeerAnswer.{answer_of};
-ghost use Rattle.peer_calls.specs.Calls.{offer_of};
-ghost use Rattle.session_store.specs.Charter.{IsCharter};
 ghost use Rattle.store_shared.specs.declared.turn.TurnAnswer.TheVariants as answers;
 ghost use Rattle.store_shared.specs.Legal.{IsTurn, peers_say, IsPeerHistory, AreAcceptedIn};
 ghost use Rattle.store_shared.specs.PeerShards.{IsPeerShard, IsOffered, offer_by};

@@ -2,7 +2,7 @@ use Rattle.std.proofs.Common.{◌≡◌, ◌≤◌, ◌+◌, ◌-◌, Some, ap, 
 use Rattle.std.specs.Prelude.{slice_get}
 use Rattle.device_types.specs.declared.event.Lane.{Lane}
 use Rattle.device_types.specs.Journal.{effects_of}
-use Rattle.shard_parts.proofs.Items.{if_ok}
+use Rattle.front_lock.proofs.Items.{if_ok}
 use Rattle.pool_ends.proofs.Calls.{call_is, lane_is_of}
 use Rattle.pool_ends.proofs.lanes.bring_call.Goals as goal
 

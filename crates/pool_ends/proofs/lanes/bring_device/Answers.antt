@@ -1,6 +1,6 @@
 use Rattle.device_types.specs.declared.event.Lane.{Lane}
 use Rattle.device_types.specs.declared.event.Lane.TheVariants as lane
-use Rattle.shard_parts.proofs.Items.{if_ok}
+use Rattle.front_lock.proofs.Items.{if_ok}
 use Rattle.pool_ends.specs.Lanes.{HasWhole}
 use Rattle.pool_rows.specs.Laws.{calls_twice}
 use Rattle.pool_ends.proofs.Calls.{both, whole_more}

@@ -1,7 +1,7 @@
 use Rattle.std.proofs.Common.{Some}
 use Rattle.std.proofs.lemmas.List.Elements.{All-pop}
-use Rattle.shard_parts.specs.declared.front_row.FrontsSeat.{FrontsSeat}
-use Rattle.shard_parts.specs.FrontRow.{AreSeatsOf}
+use Rattle.front_lock.specs.declared.row.FrontsSeat.{FrontsSeat}
+use Rattle.front_lock.specs.FrontRow.{AreSeatsOf}
 use Rattle.store_shared.specs.PeerBases.{peer_basis}
 use Rattle.shared_cases.proofs.offer_turns.both.Goals as goal
 

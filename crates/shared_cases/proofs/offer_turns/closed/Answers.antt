@@ -1,5 +1,5 @@
 use Rattle.std.proofs.Common.{subst, arith}
-use Rattle.shard_parts.specs.FrontRow.{SpeaksOnAll}
+use Rattle.front_lock.specs.FrontRow.{SpeaksOnAll}
 use Rattle.shared_cases.proofs.Seats.{two_speak}
 use Rattle.shared_cases.proofs.offer_turns.closed.Goals as goal
 

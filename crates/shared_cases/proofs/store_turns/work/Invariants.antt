@@ -1,4 +1,4 @@
-use Rattle.shard_parts.specs.FrontRow.{AreSeatsOf}
+use Rattle.front_lock.specs.FrontRow.{AreSeatsOf}
 use Rattle.store_shared.specs.StoreBases.{store_basis}
 use Rattle.shared_cases.proofs.store_turns.work.Given as goal
 

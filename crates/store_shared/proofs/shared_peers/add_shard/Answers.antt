@@ -1,4 +1,4 @@
-use Rattle.std.proofs.Common.{◌≡◌, ◌∷◌, ◌++◌, [], ◌∙◌, ap}
+use Rattle.std.proofs.Common.{◌∷◌, ◌++◌, [], ◌∙◌, ap}
 use Rattle.store_shared.specs.PeerBases.{peer_basis_at}
 use Rattle.store_shared.proofs.shared_peers.add_shard.Goals as goal
 

@@ -1,4 +1,4 @@
-use Rattle.std.proofs.Common.{◌≡◌, ◌∷◌, ◌++◌, [], ◌∙◌, ap}
+use Rattle.std.proofs.Common.{◌∷◌, ◌++◌, [], ◌∙◌, ap}
 use Rattle.store_shared.specs.StoreBases.{basis_at}
 use Rattle.store_shared.proofs.shared_store.add_shard.Goals as goal
 

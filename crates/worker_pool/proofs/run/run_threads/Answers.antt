@@ -1,5 +1,5 @@
 use Rattle.std.proofs.Common.{ℕ, ◌<◌, length}
-use Rattle.shard_parts.proofs.Items.{if_ok}
+use Rattle.front_lock.proofs.Items.{if_ok}
 use Rattle.worker_pool.proofs.Speaking.{all_speak}
 use Rattle.worker_pool.proofs.run.run_threads.Goals as goal
 

@@ -1,5 +1,5 @@
 use Rattle.session_store.specs.Shards.{shard_of}
-use Rattle.shard_parts.specs.FrontRow.{seen_at}
+use Rattle.front_lock.specs.FrontRow.{seen_at}
 use Rattle.store_shared.specs.PeerBases.{peer_turns}
 use Rattle.pool_rows.specs.Shared.{turns_on}
 use Rattle.pool_rows.proofs.Closed.{calls_lawful, closed_seen, every}

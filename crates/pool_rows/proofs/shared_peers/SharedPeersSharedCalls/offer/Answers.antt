@@ -3,7 +3,7 @@ use Rattle.std.specs.Arc.{arc_value}
 use Rattle.session_store.specs.Charter.{IsCharter}
 use Rattle.session_store.specs.Shards.{shard_of}
 use Rattle.shard_parts.specs.BothPeers.{lane_of}
-use Rattle.shard_parts.proofs.Items.{if_ok}
+use Rattle.front_lock.proofs.Items.{if_ok}
 use Rattle.pool_rows.proofs.Charters.{line_at, number_low}
 use Rattle.pool_rows.proofs.Offers.{accepted_still, offer_told}
 use Rattle.pool_rows.proofs.Seats.{goes_on, offered_moves}

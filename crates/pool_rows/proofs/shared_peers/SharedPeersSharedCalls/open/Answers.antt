@@ -1,4 +1,4 @@
-use Rattle.shard_parts.proofs.Items.{if_ok}
+use Rattle.front_lock.proofs.Items.{if_ok}
 use Rattle.pool_rows.proofs.Offers.{fresh_calls}
 use Rattle.pool_rows.proofs.Closed.{fresh_speaks, if_both}
 use Rattle.pool_rows.proofs.shared_peers.SharedPeersSharedCalls.open.Goals as goal

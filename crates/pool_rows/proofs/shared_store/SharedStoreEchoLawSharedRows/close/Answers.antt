@@ -1,6 +1,6 @@
 use Rattle.std.proofs.Common.{ℕ, ap, ◌∙◌}
 use Rattle.session_store.specs.Shards.{shard_of}
-use Rattle.shard_parts.specs.FrontRow.{seen_at}
+use Rattle.front_lock.specs.FrontRow.{seen_at}
 use Rattle.store_shared.specs.StoreBases.{shard_bases, store_turns}
 use Rattle.pool_rows.specs.Shared.{turns_on}
 use Rattle.pool_rows.proofs.Closed.{closed_seen, every}

@@ -1,7 +1,7 @@
 use Rattle.std.proofs.Common.{ℕ, subst, sym}
 use Rattle.session_store.specs.Rows.{IsDevice}
 use Rattle.session_store.specs.Shards.{shard_of}
-use Rattle.shard_parts.proofs.Items.{if_ok}
+use Rattle.front_lock.proofs.Items.{if_ok}
 use Rattle.pool_rows.proofs.Closed.{if_both}
 use Rattle.pool_rows.proofs.Known.{known_after, known_more, lawful_now}
 use Rattle.pool_rows.proofs.Seats.{called_moves, goes_on}

@@ -1,6 +1,6 @@
 use Rattle.std.proofs.Common.{length, sym, ap, ◌∙◌}
 use Rattle.session_store.specs.Charter.{CharterState}
-use Rattle.shard_parts.proofs.Items.{if_ok}
+use Rattle.front_lock.proofs.Items.{if_ok}
 use Rattle.pool_rows.proofs.Known.{fresh_rows}
 use Rattle.pool_rows.proofs.Closed.{fresh_speaks, if_all, if_both}
 use Rattle.pool_rows.proofs.shared_store.SharedStoreEchoLawSharedRows.open.Goals as goal

@@ -1,4 +1,4 @@
-use Rattle.std.proofs.Common.{◌≡◌, sym, ap, ◌∙◌}
+use Rattle.std.proofs.Common.{ap}
 use Rattle.std.specs.Arc.{arc_value}
 use Rattle.store_shared.specs.declared.turn.TurnAnswer.TheVariants as answers
 use Rattle.store_shared.specs.PeerShards.{offer_by}

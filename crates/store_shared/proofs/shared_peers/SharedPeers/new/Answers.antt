@@ -1,8 +1,8 @@
-use Rattle.std.proofs.Common.{◌≡◌, List, subst}
+use Rattle.std.proofs.Common.{List, subst}
 use Rattle.store_shared.specs.declared.basis.PeerBasis.{PeerBasis}
-use Rattle.shard_parts.specs.FrontRow.{AreFreshSeats}
+use Rattle.front_lock.specs.FrontRow.{AreFreshSeats}
 use Rattle.store_shared.specs.PeerBases.{peer_basis}
-use Rattle.shard_parts.proofs.Columns.{all_fresh}
+use Rattle.front_lock.proofs.Columns.{all_fresh}
 use Rattle.store_shared.proofs.shared_peers.SharedPeers.new.Goals as goal
 
 pub returns-clause-seats : goal.returns-clause-seats

@@ -5,8 +5,8 @@ use Rattle.store_shared.specs.declared.basis.ShardBasis.{ShardBasis}
 use Rattle.store_shared.specs.declared.store_shard.StoreShard.{StoreShard}
 use Rattle.store_shared.specs.declared.turn.Turn.{Turn}
 use Rattle.store_shared.specs.StoreBases.{store_basis}
-use Rattle.shard_parts.specs.FrontRow.{SpeaksOnAll}
-use Rattle.shard_parts.proofs.Columns.{all_of}
+use Rattle.front_lock.specs.FrontRow.{SpeaksOnAll}
+use Rattle.front_lock.proofs.Columns.{all_of}
 use Rattle.store_shared.proofs.Turns.{closed_bases}
 use Rattle.store_shared.proofs.shared_store.SharedStore.close.Goals as goal
 

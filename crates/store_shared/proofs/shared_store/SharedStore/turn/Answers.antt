@@ -1,9 +1,9 @@
-use Rattle.std.proofs.Common.{◌≡◌, ◌≢◌, ℕ, List, sym, ap, ◌∙◌, subst}
+use Rattle.std.proofs.Common.{ℕ, List, sym, ap, ◌∙◌, subst}
 use Rattle.std.specs.Prelude.{slice_get, IfOk, IfErr}
 use Rattle.session_store.specs.Shards.{shard_of}
 use Rattle.store_shared.specs.declared.basis.ShardBasis.{ShardBasis}
 use Rattle.store_shared.specs.declared.turn.Turn.{Turn}
-use Rattle.shard_parts.specs.FrontRow.{TurnsAt, MissesAt}
+use Rattle.front_lock.specs.FrontRow.{TurnsAt, MissesAt}
 use Rattle.store_shared.specs.StoreBases.{basis_at, seat_of, store_basis, store_turns}
 use Rattle.store_shared.proofs.Turns.{front_basis, low, seen_is}
 use Rattle.store_shared.proofs.shared_store.SharedStore.turn.Goals as goal

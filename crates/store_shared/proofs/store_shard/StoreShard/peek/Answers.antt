@@ -1,4 +1,4 @@
-use Rattle.std.proofs.Common.{◌≡◌, sym, ap, ◌∙◌}
+use Rattle.std.proofs.Common.{ap}
 use Rattle.store_shared.specs.declared.turn.TurnCall.TheVariants as calls
 use Rattle.store_shared.specs.declared.turn.TurnAnswer.TheVariants as answers
 use Rattle.store_shared.specs.StoreShards.{turn_by}

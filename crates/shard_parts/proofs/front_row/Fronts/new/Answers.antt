@@ -1,6 +1,0 @@
-use Rattle.std.proofs.Common.{map}
-use Rattle.shard_parts.proofs.Columns.{fresh_seats}
-use Rattle.shard_parts.proofs.front_row.Fronts.new.Goals as goal
-
-pub returns-clause-seats : goal.returns-clause-seats
-returns-clause-seats g c = fresh_seats g.T.Held.basis (map g.T.Held.basis c.args.values.items) c.args.seats c.add_fronts.new.fronts.items c.add_fronts.new.made.items c.in_ok-add_fronts.ensures

@@ -1,5 +1,0 @@
-use Rattle.shard_parts.proofs.Columns.{speaks_own}
-use Rattle.shard_parts.proofs.front_row.FrontsSeat.number.Goals as goal
-
-pub returns-clause-speaks : goal.returns-clause-speaks
-returns-clause-speaks g c = speaks_own g.T.Held.by c.args.self.now.seats.items c.args.self.now.number (λ s. s.knows) c.args.self.now.numbered
