@@ -1,5 +1,5 @@
 //! A law that allows whatever a row takes, and stores of 32 devices under it.
-ghost use Rattle.std.specs.Prelude.{◌≡◌, [], IfOk};
+ghost use Rattle.std.specs.Prelude.{[], IfOk};
 ghost use Rattle.std.specs.Arc.{arc_value};
 ghost use Rattle.session_store.specs.Law.{CanFollow};
 

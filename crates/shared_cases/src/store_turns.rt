@@ -6,10 +6,11 @@ ghost use Rattle.front_lock.specs.FrontRow.{AreSeatsOf};
 ghost use Rattle.store_shared.specs.StoreBases.{store_basis};
 
 use crate::any_law::{AnyLaw, any_law, first_entry};
-use device_types::{DeviceId, Lane};
+use device_types::{DeviceId, Lane, Look};
 use session_row::Commit;
 use session_store::Asked;
 use std::alloc::{AllocError, Global};
+use std::fmt::Debug;
 use std::sync::Wait;
 use std::test::Fail;
 use std::thread;
@@ -53,17 +54,32 @@ enum Call {
     Settle,
 }
 
+/// Tells a value, as the rest of a line.
+fn tell_line<V: Debug>(value: &V, told: &mut String) {
+    let _ = writeln!(told, "{value:?}");
+}
+
+/// Tells what the row said.
+fn tell_look(call: &str, version: u64, look: &Look, told: &mut String) {
+    let _ = writeln!(told, "{call} {version} {look:?}");
+}
+
+/// Tells whether there was an effect.
+fn tell_pushed(pushed: bool, told: &mut String) {
+    let _ = writeln!(told, "pushed {pushed}");
+}
+
 /// Tells who called at which device, and what it came to.
 fn tell_answer(seat: u32, d: DeviceId, answer: &TurnAnswer, told: &mut String) {
     let _ = write!(told, "seat {seat} on {} ", d.0);
-    let _ = match answer {
-        TurnAnswer::Read(seen) => writeln!(told, "read {} {:?}", seen.version, seen.look),
-        TurnAnswer::Peek(peeked) => writeln!(told, "peeked {} {:?}", peeked.version, peeked.look),
-        TurnAnswer::Commit(commit) => writeln!(told, "{commit:?}"),
-        TurnAnswer::Push(effect) => writeln!(told, "pushed {}", effect.is_some()),
-        TurnAnswer::Settle(settled) => writeln!(told, "{settled:?}"),
-        TurnAnswer::Offer(offer) => writeln!(told, "{offer:?}"),
-    };
+    match answer {
+        TurnAnswer::Read(seen) => tell_look("read", seen.version, &seen.look, told),
+        TurnAnswer::Peek(peeked) => tell_look("peeked", peeked.version, &peeked.look, told),
+        TurnAnswer::Commit(commit) => tell_line(commit, told),
+        TurnAnswer::Push(effect) => tell_pushed(effect.is_some(), told),
+        TurnAnswer::Settle(settled) => tell_line(settled, told),
+        TurnAnswer::Offer(offer) => tell_line(offer, told),
+    }
 }
 
 /// Writes version 0 of a device. `None` where memory runs out.
@@ -97,11 +113,17 @@ fn called<R: Wait>(
 {
     let asked = Asked::Message(1);
     match call {
-        Call::Read => Some(TurnAnswer::Read(store.read(rt, seat, d, asked).ok()?)),
-        Call::Peek => Some(TurnAnswer::Peek(store.peek(rt, seat, d, asked).ok()?)),
-        Call::Write => Some(TurnAnswer::Commit(commit_first(rt, alloc, store, seat, d)?)),
-        Call::Push => Some(TurnAnswer::Push(store.push(rt, seat, d, Lane::Down, 1).ok()?)),
-        Call::Settle => Some(TurnAnswer::Settle(store.settle(rt, seat, d, Lane::Down, 0).ok()?)),
+        Call::Read => store.read(rt, seat, d, asked).ok().map(TurnAnswer::Read),
+        Call::Peek => store.peek(rt, seat, d, asked).ok().map(TurnAnswer::Peek),
+        Call::Write => commit_first(rt, alloc, store, seat, d).map(TurnAnswer::Commit),
+        Call::Push => store
+            .push(rt, seat, d, Lane::Down, 1)
+            .ok()
+            .map(TurnAnswer::Push),
+        Call::Settle => store
+            .settle(rt, seat, d, Lane::Down, 0)
+            .ok()
+            .map(TurnAnswer::Settle),
     }
 }
 
