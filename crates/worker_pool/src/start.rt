@@ -1,5 +1,5 @@
 //! The threads: the workers, the mover, and the entry in the thread of the caller.
-ghost use Rattle.std.specs.Prelude.{◌≡◌, ℕ, [], ◌∷◌, ◌++◌, length, All, IfNone, IfSome};
+ghost use Rattle.std.specs.Prelude.{◌≡◌, ℕ, [], ◌∷◌, ◌++◌, length, All, IfErr, IfNone, IfOk, IfSome};
 ghost use Rattle.crossbeam_channel.specs.Claims.{IsSeatAt};
 ghost use Rattle.crossbeam_channel.specs.Ends.{receives_on, sends_on};
 ghost use Rattle.pool_work.specs.Stores.{AreSeats, AreUnder, BothTakeOver};
@@ -11,7 +11,7 @@ use pool_work::{Desk, Ends, Gate, Line, Named, Place, Seats, another};
 use std::alloc::Global;
 use std::snapshot::Snapshot;
 use std::sync::Wait;
-use std::thread::{Promise, Scope, Threads};
+use std::thread::{Promise, PromisedHandle, Scope, Threads};
 
 /// A worker, or the mover, gives back seats that speak for what its own spoke for.
 #[derive(Drop)]
@@ -134,6 +134,58 @@ where
     mine
 }
 
+/// Starts a worker on these seats. Where there is no memory for its end of the channel, or no thread for it, all are told to end,
+/// and what speaks for the seats comes back.
+fn start_worker<
+    's,
+    E: 's,
+    C: Named + Send + Sync + 's,
+    T: SharedRows + Sync + 's,
+    P: SharedCalls + Sync + 's,
+    R: Threads + Wait + Sync + 's,
+    G: Gate + Sync + 's,
+>(
+    scope: &'s Scope<'s, E>,
+    desk: &'s Desk<'s, T, P, R, G>,
+    alloc: Global,
+    number: u32,
+    seats: Seats<T, P>,
+    ends: &Ends<C>,
+    place: Place,
+) -> Result<PromisedHandle<Seats<T, P>, SeatsBack<'s, T, P>>, Seats<T, P>>
+where
+    T::Seat: Send + Drop + 's,
+    P::Seat: Send + Drop + 's,
+    requires under { AreUnder C.charter desk.now.charter.now (T.charter desk.now.rows.now) (P.charter desk.now.peers.now) }
+    requires seats { AreSeats (T.is_seat desk.now.rows.now) (P.is_seat desk.now.peers.now) seats.rows seats.peers }
+    requires place { IsSeatAt (receives_on ends.now) place }
+    ensures rows { IfOk result (λ worker. worker.promise.rows.now ≡ desk.now.rows.now) }
+    ensures peers { IfOk result (λ worker. worker.promise.peers.now ≡ desk.now.peers.now) }
+    ensures row_seat { IfOk result (λ worker. worker.promise.row_seat.value ≡ seats.rows) }
+    ensures peer_seat { IfOk result (λ worker. worker.promise.peer_seat.value ≡ seats.peers) }
+    ensures err { IfErr result (λ back. BothTakeOver (T.is_seat desk.now.rows.now) T.speaks (P.is_seat desk.now.peers.now) P.speaks seats.rows back.rows seats.peers back.peers) }
+{
+    let Ok(own) = ends.try_clone() else {
+        desk.board.stop();
+        return Err(seats);
+    };
+    let promise = SeatsBack {
+        rows: desk.rows,
+        peers: desk.peers,
+        row_seat: Snapshot::of(&seats.rows),
+        peer_seat: Snapshot::of(&seats.peers),
+    };
+    match scope.spawn_with(promise, move || {
+        desk.work::<C>(number, alloc, seats, own, place)
+    }) {
+        Ok(worker) => Ok(worker),
+        Err(refused) => {
+            desk.board.stop();
+            Err((refused.value)())
+        }
+    }
+}
+
 /// Starts a worker for each seat, then the mover, and sends the messages. What they give back is joined with the seats of the
 /// caller. Where a thread can't be made, all are told to end.
 pub(crate) fn with_workers<
@@ -180,40 +232,17 @@ where
         );
     };
     let number = u32::try_from(row_seats.len()).unwrap_or(0);
-    let Ok(own) = ends.try_clone() else {
-        desk.board.stop();
-        let mut mine = with_workers::<E, C, T, P, R, G>(
-            scope, desk, alloc, workers, row_seats, peer_seats, mine, seats, line, place, ends,
-        );
-        desk.join(&mut mine, own_seats);
-        return mine;
-    };
     let own_place = another(&line, &mut place);
-    let promise = SeatsBack {
-        rows: desk.rows,
-        peers: desk.peers,
-        row_seat: Snapshot::of(&own_seats.rows),
-        peer_seat: Snapshot::of(&own_seats.peers),
+    let worker = start_worker::<E, C, T, P, R, G>(
+        scope, desk, alloc, number, own_seats, &ends, own_place,
+    );
+    let mut mine = with_workers::<E, C, T, P, R, G>(
+        scope, desk, alloc, workers, row_seats, peer_seats, mine, seats, line, place, ends,
+    );
+    let back = match worker {
+        Ok(worker) => worker.join(desk.rt),
+        Err(back) => back,
     };
-    match scope.spawn_with(promise, move || {
-        desk.work::<C>(number, alloc, own_seats, own, own_place)
-    }) {
-        Ok(handle) => {
-            let mut mine = with_workers::<E, C, T, P, R, G>(
-                scope, desk, alloc, workers, row_seats, peer_seats, mine, seats, line, place, ends,
-            );
-            let back = handle.join(desk.rt);
-            desk.join(&mut mine, back);
-            mine
-        }
-        Err(refused) => {
-            desk.board.stop();
-            let back = (refused.value)();
-            let mut mine = with_workers::<E, C, T, P, R, G>(
-                scope, desk, alloc, workers, row_seats, peer_seats, mine, seats, line, place, ends,
-            );
-            desk.join(&mut mine, back);
-            mine
-        }
-    }
+    desk.join(&mut mine, back);
+    mine
 }
