@@ -2,6 +2,7 @@
 //! that begins with `#`, is a comment. A test tells each case again, and compares the whole text with the table.
 
 use std::alloc::Global;
+use std::process::Abort;
 use std::test::Fail;
 
 /// Is the line a case, and no comment?
@@ -27,7 +28,7 @@ fn tell_line<F: Fn(Global, &mut String, &str) -> Result<(), Fail>>(
 }
 
 /// The table again, with what `tell` writes of each case.
-pub(crate) fn told<F: Fn(Global, &mut String, &str) -> Result<(), Fail>>(
+fn told<F: Fn(Global, &mut String, &str) -> Result<(), Fail>>(
     alloc: Global,
     table: &str,
     tell: F,
@@ -39,6 +40,19 @@ pub(crate) fn told<F: Fn(Global, &mut String, &str) -> Result<(), Fail>>(
         tell_line(alloc, &mut text, line, &tell)?;
     }
     Ok(text)
+}
+
+/// Fails where the table that `tell` tells again is another text.
+pub(crate) fn is_told_again<F: Fn(Global, &mut String, &str) -> Result<(), Fail>>(
+    rt: &impl Abort,
+    alloc: Global,
+    table: &str,
+    tell: F,
+) -> Result<(), Fail>
+    requires { F.IsAlwaysCallable tell }
+{
+    assert_eq!(rt; told(alloc, table, tell)?.as_str(), table);
+    Ok(())
 }
 
 /// Writes the digits of a case again, and gives their octets. It fails where they are no octets.
