@@ -1,9 +1,9 @@
 -- What follows of a sample.
-use Rattle.std.proofs.Common.{ℕ, ◌<◌, List, [], ◌∷◌, length, Ok, Err, All, ◌≡◌, sym, subst, arith}
+use Rattle.std.proofs.Common.{ℕ, ◌<◌, List, [], ◌∷◌, length, Result, Ok, Err, All, ◌≡◌, refl, sym, subst, arith}
+use Rattle.std.specs.Prelude.{IfErr, IfOk}
 use Rattle.std.proofs.lemmas.List.Elements.{All-append, All-from_recursion}
 use Rattle.echo_base.specs.declared.refusal.Bad.{Bad}
-use Rattle.echo_base.specs.declared.refusal.Bad.TheVariants.{Refused}
-use Rattle.echo_base.specs.declared.refusal.Refusal.{Refusal}
+use Rattle.echo_base.specs.declared.refusal.Bad.TheVariants.{Refused, OutOfMemory}
 use Rattle.s1ap_pdu.specs.declared.pdu.Pdu.{Pdu}
 use Rattle.aper_fields.specs.Run.{◌▸◌, fixed_bits_run, number_run, open_run}
 use Rattle.aper_fields.proofs.NotEmpty.{first_some, bit_some}
@@ -16,10 +16,15 @@ use Rattle.echo_base.specs.Answer.{IsAnswer}
 use Rattle.codec_bench.specs.declared.sample.Sample.{Sample}
 use Rattle.codec_bench.specs.Sample.{IsSample, IsMore}
 
--- octets that are read are not refused
-pub not_refused : (p : Pdu) (bad : Bad) (e : Refusal) → bad ≡ Refused e → IsAnswer (Ok p) (Err bad) → ⊥
-not_refused p (Refused d) e is answer = cc
-not_refused p _ e is answer = cc
+-- where a message is wanted, that is read, or memory is wanting
+pub wanted_is_read : (p : Pdu) (read : Result Pdu Bad) → IsAnswer (Ok p) read → IfOk read (λ v. v ≡ p)
+wanted_is_read p (Ok v) answer = cc
+wanted_is_read p (Err e) answer = tt
+
+pub none_for_memory : (p : Pdu) (read : Result Pdu Bad) → IsAnswer (Ok p) read → IfErr read (λ e. e ≡ OutOfMemory)
+none_for_memory p (Ok v) answer = tt
+none_for_memory p (Err (Refused e)) answer = absurd cc
+none_for_memory p (Err OutOfMemory) answer = refl
 
 pub still_samples : (line : List ℕ) (old new : List Sample) → All IsSample old → IsMore line old new → All IsSample new
 still_samples line old new all more = subst (All IsSample) (sym more.2) (All-append IsSample old (more.0 ∷ []) all (All-from_recursion IsSample (more.0 ∷ []) (more.1.1, tt)))

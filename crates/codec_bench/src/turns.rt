@@ -1,6 +1,7 @@
 //! Reading and writing in turns.
 
-ghost use Rattle.std.specs.Prelude.{◌≡◌, ◌*◌, All, IfOk, IsTrue, count_by, length};
+ghost use Rattle.std.specs.Prelude.{◌≡◌, ◌*◌, All, IfErr, IfOk, IsTrue, count_by, length};
+ghost use Rattle.echo_base.specs.declared.refusal.Bad.TheVariants as bad;
 ghost use Rattle.s1ap_pdu.specs.Run.{written};
 ghost use Rattle.codec_bench.specs.Sample.{IsSample, is_as_written};
 
@@ -10,17 +11,15 @@ use echo_base::{Bad, OutOfMemory};
 use s1ap_messages::{Pdu, read_pdu, write_pdu};
 use std::alloc::Global;
 
-/// Reads the octets of a sample: its message again. It is not inlined, so that no reading is left out or shared.
+/// Reads the octets of a sample: its message again, given as it was read. It fails for want of memory alone. It is not inlined, so
+/// that no reading is left out or shared.
 #[inline(never)]
-fn read_again(alloc: Global, sample: &Sample) -> Result<Pdu, OutOfMemory>
+fn read_again(alloc: Global, sample: &Sample) -> Result<Pdu, Bad>
     requires { IsSample sample.now }
-    ensures { IfOk result (λ pdu. pdu ≡ sample.now.pdu) }
+    ensures ok { IfOk result (λ pdu. pdu ≡ sample.now.pdu) }
+    ensures err { IfErr result (λ e. e ≡ bad.OutOfMemory) }
 {
-    match read_pdu(alloc, sample.octets.items()) {
-        Ok(pdu) => Ok(pdu),
-        Err(Bad::OutOfMemory) => Err(OutOfMemory),
-        Err(Bad::Refused(_)) => unreachable!(),
-    }
+    read_pdu(alloc, sample.octets.items())
 }
 
 /// Writes the message of a sample. It is not inlined, so that no writing is left out or shared.
@@ -78,7 +77,9 @@ fn read_each(alloc: Global, samples: &[Sample]) -> Result<usize, OutOfMemory>
 {
     let mut count = 0;
     for sample in samples {
-        let pdu = read_again(alloc, sample)?;
+        let Ok(pdu) = read_again(alloc, sample) else {
+            return Err(OutOfMemory);
+        };
         count += usize::from(is_alike(&pdu, sample));
     }
     Ok(count)

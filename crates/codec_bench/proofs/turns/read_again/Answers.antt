@@ -1,9 +1,9 @@
 -- The octets spell the message of the sample, so reading gives that, and is never refused.
-use Rattle.codec_bench.proofs.Written.{not_refused}
+use Rattle.codec_bench.proofs.Written.{wanted_is_read, none_for_memory}
 use Rattle.codec_bench.proofs.turns.read_again.Goals as goal
 
-pub unreachable-requires : goal.unreachable-requires
-unreachable-requires c = not_refused c.args.sample.now.pdu _ _ c.in-Err-Refused.field-0-is (c.in-Err-Refused.ensures.only c.args.sample.now.pdu (rw c.items.ensures c.requires.0))
+pub returns-clause-ok : goal.returns-clause-ok
+returns-clause-ok c = wanted_is_read c.args.sample.now.pdu c.read_pdu.result (c.read_pdu.ensures.only c.args.sample.now.pdu (rw c.items.ensures c.requires.0))
 
-pub returns-in-Ok : goal.returns-in-Ok
-returns-in-Ok c = let e = c.in-Ok.ensures.only c.args.sample.now.pdu (rw c.items.ensures c.requires.0) in cc
+pub returns-clause-err : goal.returns-clause-err
+returns-clause-err c = none_for_memory c.args.sample.now.pdu c.read_pdu.result (c.read_pdu.ensures.only c.args.sample.now.pdu (rw c.items.ensures c.requires.0))
