@@ -162,8 +162,8 @@ where
     let law = EchoLaw::new(alloc, table, book)?;
     let copy = law.copy()?;
     let devices = table.len();
-    let (rows, row_seats) = T::open(alloc, law, devices, workers + 2)?;
-    let (peers, peer_seats) = P::open(alloc, copy, table, workers + 2)?;
+    let (rows, row_seats) = T::open(alloc, law, devices, workers + 1)?;
+    let (peers, peer_seats) = P::open(alloc, copy, table, workers + 1)?;
     let desk = Desk {
         rt,
         charter: rows.charter(),

@@ -1,4 +1,4 @@
-//! The threads: the workers, the mover, and the entry in the thread of the caller.
+//! The threads: the mover, the entry, and the workers, the last of which is the thread of the caller.
 ghost use Rattle.std.specs.Prelude.{◌≡◌, ℕ, [], ◌∷◌, ◌++◌, length, All, IfErr, IfNone, IfOk, IfSome};
 ghost use Rattle.crossbeam_channel.specs.Claims.{IsSeatAt};
 ghost use Rattle.crossbeam_channel.specs.Ends.{receives_on, sends_on};
@@ -77,8 +77,53 @@ where
     Some(Seats { rows, peers })
 }
 
-/// Starts the mover, and sends the messages in the thread of the caller. What the mover gives back is joined with the seats of
-/// the caller. Where no thread can be made for it, all are told to end.
+/// Starts the entry, and takes devices on in the thread of the caller, by the seats of the caller. Where no thread can be made for the
+/// entry, all are told to end.
+fn with_entry<
+    's,
+    E: 's,
+    C: Named + Send + Sync + 's,
+    T: SharedRows + Sync + 's,
+    P: SharedCalls + Sync + 's,
+    R: Threads + Wait + Sync + 's,
+    G: Gate + Sync + 's,
+>(
+    scope: &'s Scope<'s, E>,
+    desk: &'s Desk<'s, T, P, R, G>,
+    alloc: Global,
+    workers: u32,
+    mine: Seats<T, P>,
+    line: Line<C>,
+    mut place: Place,
+    ends: Ends<C>,
+) -> Seats<T, P>
+where
+    T::Seat: Send + Drop + 's,
+    P::Seat: Send + Drop + 's,
+    requires under { AreUnder C.charter desk.now.charter.now (T.charter desk.now.rows.now) (P.charter desk.now.peers.now) }
+    requires mine { AreSeats (T.is_seat desk.now.rows.now) (P.is_seat desk.now.peers.now) mine.rows mine.peers }
+    requires ends { receives_on ends ≡ sends_on line }
+    requires place { IsSeatAt (sends_on line) place }
+    ensures { BothTakeOver (T.is_seat desk.now.rows.now) T.speaks (P.is_seat desk.now.peers.now) P.speaks mine.rows result.rows mine.peers result.peers }
+{
+    let own_place = another(&line, &mut place);
+    let entry = EntryThread {
+        rt: desk.rt,
+        charter: desk.charter,
+        board: desk.board,
+        workers,
+    };
+    let Ok(entry) = scope.spawn(move || { entry.enter::<C>(alloc, line, place) }) else {
+        desk.board.stop();
+        return mine;
+    };
+    let back = desk.work::<C>(workers.saturating_sub(1), alloc, mine, ends, own_place);
+    entry.join(desk.rt);
+    back
+}
+
+/// Starts the mover and the entry, and works in the thread of the caller. What the mover gives back is joined with the seats of the
+/// caller. Where no thread can be made for it, all are told to end.
 pub(crate) fn with_mover<
     's,
     E: 's,
@@ -96,6 +141,7 @@ pub(crate) fn with_mover<
     seats: Seats<T, P>,
     line: Line<C>,
     place: Place,
+    ends: Ends<C>,
 ) -> Seats<T, P>
 where
     T::Seat: Send + Drop + 's,
@@ -103,6 +149,7 @@ where
     requires under { AreUnder C.charter desk.now.charter.now (T.charter desk.now.rows.now) (P.charter desk.now.peers.now) }
     requires mine { AreSeats (T.is_seat desk.now.rows.now) (P.is_seat desk.now.peers.now) mine.rows mine.peers }
     requires seats { AreSeats (T.is_seat desk.now.rows.now) (P.is_seat desk.now.peers.now) seats.rows seats.peers }
+    requires ends { receives_on ends ≡ sends_on line }
     requires place { IsSeatAt (sends_on line) place }
     ensures keeps { BothTakeOver (T.is_seat desk.now.rows.now) T.speaks (P.is_seat desk.now.peers.now) P.speaks mine.rows result.rows mine.peers result.peers }
     ensures gains { BothTakeOver (T.is_seat desk.now.rows.now) T.speaks (P.is_seat desk.now.peers.now) P.speaks seats.rows result.rows seats.peers result.peers }
@@ -114,24 +161,21 @@ where
         peer_seat: Snapshot::of(&seats.peers),
     };
     match scope.spawn_with(promise, move || { carry_all::<T, P, R, G>(desk, seats) }) {
-        Ok(handle) => {
-            let entry = EntryThread {
-                rt: desk.rt,
-                charter: desk.charter,
-                board: desk.board,
-                workers,
-            };
-            entry.enter::<C>(alloc, line, place);
-            let back = handle.join(desk.rt);
-            desk.join(&mut mine, back);
+        Ok(mover) => {
+            let mut ran = with_entry::<E, C, T, P, R, G>(
+                scope, desk, alloc, workers, mine, line, place, ends,
+            );
+            let back = mover.join(desk.rt);
+            desk.join(&mut ran, back);
+            ran
         }
         Err(refused) => {
             desk.board.stop();
             let back = (refused.value)();
             desk.join(&mut mine, back);
+            mine
         }
     }
-    mine
 }
 
 /// Starts a worker on these seats. Where there is no memory for its end of the channel, or no thread for it, all are told to end,
@@ -186,8 +230,8 @@ where
     }
 }
 
-/// Starts a worker for each seat, then the mover, and sends the messages. What they give back is joined with the seats of the
-/// caller. Where a thread can't be made, all are told to end.
+/// Starts a worker for each seat, then the mover and the entry, and works in the thread of the caller. What they give back is joined
+/// with the seats of the caller. Where a thread can't be made, all are told to end.
 pub(crate) fn with_workers<
     's,
     E: 's,
@@ -226,9 +270,8 @@ where
     ensures gains_peers { (n : ℕ) → All (λ seat. P.speaks seat n → P.speaks result.peers n) peer_seats.items }
 {
     let Some(own_seats) = take_seats(desk.rows, desk.peers, &mut row_seats, &mut peer_seats) else {
-        drop(ends);
         return with_mover::<E, C, T, P, R, G>(
-            scope, desk, alloc, workers, mine, seats, line, place,
+            scope, desk, alloc, workers, mine, seats, line, place, ends,
         );
     };
     let number = u32::try_from(row_seats.len()).unwrap_or(0);
