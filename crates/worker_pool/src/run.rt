@@ -13,7 +13,7 @@ ghost use Rattle.session_store.specs.Charter.{IsShort, alone_in};
 ghost use Rattle.session_store.specs.Rows.{IsDevice};
 ghost use Rattle.worker_pool.specs.Runs.{charter_of};
 
-use crate::start::{take_seats, with_workers};
+use crate::start::{Crew, take_seats};
 use crossbeam_channel::bounded_with;
 use device_types::{Book, Finals};
 use pool_ends::{Ended, close_all};
@@ -79,9 +79,13 @@ where
             ensures gains_rows { (n : ℕ) → All (λ seat. T.speaks seat n → T.speaks result.rows n) row_seats.items }
             ensures gains_peers { (n : ℕ) → All (λ seat. P.speaks seat n → P.speaks result.peers n) peer_seats.items }
         {
-            with_workers::<_, C, T, P, R, G>(
-                scope, desk, alloc, workers, row_seats, peer_seats, mine, seats, line, place, ends,
-            )
+            let crew = Crew {
+                scope,
+                desk,
+                alloc,
+                workers,
+            };
+            crew.with_workers::<C>(row_seats, peer_seats, mine, seats, line, place, ends)
         },
     ))
 }
