@@ -1,6 +1,6 @@
 //! Pieces that begin at an octet, read from left to right.
 
-ghost use Rattle.std.specs.Prelude.{◌≡◌, ◌+◌, ◌*◌, ◌<◌, ◌≤◌, ◌∷◌, [], ◌++◌, IfSome, length};
+ghost use Rattle.std.specs.Prelude.{◌≡◌, ◌≢◌, ℕ, ◌+◌, ◌*◌, ◌<◌, ◌≤◌, List, ◌∷◌, [], ◌++◌, IfNone, IfSome, length};
 ghost use Rattle.protocol_ies.specs.Criticalities.{criticality_number};
 ghost use Rattle.aper_octets.specs.Octets.{count_octets, counted, least_octets, number_octets, ie_octets};
 
@@ -9,7 +9,8 @@ use s1ap_ies::Criticality;
 /// The first octet, and what stands behind it.
 #[inline(always)]
 pub fn one(octets: &[u8]) -> Option<(u8, &[u8])>
-    ensures { IfSome result (λ x. octets.now ≡ x.0 ∷ x.1.now) }
+    ensures octets { IfSome result (λ x. octets.now ≡ x.0 ∷ x.1.now) }
+    ensures none { IfNone result (octets.now ≡ []) }
 {
     let [a, rest @ ..] = octets else {
         return None;
@@ -20,7 +21,8 @@ pub fn one(octets: &[u8]) -> Option<(u8, &[u8])>
 /// The first three octets, and what stands behind them.
 #[inline(always)]
 pub fn three(octets: &[u8]) -> Option<(u8, u8, u8, &[u8])>
-    ensures { IfSome result (λ x. octets.now ≡ x.0 ∷ x.1 ∷ x.2 ∷ x.3.now) }
+    ensures octets { IfSome result (λ x. octets.now ≡ x.0 ∷ x.1 ∷ x.2 ∷ x.3.now) }
+    ensures none { IfNone result (length octets.now < 3) }
 {
     let [a, b, c, rest @ ..] = octets else {
         return None;
@@ -32,6 +34,7 @@ pub fn three(octets: &[u8]) -> Option<(u8, u8, u8, &[u8])>
 fn long_count(a: u8, b: u8) -> Option<usize>
     ensures octets { IfSome result (λ n. count_octets n ≡ a ∷ b ∷ []) }
     ensures few { IfSome result (λ n. n < 16384) }
+    ensures none { IfNone result ((n : ℕ) → n < 16384 → count_octets n ≢ a ∷ b ∷ []) }
 {
     if a >= 192 || u16::from(a) * 256 + u16::from(b) < 32896 {
         return None;
@@ -45,6 +48,7 @@ fn long_count(a: u8, b: u8) -> Option<usize>
 fn count(octets: &[u8]) -> Option<(usize, &[u8])>
     ensures octets { IfSome result (λ x. octets.now ≡ count_octets x.0 ++ x.1.now) }
     ensures few { IfSome result (λ x. x.0 < 16384) }
+    ensures none { IfNone result ((n : ℕ) (rest : List ℕ) → n < 16384 → octets.now ≢ count_octets n ++ rest) }
 {
     let (a, rest) = one(octets)?;
     if a < 128 {
@@ -59,6 +63,7 @@ fn count(octets: &[u8]) -> Option<(usize, &[u8])>
 pub fn counted(octets: &[u8]) -> Option<(&[u8], &[u8])>
     ensures octets { IfSome result (λ x. octets.now ≡ counted x.0.now ++ x.1.now) }
     ensures few { IfSome result (λ x. length x.0.now < 16384) }
+    ensures none { IfNone result ((content rest : List ℕ) → length content < 16384 → octets.now ≢ counted content ++ rest) }
 {
     let (n, rest) = count(octets)?;
     if rest.len() < n {
@@ -71,7 +76,9 @@ pub fn counted(octets: &[u8]) -> Option<(&[u8], &[u8])>
 /// What an IE contains, and what stands behind it. An item of a list has the same form.
 #[inline(always)]
 pub fn ie(octets: &[u8], id: u16, criticality: Criticality) -> Option<(&[u8], &[u8])>
-    ensures { IfSome result (λ x. octets.now ≡ ie_octets id (criticality_number criticality) x.0.now ++ x.1.now) }
+    ensures octets { IfSome result (λ x. octets.now ≡ ie_octets id (criticality_number criticality) x.0.now ++ x.1.now) }
+    ensures few { IfSome result (λ x. length x.0.now < 16384) }
+    ensures none { IfNone result ((content rest : List ℕ) → length content < 16384 → octets.now ≢ ie_octets id (criticality_number criticality) content ++ rest) }
 {
     let (high, low, third, rest) = three(octets)?;
     if high != 0 || u16::from(low) != id || third != 64 * criticality.number() {
@@ -83,7 +90,8 @@ pub fn ie(octets: &[u8], id: u16, criticality: Criticality) -> Option<(&[u8], &[
 /// A number of at least one octet more than another, which is not 0.
 #[tactic(auto, using(crate::proofs::Numbers::least_more))]
 fn behind(high: u64, low: u8) -> Option<u64>
-    ensures { IfSome result (λ n. least_octets n ≡ least_octets high ++ low ∷ []) }
+    ensures octets { IfSome result (λ n. least_octets n ≡ least_octets high ++ low ∷ []) }
+    ensures none { IfNone result (0 < high → 4294967296 ≤ high) }
 {
     if high == 0 || high >= 4294967296 {
         return None;
@@ -96,6 +104,8 @@ fn longer(high: u64, octets: &[u8], more: u8) -> Option<(u64, &[u8])>
     requires { 0 < more }
     ensures octets { IfSome result (λ x. least_octets high ++ octets.now ≡ least_octets x.0 ++ x.1.now) }
     ensures count { IfSome result (λ x. length (least_octets x.0) ≡ length (least_octets high) + more) }
+    ensures none { IfNone result ((n : ℕ) (rest : List ℕ) → n < 1099511627776 → length (least_octets n) ≡ length (least_octets high) + more
+        → least_octets high ++ octets.now ≢ least_octets n ++ rest) }
 {
     let (low, rest) = one(octets)?;
     let n = behind(high, low)?;
@@ -112,6 +122,7 @@ fn least(octets: &[u8], count: u8) -> Option<(u64, &[u8])>
     requires { 0 < count }
     ensures octets { IfSome result (λ x. octets.now ≡ least_octets x.0 ++ x.1.now) }
     ensures count { IfSome result (λ x. length (least_octets x.0) ≡ count) }
+    ensures none { IfNone result ((n : ℕ) (rest : List ℕ) → n < 1099511627776 → length (least_octets n) ≡ count → octets.now ≢ least_octets n ++ rest) }
 {
     let (first, rest) = one(octets)?;
     if count == 1 {
@@ -127,6 +138,7 @@ fn count_in(head: u8, before: u8, unit: u8) -> Option<u8>
     requires { 0 < unit }
     ensures head { IfSome result (λ k. head ≡ before + unit * k) }
     ensures few { IfSome result (λ k. k ≤ 4) }
+    ensures none { IfNone result ((k : ℕ) → k ≤ 4 → head ≢ before + unit * k) }
 {
     if head < before {
         return None;
@@ -147,7 +159,8 @@ fn count_in(head: u8, before: u8, unit: u8) -> Option<u8>
 #[inline(always)]
 pub fn number(octets: &[u8], before: u8, unit: u8) -> Option<(u64, &[u8])>
     requires { 0 < unit }
-    ensures { IfSome result (λ x. octets.now ≡ number_octets before unit x.0 ++ x.1.now) }
+    ensures octets { IfSome result (λ x. octets.now ≡ number_octets before unit x.0 ++ x.1.now) }
+    ensures none { IfNone result ((n : ℕ) (rest : List ℕ) → n < 1099511627776 → octets.now ≢ number_octets before unit n ++ rest) }
 {
     let (head, rest) = one(octets)?;
     let count = count_in(head, before, unit)?;
@@ -159,7 +172,8 @@ pub fn number(octets: &[u8], before: u8, unit: u8) -> Option<(u64, &[u8])>
 #[inline(always)]
 pub fn id(octets: &[u8], before: u8, unit: u8) -> Option<(u32, &[u8])>
     requires { 0 < unit }
-    ensures { IfSome result (λ x. octets.now ≡ number_octets before unit x.0 ++ x.1.now) }
+    ensures octets { IfSome result (λ x. octets.now ≡ number_octets before unit x.0 ++ x.1.now) }
+    ensures none { IfNone result ((n : ℕ) (rest : List ℕ) → n < 4294967296 → octets.now ≢ number_octets before unit n ++ rest) }
 {
     let (n, rest) = number(octets, before, unit)?;
     if n >= 4294967296 {

@@ -1,6 +1,6 @@
 //! Pieces that begin at an octet, written one behind another.
 
-ghost use Rattle.std.specs.Prelude.{◌≡◌, ◌+◌, ◌-◌, ◌*◌, ◌<◌, ◌≤◌, ◌∷◌, ◌++◌, IfOk, IfSome, OnOk, length, take, drop};
+ghost use Rattle.std.specs.Prelude.{◌≡◌, ◌+◌, ◌-◌, ◌*◌, ◌<◌, ◌≤◌, ◌∷◌, ◌++◌, IfNone, IfOk, IfSome, OnOk, length, take, drop};
 ghost use Rattle.protocol_ies.specs.Criticalities.{criticality_number};
 ghost use Rattle.aper_octets.specs.Octets.{count_octets, counted, least_octets, number_octets};
 
@@ -132,6 +132,7 @@ pub fn put_number(out: &mut Vec<u8>, before: u8, unit: u8, n: u64) -> Result<(),
 pub fn finish(out: Vec<u8>) -> Result<Option<Octets>, AllocError>
     ensures octets { IfOk result (λ found. IfSome found (λ o. o ≡ take 3 out.items ++ counted (drop 4 out.items))) }
     ensures few { IfOk result (λ found. IfSome found (λ o. (4 ≤ length out.items) × (length out.items < 16388))) }
+    ensures none { IfOk result (λ found. IfNone found (4 ≤ length out.items → 16388 ≤ length out.items)) }
 {
     let mut out = out;
     if out.len() < 4 || out.len() >= 16388 {

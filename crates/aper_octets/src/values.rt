@@ -1,6 +1,7 @@
 //! Values of IEs, made of the octets that they are.
 
-ghost use Rattle.std.specs.Prelude.{◌≡◌, ◌%◌, ◌<◌, ◌∷◌, [], IfSome};
+ghost use Rattle.std.specs.Prelude.{◌≡◌, ◌≢◌, ◌%◌, ◌<◌, ◌∷◌, [], false, IfNone, IfSome};
+ghost use Rattle.s1ap_ies.specs.declared.cause.Cause.{Cause};
 ghost use Rattle.s1ap_ies.specs.Run.{IsTai, IsCgi, IsStmsi, IsSecCaps, IsCause};
 ghost use Rattle.aper_octets.specs.Octets.{four_octets};
 ghost use Rattle.aper_octets.specs.Values.{tai_octets, cgi_octets, stmsi_octets, caps_octets, cause_octets};
@@ -92,6 +93,8 @@ pub fn caps_of(a: u8, b: u8, c: u8, d: u8, e: u8) -> SecCaps
 pub fn nas_cause(a: u8) -> Option<Cause>
     ensures octets { IfSome result (λ c. cause_octets c ≡ a ∷ []) }
     ensures right { IfSome result (λ c. IsCause c) }
+    ensures root { IfSome result (λ c. (c.group ≡ 2) × (c.extended ≡ false)) }
+    ensures none { IfNone result ((c : Cause) → IsCause c → c.group ≡ 2 → c.extended ≡ false → cause_octets c ≢ a ∷ []) }
 {
     if a < 32 || a >= 40 || a % 2 != 0 {
         return None;
@@ -109,6 +112,8 @@ pub fn nas_cause(a: u8) -> Option<Cause>
 pub fn radio_cause(a: u8, b: u8) -> Option<Cause>
     ensures octets { IfSome result (λ c. cause_octets c ≡ a ∷ b ∷ []) }
     ensures right { IfSome result (λ c. IsCause c) }
+    ensures root { IfSome result (λ c. (c.group ≡ 0) × (c.extended ≡ false)) }
+    ensures none { IfNone result ((c : Cause) → IsCause c → c.group ≡ 0 → c.extended ≡ false → cause_octets c ≢ a ∷ b ∷ []) }
 {
     if a >= 8 || b % 32 != 0 || a * 8 + b / 32 >= 36 {
         return None;
