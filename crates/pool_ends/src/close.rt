@@ -30,6 +30,7 @@ pub struct Ended<S, Q> {
 /// all.
 fn close_peers<T: SharedRows, P: SharedCalls + Drop, R: Wait>(
     rt: &R,
+    alloc: Global,
     devices: u32,
     closed: &T::Closed,
     peers: P,
@@ -45,7 +46,7 @@ where
     ensures peers { IfOk result (P.closes (P.charter peers)) }
     ensures lanes { IfOk result (λ closed. (d : ℕ) (lane : Lane) → IsDevice devices d → IsCallLane lane → P.accepted closed d lane ≡ effects_of lane (alone_in (P.charter peers) d)) }
 {
-    bring_lanes::<T, P, R>(rt, &peers, &mut seat, devices, closed)?;
+    bring_lanes::<T, P, R>(rt, alloc, &peers, &mut seat, devices, closed)?;
     peers.close(seat)
 }
 
@@ -79,7 +80,7 @@ where
 {
     let store = rows.close(row_seat)?;
     let finals = finals::<T>(alloc, &store, devices)?;
-    let peers = close_peers::<T, P, R>(rt, devices, &store, peers, peer_seat)?;
+    let peers = close_peers::<T, P, R>(rt, alloc, devices, &store, peers, peer_seat)?;
     Ok(Ended {
         finals,
         store,

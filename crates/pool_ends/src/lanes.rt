@@ -9,9 +9,9 @@ ghost use Rattle.shard_parts.specs.BothPeers.{lane_of};
 ghost use Rattle.pool_rows.specs.Seats.{GoesOn, IsCall, KnowsCalls};
 ghost use Rattle.pool_ends.specs.Lanes.{HasWhole, told_count};
 
-use device_types::{DeviceId, Effect, Entry, Lane, Offer, TryCopy};
+use device_types::{DeviceId, Effect, Entry, Lane, Offer, Shared, TryCopy};
 use pool_rows::{SharedCalls, SharedRows};
-use std::alloc::AllocError;
+use std::alloc::{AllocError, Global};
 use std::sync::Wait;
 
 /// Is the effect on the lane?
@@ -96,7 +96,7 @@ fn offer_call<P: SharedCalls, R: Wait>(
     seat: &mut P::Seat,
     d: DeviceId,
     k: u64,
-    call: Effect,
+    call: Shared<Effect>,
 ) -> Result<u64, AllocError>
     requires call { IsCall (P.charter peers.now) d.0 k call }
     requires seat { P.is_seat peers.now seat.old }
@@ -111,6 +111,7 @@ fn offer_call<P: SharedCalls, R: Wait>(
 /// Offers call `k` of a lane, and says how many of the lane were accepted at least. Where all before it were, it is.
 fn bring_call<P: SharedCalls, R: Wait>(
     rt: &R,
+    alloc: Global,
     peers: &P,
     seat: &mut P::Seat,
     d: DeviceId,
@@ -130,7 +131,7 @@ fn bring_call<P: SharedCalls, R: Wait>(
     let Some(effect) = effect_of(journal, lane, k - 1) else {
         unreachable!();
     };
-    let call = effect.copy()?;
+    let call = Shared::new(alloc, effect.copy()?)?;
     offer_call(rt, peers, seat, d, k, call)
 }
 
@@ -138,6 +139,7 @@ fn bring_call<P: SharedCalls, R: Wait>(
 /// not come those.
 fn bring_lane<P: SharedCalls, R: Wait>(
     rt: &R,
+    alloc: Global,
     peers: &P,
     seat: &mut P::Seat,
     d: DeviceId,
@@ -157,9 +159,9 @@ fn bring_lane<P: SharedCalls, R: Wait>(
     if count == 0 {
         return Ok(());
     }
-    let had = bring_call(rt, peers, seat, d, lane, journal, count)?;
+    let had = bring_call(rt, alloc, peers, seat, d, lane, journal, count)?;
     for k in had..count {
-        bring_call(rt, peers, seat, d, lane, journal, k + 1)?;
+        bring_call(rt, alloc, peers, seat, d, lane, journal, k + 1)?;
     }
     Ok(())
 }
@@ -167,6 +169,7 @@ fn bring_lane<P: SharedCalls, R: Wait>(
 /// Brings both lanes of a device, whose whole journal is given.
 fn bring_device<P: SharedCalls, R: Wait>(
     rt: &R,
+    alloc: Global,
     peers: &P,
     seat: &mut P::Seat,
     d: DeviceId,
@@ -178,14 +181,15 @@ fn bring_device<P: SharedCalls, R: Wait>(
     ensures seat { GoesOn (P.is_seat peers.now) P.speaks (KnowsCalls P.known) seat.old seat.new }
     ensures whole { OnOk result ((l : Lane) → IsCallLane l → HasWhole (P.charter peers.now) d.0 l (P.known seat.new d.0 l)) }
 {
-    bring_lane(rt, peers, seat, d, Lane::Gateway, journal)?;
-    bring_lane(rt, peers, seat, d, Lane::Subscriber, journal)
+    bring_lane(rt, alloc, peers, seat, d, Lane::Gateway, journal)?;
+    bring_lane(rt, alloc, peers, seat, d, Lane::Subscriber, journal)
 }
 
 /// Brings both lanes of each device of closed rows, whose journals are whole, so that the seat knows each to be accepted as a
 /// whole. It fails for want of memory alone.
 pub fn bring_lanes<T: SharedRows, P: SharedCalls, R: Wait>(
     rt: &R,
+    alloc: Global,
     peers: &P,
     seat: &mut P::Seat,
     devices: u32,
@@ -200,7 +204,7 @@ pub fn bring_lanes<T: SharedRows, P: SharedCalls, R: Wait>(
 {
     for index in 0..devices {
         let d = DeviceId(index + 1);
-        bring_device(rt, peers, seat, d, T::journal(closed, d))?;
+        bring_device(rt, alloc, peers, seat, d, T::journal(closed, d))?;
     }
     Ok(())
 }

@@ -9,7 +9,7 @@ ghost use Rattle.shard_parts.specs.BothPeers.{lane_of};
 ghost use Rattle.store_shared.specs.Legal.{IsAcceptedOf};
 ghost use Rattle.pool_rows.specs.Seats.{GoesOn, IsCall, IsOffer, KnowsCalls};
 
-use device_types::{DeviceId, Effect, Lane, Offer};
+use device_types::{DeviceId, Effect, Lane, Offer, Shared};
 use session_store::{Charter, EchoLaw};
 use std::alloc::{AllocError, Global};
 use std::sync::Wait;
@@ -74,7 +74,7 @@ pub trait SharedCalls: Sized {
         seat: &mut Self::Seat,
         d: DeviceId,
         k: u64,
-        call: Effect,
+        call: Shared<Effect>,
     ) -> Result<Offer, AllocError>
         requires seat { is_seat self.now seat.old }
         requires call { IsCall (charter self.now) d.0 k call }

@@ -11,7 +11,7 @@ ghost use Rattle.session_store.specs.Rows.{Begins, IsDevice, IsKnownAfter, openi
 ghost use Rattle.session_store.specs.Seen.{IsAsked, peeked_of, seen_of};
 ghost use Rattle.pool_rows.specs.Seats.{GoesOn, KnowsRows, Settles};
 
-use device_types::{DeviceId, Effect, Entry, Lane, NoRoom};
+use device_types::{DeviceId, Effect, Entry, Lane, NoRoom, Shared};
 use effect_outbox::Settled;
 use session_row::Commit;
 use session_store::{Asked, Charter, EchoLaw, Peeked, Seen};
@@ -130,7 +130,7 @@ pub trait SharedRows: Sized {
         d: DeviceId,
         lane: Lane,
         k: u64,
-    ) -> Result<Option<Effect>, AllocError>
+    ) -> Result<Option<Shared<Effect>>, AllocError>
         requires seat { is_seat self.now seat.old }
         requires device { IsDevice (length (charter self.now).rows) d.0 }
         ensures seat { GoesOn (is_seat self.now) speaks (KnowsRows known) seat.old seat.new }

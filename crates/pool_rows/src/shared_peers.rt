@@ -6,7 +6,7 @@ ghost use Rattle.store_shared.specs.PeerBases.{peer_basis};
 ghost use Rattle.pool_rows.specs.Shared.{AreClosedPeers, calls_known, closed_calls};
 
 use crate::calls::SharedCalls;
-use device_types::{DeviceId, Effect, Offer};
+use device_types::{DeviceId, Effect, Offer, Shared};
 use session_store::{Charter, EchoLaw};
 use std::alloc::{AllocError, Global};
 use std::sync::Wait;
@@ -53,7 +53,7 @@ impl SharedCalls for SharedPeers {
         seat: &mut PeerSeat,
         d: DeviceId,
         k: u64,
-        call: Effect,
+        call: Shared<Effect>,
     ) -> Result<Offer, AllocError> {
         SharedPeers::charter(self).recall();
         SharedPeers::offer(self, rt, seat, d, k, call)

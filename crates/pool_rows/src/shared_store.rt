@@ -6,7 +6,7 @@ ghost use Rattle.store_shared.specs.StoreBases.{store_basis};
 ghost use Rattle.pool_rows.specs.Shared.{AreClosedRows, RowComes, closed_journal, row_known};
 
 use crate::rows::SharedRows;
-use device_types::{DeviceId, Effect, Entry, Lane, NoRoom};
+use device_types::{DeviceId, Effect, Entry, Lane, NoRoom, Shared};
 use effect_outbox::Settled;
 use session_row::Commit;
 use session_store::{Asked, Charter, EchoLaw, Peeked, Seen, shard_of};
@@ -88,7 +88,7 @@ impl SharedRows for SharedStore<EchoLaw> {
         d: DeviceId,
         lane: Lane,
         k: u64,
-    ) -> Result<Option<Effect>, AllocError> {
+    ) -> Result<Option<Shared<Effect>>, AllocError> {
         SharedStore::push(self, rt, seat, d, lane, k)
     }
 

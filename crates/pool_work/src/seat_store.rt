@@ -6,7 +6,7 @@ ghost use Rattle.session_store.specs.Rows.{IsDevice};
 ghost use Rattle.pool_work.specs.Stores.{IsPushed, Kept, seen_of_alone};
 ghost use Rattle.pool_work.specs.Keeps.{kept_same, kept_twice};
 
-use device_types::{DeviceId, Effect, Entry, Lane, NoRoom};
+use device_types::{DeviceId, Effect, Entry, Lane, NoRoom, Shared};
 use effect_outbox::Settled;
 use pool_rows::SharedRows;
 use session_row::Commit;
@@ -65,7 +65,12 @@ impl<'a, T: SharedRows, R: Wait> SeatStore<'a, T, R> {
     }
 
     /// Effect `k` of a lane of the device, from 1, while it is not settled: that of the machine alone.
-    pub fn push(&mut self, d: DeviceId, lane: Lane, k: u64) -> Result<Option<Effect>, AllocError>
+    pub fn push(
+        &mut self,
+        d: DeviceId,
+        lane: Lane,
+        k: u64,
+    ) -> Result<Option<Shared<Effect>>, AllocError>
         requires device { IsDevice (length (T.charter self.old.rows).rows) d.0 }
         ensures store { Kept T.speaks T.known self.old self.new }
         ensures pushed { IfOk result (λ effect. IfSome effect (λ e. k ≤ pushed_count lane (T.known self.new.seat d.0).journal)) }

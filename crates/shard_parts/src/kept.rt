@@ -6,10 +6,10 @@ ghost use Rattle.session_store.specs.Rows.{unsettled_effect};
 ghost use Rattle.session_store.specs.Seen.{IsAsked, peeked_of, seen_of};
 ghost use Rattle.session_store.specs.Shards.{IsHere, row_in, journal_in, with_row};
 
-use device_types::{DeviceId, Effect, Entry, Lane, NoRoom, TryCopy};
+use device_types::{DeviceId, Effect, Entry, Lane, NoRoom, Shared, TryCopy};
 use session_row::Commit;
 use session_store::{Asked, Peeked, RowLaw, Seen, Shard};
-use std::alloc::AllocError;
+use std::alloc::{AllocError, Global};
 
 // A value, and a copy of it.
 fn with_copy<A: TryCopy + Drop>(value: A) -> Result<(A, A), AllocError>
@@ -18,20 +18,6 @@ fn with_copy<A: TryCopy + Drop>(value: A) -> Result<(A, A), AllocError>
 {
     let kept = value.copy()?;
     Ok((value, kept))
-}
-
-// The same of what may be there.
-fn with_copy_if_some<A: TryCopy + Drop>(
-    value: Option<A>,
-) -> Result<(Option<A>, Option<A>), AllocError>
-    ensures value { IfOk result (λ both. both.0 ≡ value) }
-    ensures copy { IfOk result (λ both. both.1 ≡ both.0) }
-{
-    let Some(value) = value else {
-        return Ok((None, None));
-    };
-    let (value, kept) = with_copy(value)?;
-    Ok((Some(value), Some(kept)))
 }
 
 /// What is seen of the row of a device, about an input, and the same once more.
@@ -64,19 +50,24 @@ pub fn peek_twice<L: RowLaw>(
     with_copy(peeked)
 }
 
-/// Effect `k` of a lane of the device, as the row has it, and the same once more.
+/// Effect `k` of a lane of the device, as the row has it, and the same once more: both share it.
 pub fn push_twice<L: RowLaw>(
+    alloc: Global,
     shard: &Shard<L>,
     d: DeviceId,
     lane: Lane,
     k: u64,
-) -> Result<(Option<Effect>, Option<Effect>), AllocError>
+) -> Result<(Option<Shared<Effect>>, Option<Shared<Effect>>), AllocError>
     requires { IsHere shard.now d.0 }
     ensures value { IfOk result (λ both. both.0 ≡ unsettled_effect (row_in shard.now.rows d.0) lane k) }
     ensures copy { IfOk result (λ both. both.1 ≡ both.0) }
 {
-    let effect = shard.push(d, lane, k)?;
-    with_copy_if_some(effect)
+    let Some(effect) = shard.push(d, lane, k)? else {
+        return Ok((None, None));
+    };
+    let effect = Shared::new(alloc, effect)?;
+    let (effect, kept) = with_copy(effect)?;
+    Ok((Some(effect), Some(kept)))
 }
 
 /// Writes an entry, where the row still has the version that was read, and gives a copy of it.

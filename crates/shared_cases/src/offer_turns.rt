@@ -17,7 +17,7 @@ ghost use Rattle.store_shared.specs.PeerShards.{IsOffered};
 use device_machine::{end_has_the_lanes, end_of};
 use device_types::{
     Answer, Body, Book, DeviceEnd, DeviceId, Effect, Lane, Message, Messages, Octets, Offer,
-    Subscriber, TryCopy,
+    Shared, Subscriber, TryCopy,
 };
 use session_store::EchoLaw;
 use std::alloc::{AllocError, Global};
@@ -166,7 +166,13 @@ fn tell_offer(seat: u32, k: u64, offer: &Offer, told: &mut String) {
 }
 
 /// Call `k` of the device on a lane of a peer, if it has one.
-fn call_of(row: &Subscriber, line: &Messages, end: &DeviceEnd, lane: Lane, k: u64) -> Option<Effect>
+fn call_of(
+    row: &Subscriber,
+    line: &Messages,
+    end: &DeviceEnd,
+    lane: Lane,
+    k: u64,
+) -> Option<Shared<Effect>>
     requires end { end.now ≡ end_of row.now line.now }
     requires number { 1 ≤ k }
     ensures called { IfSome result (λ call. is_call call ≡ true) }
@@ -177,11 +183,11 @@ fn call_of(row: &Subscriber, line: &Messages, end: &DeviceEnd, lane: Lane, k: u6
     match lane {
         Lane::Gateway => {
             let call = end.gateway.items().get(place)?;
-            Some(Effect::Gateway(*call))
+            Shared::new(end.gateway.alloc(), Effect::Gateway(*call)).ok()
         }
         Lane::Subscriber => {
             let call = end.subscriber.items().get(place)?;
-            Some(Effect::Subscriber(*call))
+            Shared::new(end.gateway.alloc(), Effect::Subscriber(*call)).ok()
         }
         Lane::Down => None,
     }
@@ -193,7 +199,7 @@ fn offer<R: Wait>(
     peers: &SharedPeers,
     seat: &mut PeerSeat,
     k: u64,
-    call: Option<Effect>,
+    call: Option<Shared<Effect>>,
     told: &mut String,
 )
     requires seat { AreSeatsOf peer_basis peers.now.fronts.fronts.items seat.old.seats.items }

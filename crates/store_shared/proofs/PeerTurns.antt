@@ -9,7 +9,6 @@ use Rattle.device_types.specs.declared.effect.Effect.TheVariants as effects
 use Rattle.device_types.specs.declared.event.Lane.{Lane}
 use Rattle.device_types.specs.declared.event.Lane.TheVariants as lane
 use Rattle.device_types.specs.declared.input.Answer.{Answer}
-use Rattle.device_types.specs.declared.input.Offer.{Offer}
 use Rattle.device_types.specs.declared.input.Offer.TheVariants as offer
 use Rattle.device_types.specs.Journal.{is_on, effects_of}
 use Rattle.device_types.specs.Numbers.{IsWithin}

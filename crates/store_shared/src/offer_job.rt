@@ -5,7 +5,7 @@ ghost use Rattle.store_shared.specs.Legal.{IsTurn, peers_say, AreAcceptedIn};
 ghost use Rattle.store_shared.specs.PeerShards.{IsOffered, offer_by};
 
 use crate::peer_shard::PeerShard;
-use device_types::{DeviceId, Effect, NoRoom, Offer};
+use device_types::{DeviceId, Effect, NoRoom, Offer, Shared};
 use front_lock::Job;
 
 /// A call of a device arrives at its peer.
@@ -13,7 +13,7 @@ use front_lock::Job;
 pub(crate) struct OfferJob {
     pub(crate) d: DeviceId,
     pub(crate) k: u64,
-    pub(crate) call: Effect,
+    pub(crate) call: Shared<Effect>,
 }
 
 impl Job<PeerShard> for OfferJob {

@@ -8,7 +8,7 @@ ghost use Rattle.store_shared.specs.PeerShards.{IsPeerShard, IsOffered, offer_by
 
 use crate::basis::PeerBasis;
 use crate::turn::{Turn, TurnAnswer, TurnCall};
-use device_types::{DeviceId, Effect, NoRoom, Offer, Subscriber};
+use device_types::{DeviceId, Effect, NoRoom, Offer, Shared, Subscriber};
 use front_lock::Held;
 use session_store::{EchoLaw, RowLaw};
 use shard_parts::Peers;
@@ -85,8 +85,8 @@ impl PeerShard {
         seat: u32,
         d: DeviceId,
         k: u64,
-        call: Effect,
-    ) -> Result<Offer, NoRoom<Effect>>
+        call: Shared<Effect>,
+    ) -> Result<Offer, NoRoom<Shared<Effect>>>
         requires offered { IsOffered (arc_value self.old.law.charter) self.old.number d.0 k call }
         ensures basis { (self.new.number ≡ self.old.number) × (arc_value self.new.law.charter ≡ arc_value self.old.law.charter) }
         ensures turn { IfOk result (λ offer. self.new.turns.items ≡ self.old.turns.items ++ offer_by seat d k call (answers.Offer offer) ∷ []) }
@@ -99,7 +99,7 @@ impl PeerShard {
             return Err(NoRoom(call));
         }
         let row = row_at(&self.law, d);
-        let Ok((offer, kept)) = self.peers.offer_twice(row, k, &call) else {
+        let Ok((offer, kept)) = self.peers.offer_twice(row, k, call.get()) else {
             return Err(NoRoom(call));
         };
         self.turns.push_reserved(Turn {

@@ -11,7 +11,7 @@ ghost use Rattle.store_shared.specs.StoreBases.{seat_of};
 
 use crate::offer_job::OfferJob;
 use crate::peer_shard::PeerShard;
-use device_types::{DeviceId, Effect, NoRoom, Offer};
+use device_types::{DeviceId, Effect, NoRoom, Offer, Shared};
 use front_lock::{Fronts, FrontsSeat};
 use session_store::{Charter, EchoLaw, RowLaw, SHARDS};
 use shard_parts::place_of;
@@ -96,7 +96,7 @@ impl SharedPeers {
         seat: &mut PeerSeat,
         d: DeviceId,
         k: u64,
-        call: Effect,
+        call: Shared<Effect>,
     ) -> Result<Offer, AllocError>
         requires seat { AreSeatsOf peer_basis self.now.fronts.fronts.items seat.old.seats.items }
         requires offered { IsOffered (arc_value self.now.law.charter) (shard_of d.0) d.0 k call }

@@ -15,7 +15,7 @@ ghost use Rattle.store_shared.specs.StoreBases.{basis_at, seat_of, shard_bases, 
 
 use crate::store_jobs::{CommitJob, PeekJob, PushJob, ReadJob, SettleJob};
 use crate::store_shard::StoreShard;
-use device_types::{DeviceId, Effect, Entry, Lane, NoRoom};
+use device_types::{DeviceId, Effect, Entry, Lane, NoRoom, Shared};
 use effect_outbox::Settled;
 use front_lock::{Fronts, FrontsSeat, Job};
 use session_row::Commit;
@@ -224,7 +224,7 @@ impl<L: RowLaw> SharedStore<L> {
         d: DeviceId,
         lane: Lane,
         k: u64,
-    ) -> Result<Option<Effect>, AllocError>
+    ) -> Result<Option<Shared<Effect>>, AllocError>
         requires seat { AreSeatsOf store_basis self.now.fronts.fronts.items seat.old.seats.items }
         requires device { IsDevice self.now.devices d.0 }
         ensures seat { AreSeatsOf store_basis self.now.fronts.fronts.items seat.new.seats.items }

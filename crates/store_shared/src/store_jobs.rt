@@ -11,7 +11,7 @@ ghost use Rattle.store_shared.specs.StoreShards.{IsOfShard, IsMade};
 ghost use Rattle.store_shared.specs.Stays.{commit_stays, pushed_stays};
 
 use crate::store_shard::StoreShard;
-use device_types::{DeviceId, Effect, Entry, Lane, NoRoom};
+use device_types::{DeviceId, Effect, Entry, Lane, NoRoom, Shared};
 use effect_outbox::Settled;
 use front_lock::Job;
 use session_row::Commit;
@@ -100,13 +100,17 @@ pub(crate) struct PushJob {
 }
 
 impl<L: RowLaw> Job<StoreShard<L>> for PushJob {
-    type Answer = Option<Effect>;
+    type Answer = Option<Shared<Effect>>;
 
     ghost can = { λ j b h. IsOfShard b.shard b.devices j.d.0 };
 
     ghost done = { λ j b h x a. IsMade L.follows b h x j.d (calls.Push j.lane j.k) (answers.Push a) × (a ≡ unsettled_effect (row_in j.d.0 h) j.lane j.k) };
 
-    fn run(self, value: &mut StoreShard<L>, seat: u32) -> Result<Option<Effect>, NoRoom<PushJob>> {
+    fn run(
+        self,
+        value: &mut StoreShard<L>,
+        seat: u32,
+    ) -> Result<Option<Shared<Effect>>, NoRoom<PushJob>> {
         match value.push(seat, self.d, self.lane, self.k) {
             Ok(answer) => Ok(answer),
             Err(_) => Err(NoRoom(self)),

@@ -13,7 +13,7 @@ ghost use Rattle.store_shared.specs.StoreShards.{IsStoreShard, turn_by};
 
 use crate::basis::ShardBasis;
 use crate::turn::{Turn, TurnAnswer, TurnCall};
-use device_types::{DeviceId, Effect, Entry, Lane, NoRoom};
+use device_types::{DeviceId, Effect, Entry, Lane, NoRoom, Shared};
 use effect_outbox::Settled;
 use front_lock::Held;
 use session_row::Commit;
@@ -187,7 +187,7 @@ impl<L: RowLaw> StoreShard<L> {
         d: DeviceId,
         lane: Lane,
         k: u64,
-    ) -> Result<Option<Effect>, AllocError>
+    ) -> Result<Option<Shared<Effect>>, AllocError>
         requires here { IsHere self.old.shard d.0 }
         ensures shard { self.new.shard ≡ self.old.shard }
         ensures turn { IfOk result (λ effect. self.new.turns.items ≡ self.old.turns.items ++ turn_by seat d (calls.Push lane k) (answers.Push effect) ∷ []) }
@@ -197,7 +197,7 @@ impl<L: RowLaw> StoreShard<L> {
         ensures err { OnErr result (self.new.turns.items ≡ self.old.turns.items) }
     {
         self.turns.reserve(1)?;
-        let (effect, kept) = push_twice(&self.shard, d, lane, k)?;
+        let (effect, kept) = push_twice(*self.turns.allocator(), &self.shard, d, lane, k)?;
         self.turns.push_reserved(Turn {
             seat,
             device: d,
